@@ -10,6 +10,13 @@ use Rattle.fx_io.specs.Rows.{row_at}
 use Rattle.vl_check.specs.inner.Walks.{size, Done, Walk}
 use Rattle.vl_check.proofs.Stages.{still-done, was-done, other-stage, own-stage}
 
+-- an element behind a list leaves those before it, and stands last
+still-there : (xs : List ℕ) (x i : ℕ) → i < length xs → slice_index (xs ++ x ∷ []) i ≡ slice_index xs i
+still-there xs x i old = get_or_append_left xs (x ∷ []) 0 i old
+
+put-last : (xs : List ℕ) (x i : ℕ) → i < length (xs ++ x ∷ []) → length xs ≤ i → slice_index (xs ++ x ∷ []) i ≡ x
+put-last xs x i below new = let l = length-append xs (x ∷ []) in get_or_at xs x [] 0 i (omega (arith, l))
+
 -- one that was not met is opened: the first of all, or the next read of the last open one
 pub opened : (reads : List (List ℕ)) (stage stack order : List ℕ) (x : ℕ) → Walk reads stage stack order → x < length reads → slice_index stage x ≡ 0
     → ((i : ℕ) → i + 1 ≡ length stack → (slice_index stage (slice_index stack i) ≤ size reads (slice_index stack i)) × (slice_index (row_at reads (slice_index stack i)) (slice_index stage (slice_index stack i) - 1) ≡ x))
@@ -35,12 +42,6 @@ opened reads stage stack order x w within white top = record {
     unplaced : slice_index stage x ≢ size reads x + 2
     unplaced e = omega (arith, e, white)
 
-    left : (i : ℕ) → i < length stack → slice_index (stack ++ x ∷ []) i ≡ slice_index stack i
-    left i old = get_or_append_left stack (x ∷ []) 0 i old
-
-    last : (i : ℕ) → i < length (stack ++ x ∷ []) → length stack ≤ i → slice_index (stack ++ x ∷ []) i ≡ x
-    last i below new = let l = length-append stack (x ∷ []) in get_or_at stack x [] 0 i (omega (arith, l))
-
     not-x : (i : ℕ) → i < length stack → slice_index stack i ≢ x
     not-x i old e = let o = w.open' i old in let p = subst (λ u. 1 ≤ slice_index stage u) e o.1 in omega (arith, p, white)
 
@@ -48,39 +49,39 @@ opened reads stage stack order x w within white top = record {
     same i old = other-stage stage x 1 (slice_index stack i) (not-x i old)
 
     old-open : (i : ℕ) → i < length stack → (slice_index (stack ++ x ∷ []) i < length reads) × (1 ≤ slice_index (set stage x 1) (slice_index (stack ++ x ∷ []) i)) × (slice_index (set stage x 1) (slice_index (stack ++ x ∷ []) i) ≤ size reads (slice_index (stack ++ x ∷ []) i) + 1)
-    old-open i old = rw (left i old, same i old) (w.open' i old)
+    old-open i old = rw (still-there stack x i old, same i old) (w.open' i old)
 
     new-open : (i : ℕ) → i < length (stack ++ x ∷ []) → length stack ≤ i → (slice_index (stack ++ x ∷ []) i < length reads) × (1 ≤ slice_index (set stage x 1) (slice_index (stack ++ x ∷ []) i)) × (slice_index (set stage x 1) (slice_index (stack ++ x ∷ []) i) ≤ size reads (slice_index (stack ++ x ∷ []) i) + 1)
-    new-open i below new = rw (last i below new, own-stage stage x 1 (omega (arith, w.long, within))) (within, omega arith, omega arith)
+    new-open i below new = rw (put-last stack x i below new, own-stage stage x 1 (omega (arith, w.long, within))) (within, omega arith, omega arith)
 
     old-passed : (i k : ℕ) → i < length stack → k + 1 < slice_index (set stage x 1) (slice_index (stack ++ x ∷ []) i) → Done reads (set stage x 1) (slice_index (row_at reads (slice_index (stack ++ x ∷ []) i)) k)
     old-passed i k old under =
-        let u = subst (λ n. k + 1 < n) (ap (slice_index (set stage x 1)) (left i old) ∙ same i old) under in
-        rw (left i old) (still-done reads stage x 1 (slice_index (row_at reads (slice_index stack i)) k) unplaced (w.passed i k old u))
+        let u = subst (λ n. k + 1 < n) (ap (slice_index (set stage x 1)) (still-there stack x i old) ∙ same i old) under in
+        rw (still-there stack x i old) (still-done reads stage x 1 (slice_index (row_at reads (slice_index stack i)) k) unplaced (w.passed i k old u))
 
     new-passed : (i k : ℕ) → i < length (stack ++ x ∷ []) → length stack ≤ i → k + 1 < slice_index (set stage x 1) (slice_index (stack ++ x ∷ []) i) → Done reads (set stage x 1) (slice_index (row_at reads (slice_index (stack ++ x ∷ []) i)) k)
     new-passed i k below new under =
-        let u = subst (λ n. k + 1 < n) (ap (slice_index (set stage x 1)) (last i below new) ∙ own-stage stage x 1 (omega (arith, w.long, within))) under in
+        let u = subst (λ n. k + 1 < n) (ap (slice_index (set stage x 1)) (put-last stack x i below new) ∙ own-stage stage x 1 (omega (arith, w.long, within))) under in
         absurd (omega (arith, u))
 
     old-linked : (i : ℕ) → i + 1 < length stack → (slice_index (set stage x 1) (slice_index (stack ++ x ∷ []) i) ≤ size reads (slice_index (stack ++ x ∷ []) i))
         × (slice_index (row_at reads (slice_index (stack ++ x ∷ []) i)) (slice_index (set stage x 1) (slice_index (stack ++ x ∷ []) i) - 1) ≡ slice_index (stack ++ x ∷ []) (i + 1))
-    old-linked i old = rw (left i (omega arith), same i (omega arith), left (i + 1) old) (w.linked i old)
+    old-linked i old = rw (still-there stack x i (omega arith), same i (omega arith), still-there stack x (i + 1) old) (w.linked i old)
 
     new-linked : (i : ℕ) → i + 1 < length (stack ++ x ∷ []) → length stack ≤ i + 1 → (slice_index (set stage x 1) (slice_index (stack ++ x ∷ []) i) ≤ size reads (slice_index (stack ++ x ∷ []) i))
         × (slice_index (row_at reads (slice_index (stack ++ x ∷ []) i)) (slice_index (set stage x 1) (slice_index (stack ++ x ∷ []) i) - 1) ≡ slice_index (stack ++ x ∷ []) (i + 1))
     new-linked i below new =
         let l = length-append stack (x ∷ []) in
         let e : i + 1 ≡ length stack = omega (arith, l) in
-        rw (left i (omega arith), same i (omega arith), last (i + 1) below new) (top i e)
+        rw (still-there stack x i (omega arith), same i (omega arith), put-last stack x (i + 1) below new) (top i e)
 
     old-apart : (i j : ℕ) → i < j → j < length stack → slice_index (stack ++ x ∷ []) i ≢ slice_index (stack ++ x ∷ []) j
-    old-apart i j less old = rw (left i (omega arith), left j old) (w.apart i j less old)
+    old-apart i j less old = rw (still-there stack x i (omega arith), still-there stack x j old) (w.apart i j less old)
 
     new-apart : (i j : ℕ) → i < j → j < length (stack ++ x ∷ []) → length stack ≤ j → slice_index (stack ++ x ∷ []) i ≢ slice_index (stack ++ x ∷ []) j
     new-apart i j less below new =
         let l = length-append stack (x ∷ []) in
-        rw (left i (omega (arith, l)), last j below new) (not-x i (omega (arith, l)))
+        rw (still-there stack x i (omega (arith, l)), put-last stack x j below new) (not-x i (omega (arith, l)))
 
 -- the last open one passes a read that is placed
 pub advanced : (reads : List (List ℕ)) (stage stack order : List ℕ) (top v : ℕ) → Walk reads stage stack order → top + 1 ≡ length stack → slice_index stack top ≡ v
@@ -152,10 +153,10 @@ closed reads stage rest order v w full = record {
       (λ (o : u ≡ v → ⊥). Contains-append_left order (v ∷ []) u (w.finished u (was-done reads stage v (size reads v + 2) u o d)))
       (cases_eq u v);
   placed = λ p below. ⊎_elim
-      (λ old. rw (left p old) (still-done reads stage v (size reads v + 2) (slice_index order p) unplaced (w.placed p old)))
-      (λ new. rw (last p below new) (record { within = low; last = own }))
+      (λ old. rw (still-there order v p old) (still-done reads stage v (size reads v + 2) (slice_index order p) unplaced (w.placed p old)))
+      (λ new. rw (put-last order v p below new) (record { within = low; last = own }))
       (cases_lt p (length order));
-  once = λ p q less below. ⊎_elim (λ old e. w.once p q less old (sym (left p (omega arith)) ∙ e ∙ left q old)) (λ new. new-once p q less below new) (cases_lt q (length order));
+  once = λ p q less below. ⊎_elim (λ old e. w.once p q less old (sym (still-there order v p (omega arith)) ∙ e ∙ still-there order v q old)) (λ new. new-once p q less below new) (cases_lt q (length order));
   earlier = λ p k below under. ⊎_elim (λ old. old-earlier p k old under) (λ new. new-earlier p k below new under) (cases_lt p (length order));
   open' = λ i below. rw (same i below) (subst (λ u. (u < length reads) × (1 ≤ slice_index stage u) × (slice_index stage u ≤ size reads u + 1)) (front i below) (w.open' i (longer i below)));
   passed = λ i k below under. still-done reads stage v (size reads v + 2) (slice_index (row_at reads (slice_index rest i)) k) unplaced
@@ -186,12 +187,6 @@ closed reads stage rest order v w full = record {
     unplaced : slice_index stage v ≢ size reads v + 2
     unplaced e = omega (arith, e, full)
 
-    left : (p : ℕ) → p < length order → slice_index (order ++ v ∷ []) p ≡ slice_index order p
-    left p old = get_or_append_left order (v ∷ []) 0 p old
-
-    last : (p : ℕ) → p < length (order ++ v ∷ []) → length order ≤ p → slice_index (order ++ v ∷ []) p ≡ v
-    last p below new = let l = length-append order (v ∷ []) in get_or_at order v [] 0 p (omega (arith, l))
-
     not-v : (i : ℕ) → i < length rest → slice_index rest i ≢ v
     not-v i below e = w.apart i (length rest) below (let l = size-rest in omega (arith, l)) (front i below ∙ e ∙ sym back)
 
@@ -200,18 +195,18 @@ closed reads stage rest order v w full = record {
 
     old-earlier : (p k : ℕ) → p < length order → k < size reads (slice_index (order ++ v ∷ []) p) → (q : ℕ) × (q < p) × (slice_index (order ++ v ∷ []) q ≡ slice_index (row_at reads (slice_index (order ++ v ∷ []) p)) k)
     old-earlier p k old under =
-        let e = w.earlier p k old (subst (λ u. k < size reads u) (left p old) under) in
+        let e = w.earlier p k old (subst (λ u. k < size reads u) (still-there order v p old) under) in
         let b : e.0 < length order = let s = e.1 in omega (arith, s) in
-        (e.0, e.1, left e.0 b ∙ e.2 ∙ ap (λ u. slice_index (row_at reads u) k) (sym (left p old)))
+        (e.0, e.1, still-there order v e.0 b ∙ e.2 ∙ ap (λ u. slice_index (row_at reads u) k) (sym (still-there order v p old)))
 
     new-earlier : (p k : ℕ) → p < length (order ++ v ∷ []) → length order ≤ p → k < size reads (slice_index (order ++ v ∷ []) p) → (q : ℕ) × (q < p) × (slice_index (order ++ v ∷ []) q ≡ slice_index (row_at reads (slice_index (order ++ v ∷ []) p)) k)
     new-earlier p k below new under =
-        let u : k < size reads v = subst (λ u. k < size reads u) (last p below new) under in
+        let u : k < size reads v = subst (λ u. k < size reads u) (put-last order v p below new) under in
         let d0 = w.passed (length rest) k (let l = size-rest in omega (arith, l)) (subst (λ t. k + 1 < slice_index stage t) (sym back) (omega (arith, u, full))) in
         let d : Done reads stage (slice_index (row_at reads v) k) = subst (λ t. Done reads stage (slice_index (row_at reads t) k)) back d0 in
         let at = w.finished (slice_index (row_at reads v) k) d in
         let zero-read : slice_index order at.0 ≡ slice_index (row_at reads v) k = get_or_default order at.0 0 (slice_index (row_at reads v) k) at.1 ∙ at.2 in
-        (at.0, (let s = at.1 in omega (arith, s)), left at.0 at.1 ∙ zero-read ∙ ap (λ t. slice_index (row_at reads t) k) (sym (last p below new)))
+        (at.0, (let s = at.1 in omega (arith, s)), still-there order v at.0 at.1 ∙ zero-read ∙ ap (λ t. slice_index (row_at reads t) k) (sym (put-last order v p below new)))
 
     old-linked : (i : ℕ) → i + 1 < length rest → (slice_index (set stage v (size reads v + 2)) (slice_index rest i) ≤ size reads (slice_index rest i))
         × (slice_index (row_at reads (slice_index rest i)) (slice_index (set stage v (size reads v + 2)) (slice_index rest i) - 1) ≡ slice_index rest (i + 1))
@@ -227,7 +222,7 @@ closed reads stage rest order v w full = record {
     new-once p q less below new e =
         let l = length-append order (v ∷ []) in
         let old : p < length order = omega (arith, l) in
-        let same-v : slice_index order p ≡ v = sym (left p old) ∙ e ∙ last q below new in
+        let same-v : slice_index order p ≡ v = sym (still-there order v p old) ∙ e ∙ put-last order v q below new in
         unplaced (sym (ap (slice_index stage) same-v) ∙ (w.placed p old).last ∙ ap (λ u. size reads u + 2) same-v)
 
 -- nothing is open at the start, and all are white
