@@ -14,7 +14,8 @@ use Rattle.vl_check.specs.declared.scope.Scope.{Scope}
 use Rattle.vl_check.specs.declared.shapes.Shape.{Shape}
 use Rattle.vl_check.specs.Scope.{nets_in}
 use Rattle.vl_eval.specs.declared.ops.Op.{Op}
-use Rattle.vl_eval.specs.declared.ops.Op.TheVariants.{Constant, Select, Next}
+use Rattle.vl_eval.specs.declared.ops.Op.TheVariants.{Constant, One, Next}
+use Rattle.vl_eval.specs.declared.ops.OneOp.TheVariants.{Select}
 use Rattle.vl_eval.specs.inner.Ops.{IsSettled, op_value}
 use Rattle.vl_eval.specs.inner.Shown.{NamesFit, Pushed, row_of}
 use Rattle.vl_eval.specs.inner.Site.{ArePlaced, Built, slot_in}
@@ -61,15 +62,15 @@ module _ (by_layer : ByLayer) (base : ℕ) (scope : Scope) (slots : List ℕ) wh
   }
 
   pub assigns-cut : (e : Expr) (before mid after : List Op) (a slot width mask : ℕ) (shape : Shape) → shape.length ≡ own_length nets e → shape.signed ≡ is_signed nets e → mask ≡ 2 ^ width - 1
-      → Built base scope slots before mid a (max shape.length width) shape.signed e → Pushed base mid after slot (Select a 0 mask) → Assigns base scope slots before after slot width e
+      → Built base scope slots before mid a (max shape.length width) shape.signed e → Pushed base mid after slot (One (Select 0 mask) a) → Assigns base scope slots before after slot width e
   assigns-cut e before mid after a slot width mask shape l g full b p =
-      let p' : Pushed base mid after slot (Select a 0 (2 ^ width - 1)) = subst (λ m. Pushed base mid after slot (Select a 0 m)) full p in
-      let last = grows-push base mid after slot (Select a 0 (2 ^ width - 1)) (b.shows.below, omega arith) p' in
+      let p' : Pushed base mid after slot (One (Select 0 (2 ^ width - 1)) a) = subst (λ m. Pushed base mid after slot (One (Select 0 m) a)) full p in
+      let last = grows-push base mid after slot (One (Select 0 (2 ^ width - 1)) a) (b.shows.below, omega arith) p' in
       record {
         grows = grows-more base before mid after b.grows last;
-        below = pushed-below mid after slot (Select a 0 (2 ^ width - 1)) p';
+        below = pushed-below mid after slot (One (Select 0 (2 ^ width - 1)) a) p';
         is = λ values s fit.
-            pushed-value mid after slot (Select a 0 (2 ^ width - 1)) p' values s
+            pushed-value mid after slot (One (Select 0 (2 ^ width - 1)) a) p' values s
             ∙ select-gives (values a) 0 width ∙ ap (λ n. n % 2 ^ width) (div-one (values a))
             ∙ ap (λ n. n % 2 ^ width) (b.shows.is values (settled-later by_layer base scope slots mid after last values s) fit ∙ in-context e width shape l g values);
       }

@@ -3,9 +3,9 @@ use Rattle.std.proofs.Common.{◌≡◌, ◌<◌, ◌≤◌, ◌+◌, ◌-◌, �
 use Rattle.std.proofs.lemmas.Bool.{false≢true}
 use Rattle.std.proofs.Math.Nat.{max_comm}
 use Rattle.vl_ast.specs.declared.expressions.UnOp.{UnOp}
-use Rattle.vl_ast.specs.declared.expressions.UnOp.TheVariants.{Negate as NegateOf, Invert as InvertOf, IsZero as IsZeroOf}
+use Rattle.vl_ast.specs.declared.expressions.UnOp.TheVariants.{Negate as NegateOf}
 use Rattle.vl_ast.specs.declared.expressions.BinOp.{BinOp}
-use Rattle.vl_ast.specs.declared.expressions.BinOp.TheVariants.{Add as AddOf, Subtract as SubtractOf, Multiply as MultiplyOf, And as AndOf, Or as OrOf, Xor as XorOf, Equal as EqualOf, NotEqual as NotEqualOf, Less as LessOf, LessEqual as LessEqualOf, Greater as GreaterOf, GreaterEqual as GreaterEqualOf, Both as BothOf, Either as EitherOf}
+use Rattle.vl_ast.specs.declared.expressions.BinOp.TheVariants.{Greater as GreaterOf, GreaterEqual as GreaterEqualOf}
 use Rattle.vl_ast.specs.declared.expressions.ShiftOp.{ShiftOp}
 use Rattle.vl_ast.specs.declared.expressions.Sized.{Sized}
 use Rattle.vl_ast.specs.declared.expressions.Expr.{Expr}
@@ -21,7 +21,8 @@ use Rattle.vl_check.specs.declared.shapes.Shape.{Shape}
 use Rattle.vl_check.specs.Scope.{nets_in}
 use Rattle.vl_check.specs.Shape.{shape_of}
 use Rattle.vl_eval.specs.declared.ops.Op.{Op}
-use Rattle.vl_eval.specs.declared.ops.Op.TheVariants.{Constant, Extended, Select, Choose as ChooseOp}
+use Rattle.vl_eval.specs.declared.ops.Op.TheVariants.{Constant, One, Choose as ChooseOp}
+use Rattle.vl_eval.specs.declared.ops.OneOp.TheVariants.{Extended, Select}
 use Rattle.vl_eval.specs.inner.Ops.{reads_below}
 use Rattle.vl_eval.specs.inner.Built.{unary_op, binary_op, shift_op}
 use Rattle.vl_eval.specs.inner.Contexts.{context_at, context_of, unary_context, left_context, right_context, half_in}
@@ -33,30 +34,17 @@ use Rattle.vl_eval.proofs.Operands.{sound-unary, length-unary, sound-binary, len
 use Rattle.vl_eval.proofs.Grown.{grows-more, grows-none, shows-later, ends, value, stays, alone-of}
 
 unary-reads : (of : UnOp) (a mask end : ℕ) → a < end → reads_below (unary_op of a mask) end
-unary-reads NegateOf a mask end below = below
-unary-reads InvertOf a mask end below = below
-unary-reads IsZeroOf a mask end below = below
+unary-reads NegateOf a mask end below = (below, tt)
+unary-reads _ a mask end below = (below, tt)
 
 binary-reads : (of : BinOp) (a b mask half end : ℕ) → a < end → b < end → reads_below (binary_op of a b mask half) end
-binary-reads AddOf a b mask half end l r = (l, r)
-binary-reads SubtractOf a b mask half end l r = (l, r)
-binary-reads MultiplyOf a b mask half end l r = (l, r)
-binary-reads AndOf a b mask half end l r = (l, r)
-binary-reads OrOf a b mask half end l r = (l, r)
-binary-reads XorOf a b mask half end l r = (l, r)
-binary-reads EqualOf a b mask half end l r = (l, r)
-binary-reads NotEqualOf a b mask half end l r = (l, r)
-binary-reads LessOf a b mask half end l r = (l, r)
-binary-reads LessEqualOf a b mask half end l r = (l, r)
-binary-reads BothOf a b mask half end l r = (l, r)
-binary-reads EitherOf a b mask half end l r = (l, r)
 binary-reads GreaterOf a b mask half end l r = (r, l)
 binary-reads GreaterEqualOf a b mask half end l r = (r, l)
+binary-reads _ a b mask half end l r = (l, r)
 
 never-together : (of : UnOp) → unary_place of ≡ Together → ⊥
 never-together NegateOf e = absurd (cc e)
-never-together InvertOf e = absurd (cc e)
-never-together IsZeroOf e = absurd (cc e)
+never-together _ e = absurd (cc e)
 
 module _ (by_layer : ByLayer) (base : ℕ) (scope : Scope) (slots : List ℕ) where
   abbrev nets : List ℕ → Net
@@ -170,23 +158,23 @@ module _ (by_layer : ByLayer) (base : ℕ) (scope : Scope) (slots : List ℕ) wh
       (stays by_layer base scope slots before before slot width signed (Name name) (roll-Expr (Expr-F.Name name)) (grows-none base before) (rolls-Name name)
       (subst (λ k. Now before k width signed (roll-Expr (Expr-F.Name name))) (sym (place ∙ is)) (shows-name by_layer base nets at before width signed name below (λ _. sym net ∙ same))))
   built-signed-name name before after part slot width from signed is net below le most sign (inr p) =
-      let op = Extended (at name) (2 ^ ((nets name).width - 1)) (2 ^ width - 2 ^ (nets name).width) in
-      let p' : Pushed base before after slot op = subst (λ o. Pushed base before after slot o) (λ i. Extended (is i) (2 ^ (net i - 1)) (2 ^ width - 2 ^ net i)) p in
+      let op = One (Extended (2 ^ ((nets name).width - 1)) (2 ^ width - 2 ^ (nets name).width)) (at name) in
+      let p' : Pushed base before after slot op = subst (λ o. Pushed base before after slot o) (λ i. One (Extended (2 ^ (net i - 1)) (2 ^ width - 2 ^ net i)) (is i)) p in
       subst (λ s. Here before after slot width s (Name name)) (sym sign)
-      (ends by_layer base scope slots before before after slot width true (Name name) (roll-Expr (Expr-F.Name name)) op (grows-none base before) below p' (rolls-Name name)
+      (ends by_layer base scope slots before before after slot width true (Name name) (roll-Expr (Expr-F.Name name)) op (grows-none base before) (below, tt) p' (rolls-Name name)
       (shows-signed-name by_layer base nets at before width name (subst (λ n. n ≤ width) net le) most))
 
   pub built-bit : (name : List ℕ) (place : ℕ) (before after : List Op) (part slot width : ℕ) (signed : Bool) → part ≡ at name → at name < base + length before → place < 128
-      → Pushed base before after slot (Select part place 1) → Here before after slot width signed (Bit name place)
+      → Pushed base before after slot (One (Select place 1) part) → Here before after slot width signed (Bit name place)
   built-bit name place before after part slot width signed is below low p =
-      ends by_layer base scope slots before before after slot width signed (Bit name place) (roll-Expr (Expr-F.Bit name place)) (Select (at name) place 1) (grows-none base before) (below, low)
-      (subst (λ k. Pushed base before after slot (Select k place 1)) is p) (rolls-Bit name place) (shows-bit by_layer base nets at before width signed name place)
+      ends by_layer base scope slots before before after slot width signed (Bit name place) (roll-Expr (Expr-F.Bit name place)) (One (Select place 1) (at name)) (grows-none base before) (below, low)
+      (subst (λ k. Pushed base before after slot (One (Select place 1) k)) is p) (rolls-Bit name place) (shows-bit by_layer base nets at before width signed name place)
 
   pub built-part : (name : List ℕ) (high low : ℕ) (before after : List Op) (part slot width mask : ℕ) (signed : Bool) → part ≡ at name → at name < base + length before → low < 128 → mask ≡ 2 ^ (high + 1 - low) - 1
-      → Pushed base before after slot (Select part low mask) → Here before after slot width signed (Part name high low)
+      → Pushed base before after slot (One (Select low mask) part) → Here before after slot width signed (Part name high low)
   built-part name high low before after part slot width mask signed is below small full p =
-      ends by_layer base scope slots before before after slot width signed (Part name high low) (roll-Expr (Expr-F.Part name high low)) (Select (at name) low (2 ^ (high + 1 - low) - 1)) (grows-none base before) (below, small)
-      (subst (λ k. Pushed base before after slot (Select k low (2 ^ (high + 1 - low) - 1))) is (subst (λ m. Pushed base before after slot (Select part low m)) full p)) (rolls-Part name high low) (shows-part by_layer base nets at before width signed name high low)
+      ends by_layer base scope slots before before after slot width signed (Part name high low) (roll-Expr (Expr-F.Part name high low)) (One (Select low (2 ^ (high + 1 - low) - 1)) (at name)) (grows-none base before) (below, small)
+      (subst (λ k. Pushed base before after slot (One (Select low (2 ^ (high + 1 - low) - 1)) k)) is (subst (λ m. Pushed base before after slot (One (Select low m) part)) full p)) (rolls-Part name high low) (shows-part by_layer base nets at before width signed name high low)
 
   pub built-literal : (number : Sized) (before after : List Op) (bits slot width : ℕ) (signed : Bool) → bits ≡ extended (record { width = number.width; signed = signed; bits = number.bits }) width
       → Pushed base before after slot (Constant bits) → Here before after slot width signed (Literal number)
@@ -218,11 +206,11 @@ module _ (by_layer : ByLayer) (base : ℕ) (scope : Scope) (slots : List ℕ) wh
   built-as-signed part before mid after a slot width signed inner ok le most l g sign b (inr p) =
       let own = own_length nets part in
       let h = alone-of by_layer base scope slots mid a part inner l g b.shows in
-      let op = Extended a (2 ^ (own - 1)) (2 ^ width - 2 ^ own) in
-      let p' : Pushed base mid after slot op = subst (λ n. Pushed base mid after slot (Extended a (2 ^ (n - 1)) (2 ^ width - 2 ^ n))) l p in
+      let op = One (Extended (2 ^ (own - 1)) (2 ^ width - 2 ^ own)) a in
+      let p' : Pushed base mid after slot op = subst (λ n. Pushed base mid after slot (One (Extended (2 ^ (n - 1)) (2 ^ width - 2 ^ n)) a)) l p in
       let le' : own ≤ width = (let k = length-as-signed nets part in omega (arith, k, le)) in
       subst (λ s. Here before after slot width s (AsSigned part)) (sym sign)
-      (ends by_layer base scope slots before mid after slot width true (AsSigned part) (roll-Expr (Expr-F.AsSigned part)) op b.grows h.below p' (rolls-AsSigned part)
+      (ends by_layer base scope slots before mid after slot width true (AsSigned part) (roll-Expr (Expr-F.AsSigned part)) op b.grows (h.below, tt) p' (rolls-AsSigned part)
       (shows-as-signed by_layer base nets at mid a width part le' most (value by_layer base scope slots mid a own (is_signed nets part) part (sound-as-signed nets part ok) (omega arith) h)))
 
   pub built-shift : (of : ShiftOp) (part : Expr) (amount : Sized) (before mid after : List Op) (a slot width : ℕ) (signed : Bool) → is_sound nets (Shift of part amount) ≡ true → own_length nets (Shift of part amount) ≤ width → width ≤ 128

@@ -30,13 +30,12 @@ use Rattle.vl_eval.specs.declared.plan.Capture.{Capture}
 use Rattle.vl_eval.specs.declared.plan.Plan.{Plan}
 use Rattle.vl_eval.specs.inner.Assigning.{next_in, takes_in}
 use Rattle.vl_eval.specs.inner.Edges.{IsFree, IsPut, IsTaken}
-use Rattle.vl_eval.specs.inner.Ops.{IsSettled}
 use Rattle.vl_eval.specs.inner.Planned.{FixedFit, IsFixed, IsPlan, slot_of_port}
 use Rattle.vl_check.specs.Names.{names_of}
 use Rattle.vl_eval.specs.inner.Site.{slot_at, slot_in}
 use Rattle.vl_eval.proofs.Named.{number-is}
 use Rattle.vl_eval.proofs.Given.{filter-has, given-at, given-none}
-use Rattle.vl_eval.proofs.FixedPlaces.{nets-same, settled-all, width-is, fits-known, row-is, origin, Origin, fixed-slot, one-slot, register-known, register-fixed, input-known, input-fixed, no-register, place-at, driven-in, IsInput, IsStored}
+use Rattle.vl_eval.proofs.FixedPlaces.{IsInput, IsListed, IsSettledIn, IsStored, Origin, driven-in, fits-known, fixed-slot, input-fixed, input-known, nets-same, no-register, one-slot, origin, place-at, register-fixed, register-known, row-is, settled-all, width-is}
 
 either-fits : (t u : Bool) (a b c n : ℕ) → a < n → b < n → c < n → (if t then a else (if u then b else c)) < n
 either-fits true u a b c n ka kb kc = ka
@@ -63,15 +62,9 @@ module _ (by_layer : ByLayer) (m : Module) (b : BreaksNone m) (scope : Scope) (s
   abbrev row : List ℕ → List ℕ → ℕ
   row values name = slice_index values (slot_in scope slots name)
 
-  abbrev Settled' : List ℕ → Type 0
-  Settled' values = IsSettled plan.base ops (λ k. slice_index values k)
-
-  abbrev Known : List ℕ → Type 0
-  Known name = (d : Declared) × Contains (declarations m) d × (d.name ≡ name)
-
   -- what no capture or put touches
   module _ (v0 v1 v2 : List ℕ) (bits : List ℕ) (taken : IsTaken plan.captures.items v0 v1) (put : IsPut plan.inputs.items bits v1 v2) where
-    register-taken : Settled' v0 → FixedFit m scope (row v0) → (name : List ℕ) (first : Sized) (condition : Option Expr) (value : Expr) → Contains m.items (Always name first condition value)
+    register-taken : IsSettledIn plan v0 → FixedFit m scope (row v0) → (name : List ℕ) (first : Sized) (condition : Option Expr) (value : Expr) → Contains m.items (Always name first condition value)
         → row v1 name ≡ next_in nets (row v0) name first condition value
     register-taken st f name first condition value h = by (taken.each (slot_in scope slots name)) where
       by : (IsFree plan.captures.items (slot_in scope slots name) × (row v1 name ≡ row v0 name)) ⊎ ((c : Capture) × Contains plan.captures.items c × (c.to ≡ slot_in scope slots name) × (row v1 name ≡ slice_index v0 c.from))
@@ -151,11 +144,11 @@ module _ (by_layer : ByLayer) (m : Module) (b : BreaksNone m) (scope : Scope) (s
           one : {x y : Port} → Some x ≡ Some y → x ≡ y
           one z = cc z
 
-      module _ (v3 : List ℕ) (st0 : Settled' v0) (f0 : FixedFit m scope (row v0))
+      module _ (v3 : List ℕ) (st0 : IsSettledIn plan v0) (f0 : FixedFit m scope (row v0))
           (still : (port : Port) → Contains m.ports port → port.input ≡ true → bytes_eq port.name (codes "clk") ≡ true → row v0 port.name ≡ 0)
-          (kept : take plan.base v3 ≡ take plan.base v2) (st3 : Settled' v3) where
+          (kept : take plan.base v3 ≡ take plan.base v2) (st3 : IsSettledIn plan v3) where
         -- a name that no item assigns keeps its value in the sweep
-        fixed-kept : (name : List ℕ) → Known name → IsFixed m name → row v3 name ≡ row v2 name
+        fixed-kept : (name : List ℕ) → IsListed m name → IsFixed m name → row v3 name ≡ row v2 name
         fixed-kept name known fixed =
             let a = fixed-slot by_layer m b scope s plan p name known fixed in
             let low : slot_in scope slots name < plan.base = (let number = a.2 in let below = a.3 in let base = p.base in omega (arith, number, below, base)) in
@@ -204,8 +197,8 @@ module _ (by_layer : ByLayer) (m : Module) (b : BreaksNone m) (scope : Scope) (s
         }
 
   -- a row of zeros, once it is swept, is a first row
-  module _ (v0 v3 : List ℕ) (zeros : (k : ℕ) → slice_index v0 k ≡ 0) (kept : take plan.base v3 ≡ take plan.base v0) (st3 : Settled' v3) where
-    fixed-zero : (name : List ℕ) → Known name → IsFixed m name → row v3 name ≡ 0
+  module _ (v0 v3 : List ℕ) (zeros : (k : ℕ) → slice_index v0 k ≡ 0) (kept : take plan.base v3 ≡ take plan.base v0) (st3 : IsSettledIn plan v3) where
+    fixed-zero : (name : List ℕ) → IsListed m name → IsFixed m name → row v3 name ≡ 0
     fixed-zero name known fixed =
         let a = fixed-slot by_layer m b scope s plan p name known fixed in
         let low : slot_in scope slots name < plan.base = (let number = a.2 in let below = a.3 in let base = p.base in omega (arith, number, below, base)) in
@@ -247,7 +240,7 @@ module _ (by_layer : ByLayer) (m : Module) (b : BreaksNone m) (scope : Scope) (s
   to-named values fits d listed = subst (λ (r : List ℕ → ℕ). r d.name < 2 ^ d.net.width) (named-row values) (fits d listed)
 
   module _ (v0 v1 v2 bits : List ℕ) (taken : IsTaken plan.captures.items v0 v1) (put : IsPut plan.inputs.items bits v1 v2) (fit : AreFit (driven_ports m) bits)
-      (v3 : List ℕ) (st0 : Settled' v0) (fits0 : FitsNamed v0) (still0 : StillNamed v0) (kept : take plan.base v3 ≡ take plan.base v2) (st3 : Settled' v3) where
+      (v3 : List ℕ) (st0 : IsSettledIn plan v0) (fits0 : FitsNamed v0) (still0 : StillNamed v0) (kept : take plan.base v3 ≡ take plan.base v2) (st3 : IsSettledIn plan v3) where
     still-row : (port : Port) → Contains m.ports port → port.input ≡ true → bytes_eq port.name (codes "clk") ≡ true → row v0 port.name ≡ 0
     still-row port h i clk = (λ k. named-row v0 k port.name) ∙ still0 port h i clk
 
@@ -263,7 +256,7 @@ module _ (by_layer : ByLayer) (m : Module) (b : BreaksNone m) (scope : Scope) (s
     pub edge-still-named : StillNamed v3
     edge-still-named port h i clk = sym (λ k. named-row v3 k port.name) ∙ edge-still v0 v1 v2 bits taken put fit v3 st0 (fit-from v0 fits0) still-row kept st3 port h i clk
 
-  module _ (v0 v3 : List ℕ) (zeros : (k : ℕ) → slice_index v0 k ≡ 0) (kept : take plan.base v3 ≡ take plan.base v0) (st3 : Settled' v3) where
+  module _ (v0 v3 : List ℕ) (zeros : (k : ℕ) → slice_index v0 k ≡ 0) (kept : take plan.base v3 ≡ take plan.base v0) (st3 : IsSettledIn plan v3) where
     pub first-named : IsFirstRow m (λ name. 0) (λ name. 0) (named v3)
     first-named = subst (λ (r : List ℕ → ℕ). IsFirstRow m (λ name. 0) (λ name. 0) r) (named-row v3) (first-is v0 v3 zeros kept st3)
 

@@ -11,7 +11,7 @@ use Rattle.std.proofs.lemmas.List.Elements.{Contains-append_left, Contains-appen
 use Rattle.vl_ast.specs.declared.expressions.UnOp.{UnOp}
 use Rattle.vl_ast.specs.declared.expressions.UnOp.TheVariants.{Negate, Invert, IsZero}
 use Rattle.vl_ast.specs.declared.expressions.BinOp.{BinOp}
-use Rattle.vl_ast.specs.declared.expressions.BinOp.TheVariants.{Add, Subtract, Multiply, And, Or, Xor, Equal, NotEqual, Less, LessEqual, Greater, GreaterEqual, Both, Either}
+use Rattle.vl_ast.specs.declared.expressions.BinOp.TheVariants.{Add, Subtract, Multiply, And, Or, Xor}
 use Rattle.vl_ast.specs.declared.expressions.ShiftOp.{ShiftOp}
 use Rattle.vl_ast.specs.declared.expressions.ShiftOp.TheVariants.{Left, Right, RightSigned}
 use Rattle.vl_ast.specs.declared.expressions.Expr.{Expr}
@@ -117,14 +117,7 @@ module _ (by_layer : ByLayer) (nets : List ℕ → Net) (row : List ℕ → ℕ)
       let q = and_le_l (value_in nets row width signed a.0) (value_in nets row width signed b.0) in omega (arith, p, q)
   binary-fits Or width signed a b ha hb ra rb le = or_lt width _ _ (a.1 (narrow-sound a.0 ha) ra width signed (omega arith)) (b.1 (narrow-sound b.0 hb) rb width signed (omega arith))
   binary-fits Xor width signed a b ha hb ra rb le = xor_lt width _ _ (a.1 (narrow-sound a.0 ha) ra width signed (omega arith)) (b.1 (narrow-sound b.0 hb) rb width signed (omega arith))
-  binary-fits Equal width signed a b ha hb ra rb le = truth-fits _ width le
-  binary-fits NotEqual width signed a b ha hb ra rb le = truth-fits _ width le
-  binary-fits Less width signed a b ha hb ra rb le = truth-fits _ width le
-  binary-fits LessEqual width signed a b ha hb ra rb le = truth-fits _ width le
-  binary-fits Greater width signed a b ha hb ra rb le = truth-fits _ width le
-  binary-fits GreaterEqual width signed a b ha hb ra rb le = truth-fits _ width le
-  binary-fits Both width signed a b ha hb ra rb le = truth-fits _ width le
-  binary-fits Either width signed a b ha hb ra rb le = truth-fits _ width le
+  binary-fits _ width signed a b ha hb ra rb le = truth-fits _ width le
 
   unary-fits : (op : UnOp) (width : ℕ) (b : Bits) (own : ℕ) → length_at (unary_place op) own ≤ width → unary_bits op width b < 2 ^ width
   unary-fits Negate width b own le = mod_below _ (2 ^ width) (pow_pos width)

@@ -38,6 +38,14 @@ kind_of input = if input then InputPort else OutputPort
 pub any-port : Port
 any-port = record { attrs = []; input = false; signed = false; width = 0; name = [] }
 
+-- a name is declared
+abbrev pub IsListed : Module → List ℕ → Type 0
+IsListed m name = (d : Declared) × Contains (declarations m) d × (d.name ≡ name)
+
+-- the operations of a plan have their values
+abbrev pub IsSettledIn : Plan → List ℕ → Type 0
+IsSettledIn plan values = IsSettled plan.base plan.ops (λ k. slice_index values k)
+
 module _ (by_layer : ByLayer) (m : Module) (b : BreaksNone m) (scope : Scope) (s : IsScopeOf m scope) (plan : Plan) (p : IsPlan m scope plan) where
   abbrev nets : List ℕ → Net
   nets = nets_in scope
@@ -60,26 +68,20 @@ module _ (by_layer : ByLayer) (m : Module) (b : BreaksNone m) (scope : Scope) (s
   abbrev row : List ℕ → List ℕ → ℕ
   row values name = slice_index values (slot_in scope slots name)
 
-  abbrev Settled' : List ℕ → Type 0
-  Settled' values = IsSettled plan.base ops (λ k. slice_index values k)
-
-  abbrev Known : List ℕ → Type 0
-  Known name = (d : Declared) × Contains (declarations m) d × (d.name ≡ name)
-
-  pub settled-all : (values : List ℕ) → Settled' values → IsSettled count ops (λ k. slice_index values k)
+  pub settled-all : (values : List ℕ) → IsSettledIn plan values → IsSettled count ops (λ k. slice_index values k)
   settled-all values st = subst (λ n. IsSettled n ops (λ k. slice_index values k)) p.base st
 
-  settled-wires : (values : List ℕ) → Settled' values → IsSettled count p.wires (λ k. slice_index values k)
+  settled-wires : (values : List ℕ) → IsSettledIn plan values → IsSettled count p.wires (λ k. slice_index values k)
   settled-wires values st = settled-later by_layer count scope slots p.wires ops p.captured.grows (λ k. slice_index values k) (settled-all values st)
 
   pub width-is : (d : Declared) → Contains (declarations m) d → (nets d.name).width ≡ d.net.width
   width-is d listed = ap (λ (f : List ℕ → Net). (f d.name).width) nets-same ∙ ap (λ (n : Net). n.width) (net-is by_layer m b.acyclic.driven b.acyclic.once b.acyclic.acyclic d (listed-mention m b.acyclic.driven b.acyclic.once d listed))
 
-  pub fits-known : (values : List ℕ) → Settled' values → FixedFit m scope (row values) → (name : List ℕ) → Known name → row values name < 2 ^ (nets name).width
+  pub fits-known : (values : List ℕ) → IsSettledIn plan values → FixedFit m scope (row values) → (name : List ℕ) → IsListed m name → row values name < 2 ^ (nets name).width
   fits-known values st f name known = known-fits by_layer m scope s b.acyclic.driven b.acyclic.once few slots p.wires p.wired name known (λ k. slice_index values k) (settled-wires values st) f
 
   -- values that are settled are a row
-  pub row-is : (values : List ℕ) (inputs : List ℕ → ℕ) → Settled' values → FixedFit m scope (row values)
+  pub row-is : (values : List ℕ) (inputs : List ℕ → ℕ) → IsSettledIn plan values → FixedFit m scope (row values)
       → ((port : Port) → Contains m.ports port → port.input ≡ true → row values port.name ≡ inputs port.name) → IsRow m inputs (row values)
   row-is values inputs st f shown = record {
     fits = λ d listed. subst (λ n. row values d.name < 2 ^ n) (width-is d listed) (fits-known values st f d.name (d, listed, refl));
@@ -113,7 +115,7 @@ module _ (by_layer : ByLayer) (m : Module) (b : BreaksNone m) (scope : Scope) (s
     by (OfReg signed width h kind) = let a = stored by_layer m b.acyclic.driven b.acyclic.once b.acyclic.acyclic b.clocked signed width d.name h in IsStored a.first a.condition a.value a.item
 
   -- such a name has its number as its place
-  pub fixed-slot : (name : List ℕ) → Known name → IsFixed m name → (k : ℕ) × (number_in scope name ≡ Some k) × (slot_in scope slots name ≡ k) × (k < count)
+  pub fixed-slot : (name : List ℕ) → IsListed m name → IsFixed m name → (k : ℕ) × (number_in scope name ≡ Some k) × (slot_in scope slots name ≡ k) × (k < count)
   fixed-slot name known fixed =
       let k = number-of by_layer m scope s b.acyclic.driven b.acyclic.once few slots p.wires p.wired name known in
       (k.0, k.1, ap (slot_at slots) k.1 ∙ p.wired.fixed name k.0 k.1 fixed, slice_get_within (names_in scope) k.0 name (at-number scope.names.items k.0 name k.1))
@@ -124,13 +126,13 @@ module _ (by_layer : ByLayer) (m : Module) (b : BreaksNone m) (scope : Scope) (s
     same x = cc x
 
   -- so two such names at one place are one
-  pub one-slot : (one other : List ℕ) → Known one → Known other → IsFixed m one → IsFixed m other → slot_in scope slots one ≡ slot_in scope slots other → one ≡ other
+  pub one-slot : (one other : List ℕ) → IsListed m one → IsListed m other → IsFixed m one → IsFixed m other → slot_in scope slots one ≡ slot_in scope slots other → one ≡ other
   one-slot one other ko kt fo ft e =
       let a = fixed-slot one ko fo in
       let c = fixed-slot other kt ft in
       same-name one other c.0 (a.1 ∙ ap Some (sym a.2 ∙ e ∙ c.2)) c.1
 
-  pub register-known : (name : List ℕ) (first : Sized) (condition : Option Expr) (value : Expr) → Contains m.items (Always name first condition value) → Known name
+  pub register-known : (name : List ℕ) (first : Sized) (condition : Option Expr) (value : Expr) → Contains m.items (Always name first condition value) → IsListed m name
   register-known name first condition value h =
       let d = driven-declared m b.acyclic.driven b.acyclic.once true name (always-drives m b.acyclic.driven b.acyclic.once name first condition value h) in
       (d.0, mention-listed m b.acyclic.driven b.acyclic.once d.0 d.1, d.2)
@@ -138,7 +140,7 @@ module _ (by_layer : ByLayer) (m : Module) (b : BreaksNone m) (scope : Scope) (s
   pub register-fixed : (name : List ℕ) (first : Sized) (condition : Option Expr) (value : Expr) → Contains m.items (Always name first condition value) → IsFixed m name
   register-fixed name first condition value h other h' = not-both m b.acyclic.driven b.acyclic.once name other first condition value h' h
 
-  pub input-known : (port : Port) → Contains m.ports port → Known port.name
+  pub input-known : (port : Port) → Contains m.ports port → IsListed m port.name
   input-known port h = (port_declared port, mention-listed m b.acyclic.driven b.acyclic.once (port_declared port) (in-port m b.acyclic.driven b.acyclic.once port h), refl)
 
   pub input-fixed : (port : Port) → Contains m.ports port → port.input ≡ true → IsFixed m port.name

@@ -17,7 +17,8 @@ use Rattle.vl_ast.specs.Nets.{names_read, names_step}
 use Rattle.vl_ast.specs.Value.{Bits, bits_step, extended, unary_bits, binary_bits, shift_bits, value_in, beside, bits_in, operand_of}
 use Rattle.vl_ast.proofs.Agree.{ByLayer, values-agree}
 use Rattle.vl_eval.specs.declared.ops.Op.{Op}
-use Rattle.vl_eval.specs.declared.ops.Op.TheVariants.{Constant, Extended, Select, Choose, Beside}
+use Rattle.vl_eval.specs.declared.ops.Op.TheVariants.{Constant, One, Choose, Beside}
+use Rattle.vl_eval.specs.declared.ops.OneOp.TheVariants.{Extended, Select}
 use Rattle.vl_eval.specs.inner.Ops.{op_value, IsSettled}
 use Rattle.vl_eval.specs.inner.Built.{unary_op, binary_op}
 use Rattle.std.proofs.lemmas.Nat.Bits.{shr_and_one}
@@ -205,19 +206,19 @@ module _ (by_layer : ByLayer) (base : ℕ) (nets : List ℕ → Net) (slot_of : 
 
   -- and in one with sign its bits are extended
   pub shows-signed-name : (ops : List Op) (width : ℕ) (name : List ℕ) → (nets name).width ≤ width → width ≤ 128
-      → Here (ops ++ Extended (slot_of name) (2 ^ ((nets name).width - 1)) (2 ^ width - 2 ^ (nets name).width) ∷ []) (base + length ops) width true (roll-Expr (Expr-F.Name name))
+      → Here (ops ++ One (Extended (2 ^ ((nets name).width - 1)) (2 ^ width - 2 ^ (nets name).width)) (slot_of name) ∷ []) (base + length ops) width true (roll-Expr (Expr-F.Name name))
   shows-signed-name ops width name le most =
-      shows-op ops (Extended (slot_of name) (2 ^ ((nets name).width - 1)) (2 ^ width - 2 ^ (nets name).width)) width true (Expr-F.Name name) (λ values s room.
+      shows-op ops (One (Extended (2 ^ ((nets name).width - 1)) (2 ^ width - 2 ^ (nets name).width)) (slot_of name)) width true (Expr-F.Name name) (λ values s room.
       extension (word (nets name).width true (values (slot_of name))) width refl (room.at name (0, omega arith, refl)) le most)
 
   -- a bit and a part of a name
   pub shows-bit : (ops : List Op) (width : ℕ) (signed : Bool) (name : List ℕ) (place : ℕ)
-      → Here (ops ++ Select (slot_of name) place 1 ∷ []) (base + length ops) width signed (roll-Expr (Expr-F.Bit name place))
-  shows-bit ops width signed name place = shows-op ops (Select (slot_of name) place 1) width signed (Expr-F.Bit name place) (λ values s room. shr_and_one (values (slot_of name)) place)
+      → Here (ops ++ One (Select place 1) (slot_of name) ∷ []) (base + length ops) width signed (roll-Expr (Expr-F.Bit name place))
+  shows-bit ops width signed name place = shows-op ops (One (Select place 1) (slot_of name)) width signed (Expr-F.Bit name place) (λ values s room. shr_and_one (values (slot_of name)) place)
 
   pub shows-part : (ops : List Op) (width : ℕ) (signed : Bool) (name : List ℕ) (high low : ℕ)
-      → Here (ops ++ Select (slot_of name) low (2 ^ (high + 1 - low) - 1) ∷ []) (base + length ops) width signed (roll-Expr (Expr-F.Part name high low))
-  shows-part ops width signed name high low = shows-op ops (Select (slot_of name) low (2 ^ (high + 1 - low) - 1)) width signed (Expr-F.Part name high low) (λ values s room. select-gives (values (slot_of name)) low (high + 1 - low))
+      → Here (ops ++ One (Select low (2 ^ (high + 1 - low) - 1)) (slot_of name) ∷ []) (base + length ops) width signed (roll-Expr (Expr-F.Part name high low))
+  shows-part ops width signed name high low = shows-op ops (One (Select low (2 ^ (high + 1 - low) - 1)) (slot_of name)) width signed (Expr-F.Part name high low) (λ values s room. select-gives (values (slot_of name)) low (high + 1 - low))
 
   -- a cast that needs no extension is its operand alone
   pub shows-cast : (ops : List Op) (a width : ℕ) (signed : Bool) (part : Expr) → (signed ≡ true → own_length nets part ≡ width) → Here ops a (own_length nets part) (is_signed nets part) part
@@ -231,10 +232,10 @@ module _ (by_layer : ByLayer) (base : ℕ) (nets : List ℕ → Net) (slot_of : 
 
   -- and in a context with sign it is extended
   pub shows-as-signed : (ops : List Op) (a width : ℕ) (part : Expr) → own_length nets part ≤ width → width ≤ 128 → Value ops a (own_length nets part) (is_signed nets part) part
-      → Here (ops ++ Extended a (2 ^ (own_length nets part - 1)) (2 ^ width - 2 ^ own_length nets part) ∷ []) (base + length ops) width true (roll-Expr (Expr-F.AsSigned part))
+      → Here (ops ++ One (Extended (2 ^ (own_length nets part - 1)) (2 ^ width - 2 ^ own_length nets part)) a ∷ []) (base + length ops) width true (roll-Expr (Expr-F.AsSigned part))
   shows-as-signed ops a width part le most v =
       let own = own_length nets part in
-      shows-op ops (Extended a (2 ^ (own - 1)) (2 ^ width - 2 ^ own)) width true (Expr-F.AsSigned part) (λ values s room.
+      shows-op ops (One (Extended (2 ^ (own - 1)) (2 ^ width - 2 ^ own)) a) width true (Expr-F.AsSigned part) (λ values s room.
       extension (word own true (values a)) width refl (value-below ops a own (is_signed nets part) part v values s room) le most
       ∙ ap (λ x. extended (word own true x) width) (v.here.is values s room))
 

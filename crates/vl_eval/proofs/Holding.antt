@@ -6,60 +6,16 @@ use Rattle.std.proofs.lemmas.Bool.{cases_lt}
 use Rattle.vl_eval.specs.declared.ops.Op.{Op}
 use Rattle.vl_eval.specs.declared.ops.Op.TheVariants.{Constant}
 use Rattle.vl_eval.specs.declared.steps.Step.{Step}
-use Rattle.vl_eval.specs.declared.steps.Step.TheVariants.{Constant as ConstantStep, Extended as ExtendedStep, Select as SelectStep, Add as AddStep, Subtract as SubtractStep, Multiply as MultiplyStep, And as AndStep, Or as OrStep, Xor as XorStep, Equal as EqualStep, NotEqual as NotEqualStep, Less as LessStep, LessEqual as LessEqualStep, Both as BothStep, Either as EitherStep, Negate as NegateStep, Invert as InvertStep, IsZero as IsZeroStep, Up as UpStep, SignedDown as SignedDownStep, Choose as ChooseStep, Beside as BesideStep, Next as NextStep, Whole}
+use Rattle.vl_eval.specs.declared.steps.Step.TheVariants.{Whole}
 use Rattle.vl_eval.specs.inner.Steps.{AreWithin, IsWithin, op_in, ops_of}
 
 within-longer : (step : Step) (count more : ℕ) → count ≤ more → IsWithin count step → IsWithin more step
-within-longer (ConstantStep bits) count more le w = tt
-within-longer (ExtendedStep part half fill) count more le w = tt
-within-longer (SelectStep part low mask) count more le w = tt
-within-longer (AddStep left right mask) count more le w = tt
-within-longer (SubtractStep left right mask) count more le w = tt
-within-longer (MultiplyStep left right mask) count more le w = tt
-within-longer (AndStep left right) count more le w = tt
-within-longer (OrStep left right) count more le w = tt
-within-longer (XorStep left right) count more le w = tt
-within-longer (EqualStep left right) count more le w = tt
-within-longer (NotEqualStep left right) count more le w = tt
-within-longer (LessStep left right half) count more le w = tt
-within-longer (LessEqualStep left right half) count more le w = tt
-within-longer (BothStep left right) count more le w = tt
-within-longer (EitherStep left right) count more le w = tt
-within-longer (NegateStep part mask) count more le w = tt
-within-longer (InvertStep part mask) count more le w = tt
-within-longer (IsZeroStep part) count more le w = tt
-within-longer (UpStep part places mask) count more le w = tt
-within-longer (SignedDownStep places part half mask) count more le w = tt
-within-longer (ChooseStep test chosen other) count more le w = tt
-within-longer (BesideStep left right places) count more le w = tt
-within-longer (NextStep reset first test value kept) count more le w = tt
 within-longer (Whole number) count more le w = omega (arith, le, w)
+within-longer _ count more le w = tt
 
 held-longer : (step : Step) (wide more : List Op) → IsWithin (length wide) step → op_in (wide ++ more) step ≡ op_in wide step
-held-longer (ConstantStep bits) wide more w = refl
-held-longer (ExtendedStep part half fill) wide more w = refl
-held-longer (SelectStep part low mask) wide more w = refl
-held-longer (AddStep left right mask) wide more w = refl
-held-longer (SubtractStep left right mask) wide more w = refl
-held-longer (MultiplyStep left right mask) wide more w = refl
-held-longer (AndStep left right) wide more w = refl
-held-longer (OrStep left right) wide more w = refl
-held-longer (XorStep left right) wide more w = refl
-held-longer (EqualStep left right) wide more w = refl
-held-longer (NotEqualStep left right) wide more w = refl
-held-longer (LessStep left right half) wide more w = refl
-held-longer (LessEqualStep left right half) wide more w = refl
-held-longer (BothStep left right) wide more w = refl
-held-longer (EitherStep left right) wide more w = refl
-held-longer (NegateStep part mask) wide more w = refl
-held-longer (InvertStep part mask) wide more w = refl
-held-longer (IsZeroStep part) wide more w = refl
-held-longer (UpStep part places mask) wide more w = refl
-held-longer (SignedDownStep places part half mask) wide more w = refl
-held-longer (ChooseStep test chosen other) wide more w = refl
-held-longer (BesideStep left right places) wide more w = refl
-held-longer (NextStep reset first test value kept) wide more w = refl
 held-longer (Whole number) wide more w = get_or_append_left wide more (Constant 0) number w
+held-longer _ wide more w = refl
 
 all-longer : (wide more : List Op) (steps : List Step) → ((k : ℕ) (d : Step) → k < length steps → IsWithin (length wide) (slice_index_or steps k d)) → ops_of (wide ++ more) steps ≡ ops_of wide steps
 all-longer wide more [] at = refl

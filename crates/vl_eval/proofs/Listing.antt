@@ -1,9 +1,8 @@
 -- Lists that loops make, one more at the end. Crates above may cite this file.
-use Rattle.std.proofs.Common.{◌≡◌, ◌+◌, ⊎_elim, ℕ, zero, suc, Bool, true, false, if◌then◌else◌, List, [], ◌∷◌, ◌++◌, length, map, filter, slice_index, refl, sym, ap, ◌∙◌, arith}
+use Rattle.std.proofs.Common.{◌≡◌, ◌+◌, ⊎_elim, ℕ, zero, suc, Bool, true, false, if◌then◌else◌, List, [], ◌∷◌, ◌++◌, length, map, filter, replicate, slice_index, refl, sym, ap, ◌∙◌, arith}
 use Rattle.std.proofs.lemmas.Bool.{cases_lt}
 use Rattle.std.proofs.lemmas.List.{append-nil, get_or_append_left, get_or_at, length-append, map-append}
 use Rattle.std.proofs.lemmas.List.Elements.{filter-append}
-use Rattle.vl_eval.specs.inner.Edges.{AreZeros}
 use Rattle.vl_eval.specs.inner.Planned.{AreNumbers}
 
 pub numbers-none : AreNumbers 0 []
@@ -18,20 +17,10 @@ numbers-more n xs a = record {
       (cases_lt k n);
 }
 
-pub zeros-none : AreZeros 0 []
-zeros-none = record { long = refl; at = λ k. refl }
-
-zero-last : (xs : List ℕ) → ((k : ℕ) → slice_index xs k ≡ 0) → (k : ℕ) → slice_index (xs ++ 0 ∷ []) k ≡ 0
-zero-last [] all zero = refl
-zero-last [] all (suc k) = refl
-zero-last (x ∷ xs) all zero = all zero
-zero-last (x ∷ xs) all (suc k) = zero-last xs (λ j. all (suc j)) k
-
-pub zeros-more : (n : ℕ) (xs : List ℕ) → AreZeros n xs → AreZeros (n + 1) (xs ++ 0 ∷ [])
-zeros-more n xs a = record {
-  long = (let l = length-append xs (0 ∷ []) in let m = a.long in omega (arith, l, m));
-  at = zero-last xs a.at;
-}
+pub zero-at : (count k : ℕ) → slice_index (replicate count 0) k ≡ 0
+zero-at zero k = refl
+zero-at (suc count) zero = refl
+zero-at (suc count) (suc k) = zero-at count k
 
 pub filter-one : {X : Type 0} (test : X → Bool) (xs : List X) (x : X) → test x ≡ true → filter test (xs ++ x ∷ []) ≡ filter test xs ++ x ∷ []
 filter-one test xs x e = filter-append test xs (x ∷ []) ∙ ap (λ t. filter test xs ++ (if t then x ∷ [] else [])) e

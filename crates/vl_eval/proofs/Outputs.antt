@@ -9,7 +9,6 @@ use Rattle.vl_ast.specs.declared.modules.Module.{Module}
 use Rattle.vl_ast.specs.Conditions.{BreaksNone}
 use Rattle.vl_ast.specs.Control.{is_number_output, is_stallable}
 use Rattle.vl_ast.specs.Driven.{output_ports, port_number}
-use Rattle.vl_ast.specs.Context.{Net}
 use Rattle.vl_ast.specs.Nets.{Declared, declarations, port_declared}
 use Rattle.vl_ast.specs.Value.{number_of}
 use Rattle.vl_ast.proofs.Agree.{ByLayer}
@@ -26,24 +25,15 @@ use Rattle.vl_eval.specs.declared.plan.Output.{Output}
 use Rattle.vl_eval.specs.inner.Site.{slot_at, slot_in}
 use Rattle.vl_eval.proofs.Grown.{grows-length}
 use Rattle.vl_eval.proofs.Capturing.{number-of}
-use Rattle.vl_eval.proofs.FixedPlaces.{any-port, few, width-is, input-known}
+use Rattle.vl_eval.proofs.FixedPlaces.{IsListed, any-port, few, input-known, width-is}
 use Rattle.vl_eval.proofs.Edges.{named-row}
 
 module _ (by_layer : ByLayer) (m : Module) (b : BreaksNone m) (scope : Scope) (s : IsScopeOf m scope) (plan : Plan) (p : IsPlan m scope plan) where
-  abbrev nets : List ℕ → Net
-  nets = nets_in scope
-
   abbrev slots : List ℕ
   slots = plan.slots.items
 
-  abbrev count : ℕ
-  count = length (names_in scope)
-
   abbrev ops : List Op
   ops = plan.ops
-
-  abbrev Known : List ℕ → Type 0
-  Known name = (d : Declared) × Contains (declarations m) d × (d.name ≡ name)
 
   abbrev named : List ℕ → List ℕ → ℕ
   named values name = slice_index values (slot_at slots (position (bytes_eq name) (names_of m)))
@@ -69,13 +59,13 @@ module _ (by_layer : ByLayer) (m : Module) (b : BreaksNone m) (scope : Scope) (s
         is = λ d. ap (λ xs. slice_index_or xs place d) p.outputs ∙ get_or-map (output_of scope slots) (output_ports m) place any-port d below;
       }
 
-  slot-within : (name : List ℕ) → Known name → slot_in scope slots name < plan.base + length ops
+  slot-within : (name : List ℕ) → IsListed m name → slot_in scope slots name < plan.base + length ops
   slot-within name known =
       let k = number-of by_layer m scope s b.acyclic.driven b.acyclic.once (few by_layer m b scope s plan p) slots p.wires p.wired name known in
       let low = slice_get_within (names_in scope) k.0 name (at-number scope.names.items k.0 name k.1) in
       let b = p.wired.below k.0 low in
       let e : slot_in scope slots name ≡ slice_index slots k.0 = ap (slot_at slots) k.1 in
-      let g = grows-length count p.wires ops p.captured.grows in
+      let g = grows-length (length (names_in scope)) p.wires ops p.captured.grows in
       let base = p.base in
       omega (arith, b, e, g, base)
 
@@ -86,13 +76,13 @@ module _ (by_layer : ByLayer) (m : Module) (b : BreaksNone m) (scope : Scope) (s
     output-is : o ≡ output_of scope slots here
     output-is = shown ∙ (out-at place below).is o
 
-    port-known : Known here.name
+    port-known : IsListed m here.name
     port-known = input-known by_layer m b scope s plan p here (out-at place below).inside
 
     pub slot-below : o.slot < plan.base + length ops
     slot-below = let e = ap (λ (x : Output). x.slot) output-is in let w = slot-within here.name port-known in omega (arith, e, w)
 
-    width-here : (nets here.name).width ≡ here.width
+    width-here : (nets_in scope here.name).width ≡ here.width
     width-here = width-is by_layer m b scope s plan p (port_declared here) (mention-listed m b.acyclic.driven b.acyclic.once (port_declared here) (in-port m b.acyclic.driven b.acyclic.once here (out-at place below).inside))
 
     pub output-few : o.width ≤ 128

@@ -5,97 +5,37 @@ use Rattle.std.proofs.lemmas.Bool.{cases_eq, cases_lt, cond-false, cond-true, lt
 use Rattle.std.proofs.lemmas.List.{get_or-map, get_or_append_left, get_or_at, get_or_default, get_or-set_other, get_or-set_same, length-append, length-map, length-set}
 use Rattle.std.proofs.lemmas.List.Sorted.{Contains-permutation, IsPermutation-sym, length_permutation}
 use Rattle.std.proofs.Math.Nat.{mod-eq_of_lt, mul-add-mod_self_right, mul-le-mul_right}
-use Rattle.vl_eval.specs.declared.leveling.Reads.{Reads}
-use Rattle.vl_eval.specs.declared.leveling.Reads.TheVariants.{Nothing, One, Two, Three, Four}
 use Rattle.vl_eval.specs.declared.ops.Op.{Op}
-use Rattle.vl_eval.specs.declared.ops.Op.TheVariants.{Constant, Extended, Select, Add, Subtract, Multiply, And, Or, Xor, Equal, NotEqual, Less, LessEqual, Both, Either, Negate, Invert, IsZero, Up, SignedDown, Choose, Beside, Next}
-use Rattle.vl_eval.specs.inner.Arranged.{AreEntered, AreEntries, ArePlaces, IsAbove, IsEntry, each_of, moved, number_of, op_at, reads_of, renamed}
+use Rattle.vl_eval.specs.declared.ops.Op.TheVariants.{Constant, One, Two, Beside, Choose, Next}
+use Rattle.vl_eval.specs.inner.Arranged.{AreEntered, AreEntries, ArePlaces, IsAbove, IsEntry, each_of, moved, number_of, op_at, renamed}
 use Rattle.vl_eval.specs.inner.Ops.{IsOrdered, IsSettled, op_value, reads_below}
 
-pub reads-all : (op : Op) (end : ℕ) → reads_below op end → each_of (λ r. r < end) (reads_of op)
+pub reads-all : (op : Op) (end : ℕ) → reads_below op end → each_of (λ r. r < end) op
 reads-all (Constant bits) end h = tt
-reads-all (Extended part half fill) end h = h
-reads-all (Select part low mask) end h = h.0
-reads-all (Add left right mask) end h = h
-reads-all (Subtract left right mask) end h = h
-reads-all (Multiply left right mask) end h = h
-reads-all (And left right) end h = h
-reads-all (Or left right) end h = h
-reads-all (Xor left right) end h = h
-reads-all (Equal left right) end h = h
-reads-all (NotEqual left right) end h = h
-reads-all (Less left right half) end h = h
-reads-all (LessEqual left right half) end h = h
-reads-all (Both left right) end h = h
-reads-all (Either left right) end h = h
-reads-all (Negate part mask) end h = h
-reads-all (Invert part mask) end h = h
-reads-all (IsZero part) end h = h
-reads-all (Up part places mask) end h = h.0
-reads-all (SignedDown part places half mask) end h = h.0
-reads-all (Choose test chosen other) end h = h
+reads-all (One op part) end h = h.0
 reads-all (Beside left right places) end h = (h.0, h.1)
-reads-all (Next reset first test value kept) end h = h
+reads-all _ end h = h
 
-still-reads : (f : ℕ → ℕ) (op : Op) (end end' : ℕ) → reads_below op end → each_of (λ r. f r < end') (reads_of op) → reads_below (renamed f op) end'
+still-reads : (f : ℕ → ℕ) (op : Op) (end end' : ℕ) → reads_below op end → each_of (λ r. f r < end') op → reads_below (renamed f op) end'
 still-reads f (Constant bits) end end' h k = tt
-still-reads f (Extended part half fill) end end' h k = k
-still-reads f (Select part low mask) end end' h k = (k, h.1)
-still-reads f (Add left right mask) end end' h k = k
-still-reads f (Subtract left right mask) end end' h k = k
-still-reads f (Multiply left right mask) end end' h k = k
-still-reads f (And left right) end end' h k = k
-still-reads f (Or left right) end end' h k = k
-still-reads f (Xor left right) end end' h k = k
-still-reads f (Equal left right) end end' h k = k
-still-reads f (NotEqual left right) end end' h k = k
-still-reads f (Less left right half) end end' h k = k
-still-reads f (LessEqual left right half) end end' h k = k
-still-reads f (Both left right) end end' h k = k
-still-reads f (Either left right) end end' h k = k
-still-reads f (Negate part mask) end end' h k = k
-still-reads f (Invert part mask) end end' h k = k
-still-reads f (IsZero part) end end' h k = k
-still-reads f (Up part places mask) end end' h k = (k, h.1)
-still-reads f (SignedDown part places half mask) end end' h k = (k, h.1)
-still-reads f (Choose test chosen other) end end' h k = k
+still-reads f (One op part) end end' h k = (k, h.1)
 still-reads f (Beside left right places) end end' h k = (k.0, k.1, h.2)
-still-reads f (Next reset first test value kept) end end' h k = k
+still-reads f _ end end' h k = k
 
 same-value : (f : ℕ → ℕ) (op : Op) (values : ℕ → ℕ) → op_value (renamed f op) values ≡ op_value op (λ r. values (f r))
 same-value f (Constant bits) values = refl
-same-value f (Extended part half fill) values = refl
-same-value f (Select part low mask) values = refl
-same-value f (Add left right mask) values = refl
-same-value f (Subtract left right mask) values = refl
-same-value f (Multiply left right mask) values = refl
-same-value f (And left right) values = refl
-same-value f (Or left right) values = refl
-same-value f (Xor left right) values = refl
-same-value f (Equal left right) values = refl
-same-value f (NotEqual left right) values = refl
-same-value f (Less left right half) values = refl
-same-value f (LessEqual left right half) values = refl
-same-value f (Both left right) values = refl
-same-value f (Either left right) values = refl
-same-value f (Negate part mask) values = refl
-same-value f (Invert part mask) values = refl
-same-value f (IsZero part) values = refl
-same-value f (Up part places mask) values = refl
-same-value f (SignedDown part places half mask) values = refl
-same-value f (Choose test chosen other) values = refl
-same-value f (Beside left right places) values = refl
-same-value f (Next reset first test value kept) values = refl
+same-value f _ values = refl
 
-each-both : {P Q R : ℕ → Type 0} (reads : Reads) → ((k : ℕ) → P k → Q k → R k) → each_of P reads → each_of Q reads → each_of R reads
-each-both Nothing f p q = tt
-each-both (One a) f p q = f a p q
-each-both (Two a b) f p q = (f a p.0 q.0, f b p.1 q.1)
-each-both (Three a b d) f p q = (f a p.0 q.0, f b p.1 q.1, f d p.2 q.2)
-each-both (Four a b d e) f p q = (f a p.0 q.0, f b p.1 q.1, f d p.2 q.2, f e p.3 q.3)
+each-both : {P Q R : ℕ → Type 0} (op : Op) → ((k : ℕ) → P k → Q k → R k) → each_of P op → each_of Q op → each_of R op
+each-both (Constant bits) f p q = tt
+each-both (One op a) f p q = f a p q
+each-both (Two op a b) f p q = (f a p.0 q.0, f b p.1 q.1)
+each-both (Beside a b places) f p q = (f a p.0 q.0, f b p.1 q.1)
+each-both (Choose a b d) f p q = (f a p.0 q.0, f b p.1 q.1, f d p.2 q.2)
+each-both (Next a first b d e) f p q = (f a p.0 q.0, f b p.1 q.1, f d p.2 q.2, f e p.3 q.3)
 
-each-one : {P Q : ℕ → Type 0} (reads : Reads) → ((k : ℕ) → P k → Q k) → each_of P reads → each_of Q reads
-each-one reads f p = each-both reads (λ k x y. f k x) p p
+each-one : {P Q : ℕ → Type 0} (op : Op) → ((k : ℕ) → P k → Q k) → each_of P op → each_of Q op
+each-one op f p = each-both op (λ k x y. f k x) p p
 
 -- a higher level is above what a lower one is
 pub still-above : (base : ℕ) (levels : List ℕ) (low high place : ℕ) → low ≤ high → IsAbove base levels low place → IsAbove base levels high place
@@ -240,7 +180,7 @@ module _ (base : ℕ) (ops : List Op) (entries sorted places : List ℕ) (few : 
           let mine = numbered i below in
           let op = slice_index_or ops k (Constant 0) in
           let reads : reads_below op (base + k) = ordered.at k (Constant 0) mine.low in
-          let each = each-both (reads_of op) (before i below) (reads-all op (base + k) reads) (all.are.rises k (Constant 0) mine.low) in
+          let each = each-both op (before i below) (reads-all op (base + k) reads) (all.are.rises k (Constant 0) mine.low) in
           subst (λ o. reads_below o (base + i)) (sym (at-place i d below)) (still-reads move op (base + k) (base + i) reads each)
 
     pub arranged-settled : (values : ℕ → ℕ) → IsSettled base arranged values → IsSettled base ops (λ place. values (move place))
@@ -273,7 +213,7 @@ entered-none base = record {
 }
 
 module _ (base : ℕ) (ops : List Op) (op : Op) (levels entries : List ℕ) (level kind entry : ℕ) (few : kind < 32) (is : entry ≡ (level * 32 + kind) * 2 ^ 29 + length ops) (small : level ≤ length levels)
-    (above : each_of (IsAbove base levels level) (reads_of op)) (a : AreEntered base ops levels entries) where
+    (above : each_of (IsAbove base levels level) op) (a : AreEntered base ops levels entries) where
   abbrev ops' : List Op
   ops' = ops ++ op ∷ []
 
@@ -308,18 +248,18 @@ module _ (base : ℕ) (ops : List Op) (op : Op) (levels entries : List ℕ) (lev
         is = get_or_at entries entry [] 0 k (omega (arith, l, here)) ∙ is ∙ (λ i. (sym (level-new k here) i * 32 + kind) * 2 ^ 29 + sym here i);
       }
 
-  old-rise : (k : ℕ) (d : Op) → k < length ops → each_of (IsAbove base levels' (slice_index levels' k)) (reads_of (slice_index_or ops' k d))
+  old-rise : (k : ℕ) (d : Op) → k < length ops → each_of (IsAbove base levels' (slice_index levels' k)) (slice_index_or ops' k d)
   old-rise k d old =
-      subst (λ o. each_of (IsAbove base levels' (slice_index levels' k)) (reads_of o)) (sym (get_or_append_left ops (op ∷ []) d k old))
-      (subst (λ n. each_of (IsAbove base levels' n) (reads_of (slice_index_or ops k d))) (sym (level-old k old))
-      (each-one (reads_of (slice_index_or ops k d)) (λ r x. later-above base levels level (slice_index levels k) r x) (a.rises k d old)))
+      subst (λ o. each_of (IsAbove base levels' (slice_index levels' k)) o) (sym (get_or_append_left ops (op ∷ []) d k old))
+      (subst (λ n. each_of (IsAbove base levels' n) (slice_index_or ops k d)) (sym (level-old k old))
+      (each-one (slice_index_or ops k d) (λ r x. later-above base levels level (slice_index levels k) r x) (a.rises k d old)))
 
-  new-rise : (k : ℕ) (d : Op) → k < length ops' → length ops ≤ k → each_of (IsAbove base levels' (slice_index levels' k)) (reads_of (slice_index_or ops' k d))
+  new-rise : (k : ℕ) (d : Op) → k < length ops' → length ops ≤ k → each_of (IsAbove base levels' (slice_index levels' k)) (slice_index_or ops' k d)
   new-rise k d low new =
       let here = last k low new in
-      subst (λ o. each_of (IsAbove base levels' (slice_index levels' k)) (reads_of o)) (sym (get_or_at ops op [] d k (sym here)))
-      (subst (λ n. each_of (IsAbove base levels' n) (reads_of op)) (sym (level-new k here))
-      (each-one (reads_of op) (λ r x. later-above base levels level level r x) above))
+      subst (λ o. each_of (IsAbove base levels' (slice_index levels' k)) o) (sym (get_or_at ops op [] d k (sym here)))
+      (subst (λ n. each_of (IsAbove base levels' n) op) (sym (level-new k here))
+      (each-one op (λ r x. later-above base levels level level r x) above))
 
   pub entered-more : AreEntered base ops' levels' entries'
   entered-more = record {
@@ -337,9 +277,9 @@ module _ (base : ℕ) (ops : List Op) (op : Op) (levels entries : List ℕ) (lev
   }
 
 -- what an operation reads has its level
-pub reads-levelled : (base : ℕ) (ops : List Op) (levels : List ℕ) (k : ℕ) (op : Op) → IsOrdered base ops → k < length ops → length levels ≡ k → op ≡ slice_index_or ops k op → each_of (λ place. place < base + length levels) (reads_of op)
+pub reads-levelled : (base : ℕ) (ops : List Op) (levels : List ℕ) (k : ℕ) (op : Op) → IsOrdered base ops → k < length ops → length levels ≡ k → op ≡ slice_index_or ops k op → each_of (λ place. place < base + length levels) op
 reads-levelled base ops levels k op o low long is =
-    each-one (reads_of op) (λ r less. omega (arith, less, long)) (reads-all op (base + k) (subst (λ x. reads_below x (base + k)) (sym is) (o.at k op low)))
+    each-one op (λ r less. omega (arith, less, long)) (reads-all op (base + k) (subst (λ x. reads_below x (base + k)) (sym is) (o.at k op low)))
 
 -- one more entry at its place
 pub places-none : (base : ℕ) (entries places : List ℕ) → length places ≡ length entries → ArePlaces base entries 0 places

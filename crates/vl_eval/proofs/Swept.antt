@@ -3,34 +3,17 @@ use Rattle.std.proofs.Common.{true, subst, ◌≡◌, ◌<◌, ◌≤◌, ◌+�
 use Rattle.std.proofs.lemmas.List.{get_or-map, get_or-set_same, get_or-set_other, get_or_default, length-map}
 use Rattle.std.proofs.lemmas.Bool.{cases_lt, false≢true}
 use Rattle.vl_eval.specs.declared.ops.Op.{Op}
-use Rattle.vl_eval.specs.declared.ops.Op.TheVariants.{Constant, Extended, Select, Add, Subtract, Multiply, And, Or, Xor, Equal, NotEqual, Less, LessEqual, Both, Either, Negate, Invert, IsZero, Up, SignedDown, Choose, Beside, Next}
-use Rattle.vl_eval.specs.inner.Ops.{op_value, reads_below, AreSettled, IsOrdered, IsSettled}
+use Rattle.vl_eval.specs.declared.ops.Op.TheVariants.{Constant, One, Two, Beside, Choose, Next}
+use Rattle.vl_eval.specs.inner.Ops.{one_value, op_value, reads_below, two_value, AreSettled, IsOrdered, IsSettled}
 use Rattle.vl_eval.specs.inner.Steps.{AreConstants, is_constant, op_in, ops_of}
 use Rattle.vl_eval.specs.declared.steps.Step.{Step}
 
 pub op-agrees : (op : Op) (end : ℕ) → reads_below op end → (f g : ℕ → ℕ) → ((i : ℕ) → i < end → f i ≡ g i) → op_value op f ≡ op_value op g
 op-agrees (Constant bits) end r f g same = refl
-op-agrees (Extended part half fill) end r f g same = rw (same part r) refl
-op-agrees (Select part low mask) end r f g same = rw (same part r.0) refl
-op-agrees (Negate part mask) end r f g same = rw (same part r) refl
-op-agrees (Invert part mask) end r f g same = rw (same part r) refl
-op-agrees (IsZero part) end r f g same = rw (same part r) refl
-op-agrees (Up part places mask) end r f g same = rw (same part r.0) refl
-op-agrees (SignedDown part places half mask) end r f g same = rw (same part r.0) refl
-op-agrees (Add left right mask) end r f g same = rw (same left r.0, same right r.1) refl
-op-agrees (Subtract left right mask) end r f g same = rw (same left r.0, same right r.1) refl
-op-agrees (Multiply left right mask) end r f g same = rw (same left r.0, same right r.1) refl
-op-agrees (And left right) end r f g same = rw (same left r.0, same right r.1) refl
-op-agrees (Or left right) end r f g same = rw (same left r.0, same right r.1) refl
-op-agrees (Xor left right) end r f g same = rw (same left r.0, same right r.1) refl
-op-agrees (Equal left right) end r f g same = rw (same left r.0, same right r.1) refl
-op-agrees (NotEqual left right) end r f g same = rw (same left r.0, same right r.1) refl
-op-agrees (Both left right) end r f g same = rw (same left r.0, same right r.1) refl
-op-agrees (Either left right) end r f g same = rw (same left r.0, same right r.1) refl
-op-agrees (Less left right half) end r f g same = rw (same left r.0, same right r.1) refl
-op-agrees (LessEqual left right half) end r f g same = rw (same left r.0, same right r.1) refl
-op-agrees (Choose test chosen other) end r f g same = rw (same test r.0, same chosen r.1, same other r.2) refl
+op-agrees (One op part) end r f g same = ap (one_value op) (same part r.0)
+op-agrees (Two op left right) end r f g same = λ i. two_value op (same left r.0 i) (same right r.1 i)
 op-agrees (Beside left right places) end r f g same = rw (same left r.0, same right r.1) refl
+op-agrees (Choose test chosen other) end r f g same = rw (same test r.0, same chosen r.1, same other r.2) refl
 op-agrees (Next reset first test value kept) end r f g same = rw (same reset r.0, same test r.1, same value r.2, same kept r.3) refl
 
 pub settled-none : (base : ℕ) (ops : List Op) (values : List ℕ) → AreSettled base 0 ops values
@@ -69,28 +52,7 @@ settled-step base count value ops values ordered within room is s =
 
 constant-agrees : (op : Op) → is_constant op ≡ true → (f g : ℕ → ℕ) → op_value op f ≡ op_value op g
 constant-agrees (Constant bits) e f g = refl
-constant-agrees (Extended part half fill) e f g = absurd (false≢true e)
-constant-agrees (Select part low mask) e f g = absurd (false≢true e)
-constant-agrees (Add left right mask) e f g = absurd (false≢true e)
-constant-agrees (Subtract left right mask) e f g = absurd (false≢true e)
-constant-agrees (Multiply left right mask) e f g = absurd (false≢true e)
-constant-agrees (And left right) e f g = absurd (false≢true e)
-constant-agrees (Or left right) e f g = absurd (false≢true e)
-constant-agrees (Xor left right) e f g = absurd (false≢true e)
-constant-agrees (Equal left right) e f g = absurd (false≢true e)
-constant-agrees (NotEqual left right) e f g = absurd (false≢true e)
-constant-agrees (Less left right half) e f g = absurd (false≢true e)
-constant-agrees (LessEqual left right half) e f g = absurd (false≢true e)
-constant-agrees (Both left right) e f g = absurd (false≢true e)
-constant-agrees (Either left right) e f g = absurd (false≢true e)
-constant-agrees (Negate part mask) e f g = absurd (false≢true e)
-constant-agrees (Invert part mask) e f g = absurd (false≢true e)
-constant-agrees (IsZero part) e f g = absurd (false≢true e)
-constant-agrees (Up part places mask) e f g = absurd (false≢true e)
-constant-agrees (SignedDown part places half mask) e f g = absurd (false≢true e)
-constant-agrees (Choose test chosen other) e f g = absurd (false≢true e)
-constant-agrees (Beside left right places) e f g = absurd (false≢true e)
-constant-agrees (Next reset first test value kept) e f g = absurd (false≢true e)
+constant-agrees _ e f g = absurd (false≢true e)
 
 -- constants keep their values where the places of operations stay
 pub constants-settled : (base count : ℕ) (ops : List Op) (before after : List ℕ) → AreConstants count ops → IsSettled base ops (λ k. slice_index before k)
@@ -103,27 +65,10 @@ constants-settled base count ops before after constant st stay = record {
 
 pub reads-longer : (op : Op) (end more : ℕ) → end ≤ more → reads_below op end → reads_below op more
 reads-longer (Constant bits) end more le r = r
-reads-longer (Extended part half fill) end more le r = omega (arith, r, le)
-reads-longer (Select part low mask) end more le r = (omega (arith, (r.0), le), (r.1))
-reads-longer (Add left right mask) end more le r = (omega (arith, (r.0), le), omega (arith, (r.1), le))
-reads-longer (Subtract left right mask) end more le r = (omega (arith, (r.0), le), omega (arith, (r.1), le))
-reads-longer (Multiply left right mask) end more le r = (omega (arith, (r.0), le), omega (arith, (r.1), le))
-reads-longer (And left right) end more le r = (omega (arith, (r.0), le), omega (arith, (r.1), le))
-reads-longer (Or left right) end more le r = (omega (arith, (r.0), le), omega (arith, (r.1), le))
-reads-longer (Xor left right) end more le r = (omega (arith, (r.0), le), omega (arith, (r.1), le))
-reads-longer (Equal left right) end more le r = (omega (arith, (r.0), le), omega (arith, (r.1), le))
-reads-longer (NotEqual left right) end more le r = (omega (arith, (r.0), le), omega (arith, (r.1), le))
-reads-longer (Less left right half) end more le r = (omega (arith, (r.0), le), omega (arith, (r.1), le))
-reads-longer (LessEqual left right half) end more le r = (omega (arith, (r.0), le), omega (arith, (r.1), le))
-reads-longer (Both left right) end more le r = (omega (arith, (r.0), le), omega (arith, (r.1), le))
-reads-longer (Either left right) end more le r = (omega (arith, (r.0), le), omega (arith, (r.1), le))
-reads-longer (Negate part mask) end more le r = omega (arith, r, le)
-reads-longer (Invert part mask) end more le r = omega (arith, r, le)
-reads-longer (IsZero part) end more le r = omega (arith, r, le)
-reads-longer (Up part places mask) end more le r = (omega (arith, (r.0), le), (r.1))
-reads-longer (SignedDown part places half mask) end more le r = (omega (arith, (r.0), le), (r.1))
+reads-longer (One op part) end more le r = (omega (arith, (r.0), le), r.1)
+reads-longer (Two op left right) end more le r = (omega (arith, (r.0), le), omega (arith, (r.1), le))
+reads-longer (Beside left right places) end more le r = (omega (arith, (r.0), le), omega (arith, (r.1), le), r.2)
 reads-longer (Choose test chosen other) end more le r = (omega (arith, (r.0), le), omega (arith, (r.1), le), omega (arith, (r.2), le))
-reads-longer (Beside left right places) end more le r = (omega (arith, (r.0), le), omega (arith, (r.1), le), (r.2))
 reads-longer (Next reset first test value kept) end more le r = (omega (arith, (r.0), le), omega (arith, (r.1), le), omega (arith, (r.2), le), omega (arith, (r.3), le))
 
 -- a step reads what its operation reads

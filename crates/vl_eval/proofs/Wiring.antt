@@ -7,7 +7,7 @@ use Rattle.std.proofs.lemmas.Option.{slice_get_within, slice_get-get_or, get_or_
 use Rattle.std.proofs.lemmas.List.{get_or-set_same, get_or-set_other, get_or_default, length-set}
 use Rattle.vl_ast.specs.declared.expressions.Expr.{Expr}
 use Rattle.vl_ast.specs.declared.modules.ModItem.{ModItem}
-use Rattle.vl_ast.specs.declared.modules.ModItem.TheVariants.{Wire, Reg, Assign, Always}
+use Rattle.vl_ast.specs.declared.modules.ModItem.TheVariants.{Assign}
 use Rattle.vl_ast.specs.declared.modules.Module.{Module}
 use Rattle.vl_ast.specs.Conditions.{mentioned, undriven, doubly}
 use Rattle.vl_ast.specs.Context.{own_length, is_signed}
@@ -95,10 +95,6 @@ module _ (by_layer : ByLayer) (m : Module) (scope : Scope) (order : List ℕ) (p
     pub item : slice_get m.items j ≡ Some (Assign name value)
 
   assigned-item : (j k : ℕ) (x : Option ModItem) (name : List ℕ) (value : Expr) → slice_get m.items j ≡ x → slice_index_or places k None ≡ Some j → as_assignment x ≡ Some (name, value) → Assigned k name value
-  assigned-item j k None name value e place f = absurd (cc f)
-  assigned-item j k (Some (Wire signed width n)) name value e place f = absurd (cc f)
-  assigned-item j k (Some (Reg signed width n)) name value e place f = absurd (cc f)
-  assigned-item j k (Some (Always n first condition v)) name value e place f = absurd (cc f)
   assigned-item j k (Some (Assign n v)) name value e place f =
       let both : (n, v) ≡ (name, value) = one-pair f in
       let same : Assign n v ≡ Assign name value = ap (λ (p : List ℕ × Expr). Assign p.0 p.1) both in
@@ -106,6 +102,7 @@ module _ (by_layer : ByLayer) (m : Module) (scope : Scope) (order : List ℕ) (p
     where
       one-pair : {a b : List ℕ × Expr} → Some a ≡ Some b → a ≡ b
       one-pair p = cc p
+  assigned-item j k _ name value e place f = absurd (cc f)
 
   pub some-assignment : (k : ℕ) (name : List ℕ) (value : Expr) → assignment_at m.items places k ≡ Some (name, value) → Assigned k name value
   some-assignment k name value e = by (slice_index_or places k None) refl e where

@@ -12,7 +12,8 @@ use Rattle.vl_ast.specs.declared.expressions.ShiftOp.{ShiftOp}
 use Rattle.vl_ast.specs.declared.expressions.ShiftOp.TheVariants.{Left, Right, RightSigned}
 use Rattle.vl_ast.specs.Context.{InWhole, Together, Alone, unary_place, binary_place}
 use Rattle.vl_ast.specs.Value.{Bits, extended, truth, unary_bits, binary_bits, shift_bits}
-use Rattle.vl_eval.specs.declared.ops.Op.TheVariants.{Constant, Select, Up, SignedDown}
+use Rattle.vl_eval.specs.declared.ops.Op.TheVariants.{Constant, One}
+use Rattle.vl_eval.specs.declared.ops.OneOp.TheVariants.{Select, Up, SignedDown}
 use Rattle.vl_eval.specs.inner.Ops.{op_value, reads_below}
 use Rattle.vl_eval.specs.inner.Built.{unary_op, binary_op, down, shift_op}
 use Rattle.vl_eval.proofs.Bias.{double, order-of-words}
@@ -89,14 +90,7 @@ whole-gives MultiplyOf e a b width half signed values most la lb = masked (value
 whole-gives AndOf e a b width half signed values most la lb = refl
 whole-gives OrOf e a b width half signed values most la lb = refl
 whole-gives XorOf e a b width half signed values most la lb = refl
-whole-gives EqualOf e a b width half signed values most la lb = absurd (cc e)
-whole-gives NotEqualOf e a b width half signed values most la lb = absurd (cc e)
-whole-gives LessOf e a b width half signed values most la lb = absurd (cc e)
-whole-gives LessEqualOf e a b width half signed values most la lb = absurd (cc e)
-whole-gives GreaterOf e a b width half signed values most la lb = absurd (cc e)
-whole-gives GreaterEqualOf e a b width half signed values most la lb = absurd (cc e)
-whole-gives BothOf e a b width half signed values most la lb = absurd (cc e)
-whole-gives EitherOf e a b width half signed values most la lb = absurd (cc e)
+whole-gives _ e a b width half signed values most la lb = absurd (cc e)
 
 -- in a context of their own
 pub together-gives : (of : BinOp) → binary_place of ≡ Together → (a b width mask inner : ℕ) (sign : Bool) (values : ℕ → ℕ) → values a < 2 ^ inner → values b < 2 ^ inner
@@ -107,32 +101,14 @@ together-gives LessOf e a b width mask inner sign values la lb = ap truth (order
 together-gives LessEqualOf e a b width mask inner sign values la lb = ap (λ t. truth (not t)) (order-of-words inner (values b) (values a) sign lb la)
 together-gives GreaterOf e a b width mask inner sign values la lb = ap truth (order-of-words inner (values b) (values a) sign lb la)
 together-gives GreaterEqualOf e a b width mask inner sign values la lb = ap (λ t. truth (not t)) (order-of-words inner (values a) (values b) sign la lb)
-together-gives AddOf e a b width mask inner sign values la lb = absurd (cc e)
-together-gives SubtractOf e a b width mask inner sign values la lb = absurd (cc e)
-together-gives MultiplyOf e a b width mask inner sign values la lb = absurd (cc e)
-together-gives AndOf e a b width mask inner sign values la lb = absurd (cc e)
-together-gives OrOf e a b width mask inner sign values la lb = absurd (cc e)
-together-gives XorOf e a b width mask inner sign values la lb = absurd (cc e)
-together-gives BothOf e a b width mask inner sign values la lb = absurd (cc e)
-together-gives EitherOf e a b width mask inner sign values la lb = absurd (cc e)
+together-gives _ e a b width mask inner sign values la lb = absurd (cc e)
 
 -- each alone
 pub alone-gives : (of : BinOp) → binary_place of ≡ Alone → (a b width mask half lw rw' : ℕ) (ls rs : Bool) (values : ℕ → ℕ)
     → op_value (binary_op of a b mask half) values ≡ binary_bits of width (word lw ls (values a)) (word rw' rs (values b))
 alone-gives BothOf e a b width mask half lw rw' ls rs values = refl
 alone-gives EitherOf e a b width mask half lw rw' ls rs values = refl
-alone-gives EqualOf e a b width mask half lw rw' ls rs values = absurd (cc e)
-alone-gives NotEqualOf e a b width mask half lw rw' ls rs values = absurd (cc e)
-alone-gives LessOf e a b width mask half lw rw' ls rs values = absurd (cc e)
-alone-gives LessEqualOf e a b width mask half lw rw' ls rs values = absurd (cc e)
-alone-gives GreaterOf e a b width mask half lw rw' ls rs values = absurd (cc e)
-alone-gives GreaterEqualOf e a b width mask half lw rw' ls rs values = absurd (cc e)
-alone-gives AddOf e a b width mask half lw rw' ls rs values = absurd (cc e)
-alone-gives SubtractOf e a b width mask half lw rw' ls rs values = absurd (cc e)
-alone-gives MultiplyOf e a b width mask half lw rw' ls rs values = absurd (cc e)
-alone-gives AndOf e a b width mask half lw rw' ls rs values = absurd (cc e)
-alone-gives OrOf e a b width mask half lw rw' ls rs values = absurd (cc e)
-alone-gives XorOf e a b width mask half lw rw' ls rs values = absurd (cc e)
+alone-gives _ e a b width mask half lw rw' ls rs values = absurd (cc e)
 
 -- a select
 pub select-gives : (x low width : ℕ) → bit_and (x / 2 ^ low) (2 ^ width - 1) ≡ x / 2 ^ low % 2 ^ width
@@ -155,11 +131,11 @@ down-gives x n w values a is low = by (nat_lt n w) refl where
   none : w ≤ n → 0 ≡ x / 2 ^ n
   none le = sym (div-eq_of_lt (let p = pow_mono le in omega (arith, p, low)))
 
-  by : (t : Bool) → nat_lt n w ≡ t → op_value (if t then Select a n (2 ^ w - 1) else Constant 0) values ≡ x / 2 ^ n
+  by : (t : Bool) → nat_lt n w ≡ t → op_value (if t then One (Select n (2 ^ w - 1)) a else Constant 0) values ≡ x / 2 ^ n
   by true e = kept
   by false e = none (ltb-false n w e)
 
-up-gives : (x n w : ℕ) (values : ℕ → ℕ) (a : ℕ) → x ≡ values a → w ≤ 128 → op_value (if nat_lt n w then Up a n (2 ^ w - 1) else Constant 0) values ≡ x * 2 ^ n % 2 ^ w
+up-gives : (x n w : ℕ) (values : ℕ → ℕ) (a : ℕ) → x ≡ values a → w ≤ 128 → op_value (if nat_lt n w then One (Up n (2 ^ w - 1)) a else Constant 0) values ≡ x * 2 ^ n % 2 ^ w
 up-gives x n w values a is most = by (nat_lt n w) refl where
   none : w ≤ n → 0 ≡ x * 2 ^ n % 2 ^ w
   none le =
@@ -171,7 +147,7 @@ up-gives x n w values a is most = by (nat_lt n w) refl where
       regroup : (a b c : ℕ) → a * (b * c) ≡ 0 + a * b * c
       regroup a b c = grind arith
 
-  by : (t : Bool) → nat_lt n w ≡ t → op_value (if t then Up a n (2 ^ w - 1) else Constant 0) values ≡ x * 2 ^ n % 2 ^ w
+  by : (t : Bool) → nat_lt n w ≡ t → op_value (if t then One (Up n (2 ^ w - 1)) a else Constant 0) values ≡ x * 2 ^ n % 2 ^ w
   by true e = masked (values a * 2 ^ n) w most ∙ ap (λ y. y * 2 ^ n % 2 ^ w) (sym is)
   by false e = none (ltb-false n w e)
 
@@ -184,7 +160,7 @@ same-quotient y n w (inr (more, low)) =
     let p = pow_mono le in
     ap (λ k. y / 2 ^ k) e ∙ div-eq_of_lt low ∙ sym (div-eq_of_lt (omega (arith, p, low)))
 
-signed-down-gives : (n w a : ℕ) (values : ℕ → ℕ) → w ≤ 128 → values a < 2 ^ w → op_value (SignedDown a (min n (w - 1)) (2 ^ (w - 1)) (2 ^ w - 1)) values ≡ shift_bits RightSigned (word w true (values a)) n
+signed-down-gives : (n w a : ℕ) (values : ℕ → ℕ) → w ≤ 128 → values a < 2 ^ w → op_value (One (SignedDown (min n (w - 1)) (2 ^ (w - 1)) (2 ^ w - 1)) a) values ≡ shift_bits RightSigned (word w true (values a)) n
 signed-down-gives n w a values most low = by (nat_le (2 ^ (w - 1)) (values a)) refl where
   below-mask : 2 ^ w - 1 < 2 ^ 128
   below-mask = let p = pow_mono most in let q = pow_pos w in omega (arith, p, q)
@@ -218,13 +194,13 @@ shift-gives RightSigned a n w false values most low = down-gives (values a) n w 
 
 down-reads : (a n w end : ℕ) → a < end → w ≤ 128 → reads_below (down a n w) end
 down-reads a n w end below most = by (nat_lt n w) refl where
-  by : (t : Bool) → nat_lt n w ≡ t → reads_below (if t then Select a n (2 ^ w - 1) else Constant 0) end
+  by : (t : Bool) → nat_lt n w ≡ t → reads_below (if t then One (Select n (2 ^ w - 1)) a else Constant 0) end
   by true e = let l = ltb-true n w e in (below, omega (arith, l, most))
   by false e = tt
 
-up-reads : (a n w end : ℕ) → a < end → w ≤ 128 → reads_below (if nat_lt n w then Up a n (2 ^ w - 1) else Constant 0) end
+up-reads : (a n w end : ℕ) → a < end → w ≤ 128 → reads_below (if nat_lt n w then One (Up n (2 ^ w - 1)) a else Constant 0) end
 up-reads a n w end below most = by (nat_lt n w) refl where
-  by : (t : Bool) → nat_lt n w ≡ t → reads_below (if t then Up a n (2 ^ w - 1) else Constant 0) end
+  by : (t : Bool) → nat_lt n w ≡ t → reads_below (if t then One (Up n (2 ^ w - 1)) a else Constant 0) end
   by true e = let l = ltb-true n w e in (below, omega (arith, l, most))
   by false e = tt
 

@@ -3,7 +3,7 @@ ghost use Rattle.vl_eval.specs.inner.Shown.{IsBeside, IsExtended, Pushed};
 
 use crate::code::Code;
 use crate::operators::half_of;
-use crate::ops::Op;
+use crate::ops::{OneOp, Op};
 use fx_io::OutOfMemory;
 use vl_ast::mask_of;
 
@@ -36,7 +36,7 @@ pub fn extend(
     }
     let half = half_of(from);
     let fill = mask_of(to) - mask_of(from);
-    push(ops, base, Op::Extended { part, half, fill })
+    push(ops, base, Op::One(OneOp::Extended { half, fill }, part))
 }
 
 /// One operand with so many bits on the right of another; where that has none, the operand itself.

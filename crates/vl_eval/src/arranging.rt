@@ -84,100 +84,24 @@ fn moved(place: usize, base: usize, places: &[usize]) -> usize
     }
 }
 
+/// The same operation over the new places.
 fn renamed(op: Op, base: usize, moves: &[usize]) -> Op
     ensures { result ≡ renamed (moved base moves.now) op }
 {
     match op {
         Op::Constant(bits) => Op::Constant(bits),
-        Op::Extended { part, half, fill } => Op::Extended {
-            part: moved(part, base, moves),
-            half,
-            fill,
-        },
-        Op::Select { part, low, mask } => Op::Select {
-            part: moved(part, base, moves),
-            low,
-            mask,
-        },
-        Op::Add { left, right, mask } => Op::Add {
-            left: moved(left, base, moves),
-            right: moved(right, base, moves),
-            mask,
-        },
-        Op::Subtract { left, right, mask } => Op::Subtract {
-            left: moved(left, base, moves),
-            right: moved(right, base, moves),
-            mask,
-        },
-        Op::Multiply { left, right, mask } => Op::Multiply {
-            left: moved(left, base, moves),
-            right: moved(right, base, moves),
-            mask,
-        },
-        Op::And { left, right } => Op::And {
-            left: moved(left, base, moves),
-            right: moved(right, base, moves),
-        },
-        Op::Or { left, right } => Op::Or {
-            left: moved(left, base, moves),
-            right: moved(right, base, moves),
-        },
-        Op::Xor { left, right } => Op::Xor {
-            left: moved(left, base, moves),
-            right: moved(right, base, moves),
-        },
-        Op::Equal { left, right } => Op::Equal {
-            left: moved(left, base, moves),
-            right: moved(right, base, moves),
-        },
-        Op::NotEqual { left, right } => Op::NotEqual {
-            left: moved(left, base, moves),
-            right: moved(right, base, moves),
-        },
-        Op::Less { left, right, half } => Op::Less {
-            left: moved(left, base, moves),
-            right: moved(right, base, moves),
-            half,
-        },
-        Op::LessEqual { left, right, half } => Op::LessEqual {
-            left: moved(left, base, moves),
-            right: moved(right, base, moves),
-            half,
-        },
-        Op::Both { left, right } => Op::Both {
-            left: moved(left, base, moves),
-            right: moved(right, base, moves),
-        },
-        Op::Either { left, right } => Op::Either {
-            left: moved(left, base, moves),
-            right: moved(right, base, moves),
-        },
-        Op::Negate { part, mask } => Op::Negate {
-            part: moved(part, base, moves),
-            mask,
-        },
-        Op::Invert { part, mask } => Op::Invert {
-            part: moved(part, base, moves),
-            mask,
-        },
-        Op::IsZero { part } => Op::IsZero {
-            part: moved(part, base, moves),
-        },
-        Op::Up { part, places, mask } => Op::Up {
-            part: moved(part, base, moves),
+        Op::One(of, part) => Op::One(of, moved(part, base, moves)),
+        Op::Two(of, left, right) => {
+            Op::Two(of, moved(left, base, moves), moved(right, base, moves))
+        }
+        Op::Beside {
+            left,
+            right,
             places,
-            mask,
-        },
-        Op::SignedDown {
-            part,
+        } => Op::Beside {
+            left: moved(left, base, moves),
+            right: moved(right, base, moves),
             places,
-            half,
-            mask,
-        } => Op::SignedDown {
-            part: moved(part, base, moves),
-            places,
-            half,
-            mask,
         },
         Op::Choose {
             test,
@@ -187,15 +111,6 @@ fn renamed(op: Op, base: usize, moves: &[usize]) -> Op
             test: moved(test, base, moves),
             chosen: moved(chosen, base, moves),
             other: moved(other, base, moves),
-        },
-        Op::Beside {
-            left,
-            right,
-            places,
-        } => Op::Beside {
-            left: moved(left, base, moves),
-            right: moved(right, base, moves),
-            places,
         },
         Op::Next {
             reset,

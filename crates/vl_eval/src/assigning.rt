@@ -10,10 +10,9 @@ use crate::adding::push;
 use crate::building::build;
 use crate::code::Code;
 use crate::operators::literal;
-use crate::ops::Op;
+use crate::ops::{OneOp, Op};
 use crate::site::{Site, shape_of, slot};
 use fx_io::OutOfMemory;
-use std::alloc::Global;
 use vl_ast::{Expr, Sized, mask_of, meaning_by_layer};
 use vl_check::net;
 
@@ -41,11 +40,7 @@ pub fn build_assigned(
     push(
         ops,
         site.base,
-        Op::Select {
-            part: slot,
-            low: 0,
-            mask,
-        },
+        Op::One(OneOp::Select { low: 0, mask }, slot),
     )
 }
 

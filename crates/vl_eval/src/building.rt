@@ -97,15 +97,14 @@ fn build_choice(
         (Choose test.now chosen.now other.now)) }
 {
     meaning_by_layer();
-    let context = shape_of(site, test);
-    let tested = build(ops, site, test, context.length, context.signed)?;
+    let tested = build_alone(ops, site, test)?;
     let first = build(ops, site, chosen, width, signed)?;
     let second = build(ops, site, other, width, signed)?;
     push(
         ops,
         site.base,
         Op::Choose {
-            test: tested,
+            test: tested.slot,
             chosen: first,
             other: second,
         },
@@ -124,12 +123,11 @@ fn build_as_signed(
     ensures { IfOk result (IsBuilt site.now ops.old ops.new width signed (AsSigned part.now)) }
 {
     meaning_by_layer();
-    let context = shape_of(site, part);
-    let slot = build(ops, site, part, context.length, context.signed)?;
+    let own = build_alone(ops, site, part)?;
     if !signed {
-        return Ok(slot);
+        return Ok(own.slot);
     }
-    extend(ops, site.base, slot, context.length, width)
+    extend(ops, site.base, own.slot, own.shape.length, width)
 }
 
 #[cycle(build)]
@@ -144,8 +142,8 @@ fn build_as_unsigned(
     ensures { IfOk result (IsBuilt site.now ops.old ops.new width signed (AsUnsigned part.now)) }
 {
     meaning_by_layer();
-    let context = shape_of(site, part);
-    build(ops, site, part, context.length, context.signed)
+    let own = build_alone(ops, site, part)?;
+    Ok(own.slot)
 }
 
 #[cycle(build)]

@@ -3,7 +3,7 @@ ghost use Rattle.vl_eval.specs.declared.ops.Op.{Op};
 ghost use Rattle.vl_eval.specs.inner.Ops.{AreSettled, IsOrdered, IsSettled};
 ghost use Rattle.vl_eval.specs.inner.Steps.{AreConstants, AreWithin, IsWithin, is_constant, op_in, ops_of};
 
-use crate::ops::Op;
+use crate::ops::{OneOp, Op, TwoOp};
 use crate::steps::{Step, narrow};
 use crate::sweeping::sweep;
 use fx_io::OutOfMemory;
@@ -38,96 +38,56 @@ fn op_in(step: Step, wide: &[Op]) -> Op
 {
     match step {
         Step::Constant(bits) => Op::Constant(bits as u128),
-        Step::Extended { part, half, fill } => Op::Extended {
-            part: part as usize,
-            half: half as u128,
-            fill: fill as u128,
-        },
-        Step::Select { part, low, mask } => Op::Select {
-            part: part as usize,
-            low,
-            mask: mask as u128,
-        },
-        Step::Add { left, right, mask } => Op::Add {
-            left: left as usize,
-            right: right as usize,
-            mask: mask as u128,
-        },
-        Step::Subtract { left, right, mask } => Op::Subtract {
-            left: left as usize,
-            right: right as usize,
-            mask: mask as u128,
-        },
-        Step::Multiply { left, right, mask } => Op::Multiply {
-            left: left as usize,
-            right: right as usize,
-            mask: mask as u128,
-        },
-        Step::And { left, right } => Op::And {
-            left: left as usize,
-            right: right as usize,
-        },
-        Step::Or { left, right } => Op::Or {
-            left: left as usize,
-            right: right as usize,
-        },
-        Step::Xor { left, right } => Op::Xor {
-            left: left as usize,
-            right: right as usize,
-        },
-        Step::Equal { left, right } => Op::Equal {
-            left: left as usize,
-            right: right as usize,
-        },
-        Step::NotEqual { left, right } => Op::NotEqual {
-            left: left as usize,
-            right: right as usize,
-        },
-        Step::Less { left, right, half } => Op::Less {
-            left: left as usize,
-            right: right as usize,
-            half: half as u128,
-        },
-        Step::LessEqual { left, right, half } => Op::LessEqual {
-            left: left as usize,
-            right: right as usize,
-            half: half as u128,
-        },
-        Step::Both { left, right } => Op::Both {
-            left: left as usize,
-            right: right as usize,
-        },
-        Step::Either { left, right } => Op::Either {
-            left: left as usize,
-            right: right as usize,
-        },
-        Step::Negate { part, mask } => Op::Negate {
-            part: part as usize,
-            mask: mask as u128,
-        },
-        Step::Invert { part, mask } => Op::Invert {
-            part: part as usize,
-            mask: mask as u128,
-        },
-        Step::IsZero { part } => Op::IsZero {
-            part: part as usize,
-        },
-        Step::Up { part, places, mask } => Op::Up {
-            part: part as usize,
-            places,
-            mask: mask as u128,
-        },
+        Step::Extended { part, half, fill } => {
+            let (half, fill) = (half as u128, fill as u128);
+            Op::One(OneOp::Extended { half, fill }, part as usize)
+        }
+        Step::Select { part, low, mask } => {
+            let mask = mask as u128;
+            Op::One(OneOp::Select { low, mask }, part as usize)
+        }
+        Step::Add { left, right, mask } => {
+            Op::Two(TwoOp::Add(mask as u128), left as usize, right as usize)
+        }
+        Step::Subtract { left, right, mask } => {
+            Op::Two(TwoOp::Subtract(mask as u128), left as usize, right as usize)
+        }
+        Step::Multiply { left, right, mask } => {
+            Op::Two(TwoOp::Multiply(mask as u128), left as usize, right as usize)
+        }
+        Step::And { left, right } => Op::Two(TwoOp::And, left as usize, right as usize),
+        Step::Or { left, right } => Op::Two(TwoOp::Or, left as usize, right as usize),
+        Step::Xor { left, right } => Op::Two(TwoOp::Xor, left as usize, right as usize),
+        Step::Equal { left, right } => Op::Two(TwoOp::Equal, left as usize, right as usize),
+        Step::NotEqual { left, right } => Op::Two(TwoOp::NotEqual, left as usize, right as usize),
+        Step::Less { left, right, half } => {
+            Op::Two(TwoOp::Less(half as u128), left as usize, right as usize)
+        }
+        Step::LessEqual { left, right, half } => {
+            Op::Two(
+                TwoOp::LessEqual(half as u128),
+                left as usize,
+                right as usize,
+            )
+        }
+        Step::Both { left, right } => Op::Two(TwoOp::Both, left as usize, right as usize),
+        Step::Either { left, right } => Op::Two(TwoOp::Either, left as usize, right as usize),
+        Step::Negate { part, mask } => Op::One(OneOp::Negate(mask as u128), part as usize),
+        Step::Invert { part, mask } => Op::One(OneOp::Invert(mask as u128), part as usize),
+        Step::IsZero { part } => Op::One(OneOp::IsZero, part as usize),
+        Step::Up { part, places, mask } => {
+            let mask = mask as u128;
+            Op::One(OneOp::Up { places, mask }, part as usize)
+        }
         Step::SignedDown {
             places,
             part,
             half,
             mask,
-        } => Op::SignedDown {
-            part: part as usize,
-            places: places as u32,
-            half: half as u128,
-            mask: mask as u128,
-        },
+        } => {
+            let (places, half, mask) = (places as u32, half as u128, mask as u128);
+            Op::One(OneOp::SignedDown { places, half, mask }, part as usize)
+        }
         Step::Choose {
             test,
             chosen,

@@ -5,7 +5,7 @@ ghost use Rattle.vl_eval.specs.inner.Site.{CanBuild, IsBuilt};
 use crate::adding::{extend, push};
 use crate::code::Code;
 use crate::operators::literal;
-use crate::ops::Op;
+use crate::ops::{OneOp, Op};
 use crate::site::{Site, slot};
 use fx_io::OutOfMemory;
 use vl_ast::{Sized, mask_of, meaning_by_layer};
@@ -44,7 +44,8 @@ pub fn build_bit(
 {
     meaning_by_layer();
     let part = slot(site, name);
-    push(ops, site.base, Op::Select { part, low, mask: 1 })
+    let bit = OneOp::Select { low, mask: 1 };
+    push(ops, site.base, Op::One(bit, part))
 }
 
 /// Adds the operation of a part, and gives the place of its value.
@@ -63,7 +64,7 @@ pub fn build_part(
     meaning_by_layer();
     let part = slot(site, name);
     let mask = mask_of(high - low + 1);
-    push(ops, site.base, Op::Select { part, low, mask })
+    push(ops, site.base, Op::One(OneOp::Select { low, mask }, part))
 }
 
 /// Adds a number, and gives the place of its value.

@@ -1,58 +1,7 @@
-ghost use Rattle.std.specs.Prelude.{◌≡◌, ◌<◌, ◌≤◌, ◌+◌, length};
-ghost use Rattle.vl_eval.specs.inner.Arranged.{AreLow, IsAbove, each_of, reads_of};
+ghost use Rattle.std.specs.Prelude.{◌<◌, ◌≤◌, ◌+◌, length};
+ghost use Rattle.vl_eval.specs.inner.Arranged.{AreLow, IsAbove, each_of};
 
-use crate::ops::Op;
-
-/// The places that an operation reads.
-#[derive(Clone, Copy)]
-pub enum Reads {
-    Nothing,
-    One(usize),
-    Two(usize, usize),
-    Three(usize, usize, usize),
-    Four(usize, usize, usize, usize),
-}
-
-/// Which places those are.
-pub fn reads_of(op: Op) -> Reads
-    ensures { result ≡ reads_of op }
-{
-    match op {
-        Op::Constant(_) => Reads::Nothing,
-        Op::Extended { part, .. }
-        | Op::Select { part, .. }
-        | Op::Negate { part, .. }
-        | Op::Invert { part, .. }
-        | Op::IsZero { part }
-        | Op::Up { part, .. }
-        | Op::SignedDown { part, .. } => Reads::One(part),
-        Op::Add { left, right, .. }
-        | Op::Subtract { left, right, .. }
-        | Op::Multiply { left, right, .. }
-        | Op::And { left, right }
-        | Op::Or { left, right }
-        | Op::Xor { left, right }
-        | Op::Equal { left, right }
-        | Op::NotEqual { left, right }
-        | Op::Less { left, right, .. }
-        | Op::LessEqual { left, right, .. }
-        | Op::Both { left, right }
-        | Op::Either { left, right }
-        | Op::Beside { left, right, .. } => Reads::Two(left, right),
-        Op::Choose {
-            test,
-            chosen,
-            other,
-        } => Reads::Three(test, chosen, other),
-        Op::Next {
-            reset,
-            test,
-            value,
-            kept,
-            ..
-        } => Reads::Four(reset, test, value, kept),
-    }
-}
+use crate::ops::{OneOp, Op, TwoOp};
 
 /// A number for the kind of an operation.
 pub fn kind_of(op: Op) -> u64
@@ -60,25 +9,25 @@ pub fn kind_of(op: Op) -> u64
 {
     match op {
         Op::Constant(_) => 0,
-        Op::Extended { .. } => 1,
-        Op::Select { .. } => 2,
-        Op::Add { .. } => 3,
-        Op::Subtract { .. } => 4,
-        Op::Multiply { .. } => 5,
-        Op::And { .. } => 6,
-        Op::Or { .. } => 7,
-        Op::Xor { .. } => 8,
-        Op::Equal { .. } => 9,
-        Op::NotEqual { .. } => 10,
-        Op::Less { .. } => 11,
-        Op::LessEqual { .. } => 12,
-        Op::Both { .. } => 13,
-        Op::Either { .. } => 14,
-        Op::Negate { .. } => 15,
-        Op::Invert { .. } => 16,
-        Op::IsZero { .. } => 17,
-        Op::Up { .. } => 18,
-        Op::SignedDown { .. } => 19,
+        Op::One(OneOp::Extended { .. }, _) => 1,
+        Op::One(OneOp::Select { .. }, _) => 2,
+        Op::Two(TwoOp::Add(_), _, _) => 3,
+        Op::Two(TwoOp::Subtract(_), _, _) => 4,
+        Op::Two(TwoOp::Multiply(_), _, _) => 5,
+        Op::Two(TwoOp::And, _, _) => 6,
+        Op::Two(TwoOp::Or, _, _) => 7,
+        Op::Two(TwoOp::Xor, _, _) => 8,
+        Op::Two(TwoOp::Equal, _, _) => 9,
+        Op::Two(TwoOp::NotEqual, _, _) => 10,
+        Op::Two(TwoOp::Less(_), _, _) => 11,
+        Op::Two(TwoOp::LessEqual(_), _, _) => 12,
+        Op::Two(TwoOp::Both, _, _) => 13,
+        Op::Two(TwoOp::Either, _, _) => 14,
+        Op::One(OneOp::Negate(_), _) => 15,
+        Op::One(OneOp::Invert(_), _) => 16,
+        Op::One(OneOp::IsZero, _) => 17,
+        Op::One(OneOp::Up { .. }, _) => 18,
+        Op::One(OneOp::SignedDown { .. }, _) => 19,
         Op::Choose { .. } => 20,
         Op::Beside { .. } => 21,
         Op::Next { .. } => 22,
@@ -113,22 +62,31 @@ fn level_above_both(left: usize, right: usize, base: usize, levels: &[usize]) ->
 
 /// The first level above those of the operations that an operation reads.
 pub fn level_of(op: Op, base: usize, levels: &[usize]) -> usize
-    requires within { each_of (λ place. place < base + length levels.now) (reads_of op) }
+    requires within { each_of (λ place. place < base + length levels.now) op }
     requires low { AreLow levels.now }
-    ensures above { each_of (IsAbove base levels.now result) (reads_of op) }
+    ensures above { each_of (IsAbove base levels.now result) op }
     ensures low { result ≤ length levels.now }
 {
-    match reads_of(op) {
-        Reads::Nothing => 0,
-        Reads::One(part) => level_above(part, base, levels),
-        Reads::Two(left, right) => level_above_both(left, right, base, levels),
-        Reads::Three(first, second, third) => {
-            level_above_both(first, second, base, levels).max(level_above(third, base, levels))
+    match op {
+        Op::Constant(_) => 0,
+        Op::One(_, part) => level_above(part, base, levels),
+        Op::Two(_, left, right) | Op::Beside { left, right, .. } => {
+            level_above_both(left, right, base, levels)
         }
-        Reads::Four(first, second, third, fourth) => {
-            level_above_both(first, second, base, levels).max(level_above_both(
-                third, fourth, base, levels,
-            ))
+        Op::Choose {
+            test,
+            chosen,
+            other,
+        } => level_above_both(test, chosen, base, levels).max(level_above(other, base, levels)),
+        Op::Next {
+            reset,
+            test,
+            value,
+            kept,
+            ..
+        } => {
+            let tests = level_above_both(reset, test, base, levels);
+            tests.max(level_above_both(value, kept, base, levels))
         }
     }
 }

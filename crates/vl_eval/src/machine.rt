@@ -7,7 +7,7 @@ ghost use Rattle.vl_ast.specs.Value.{number_of};
 ghost use Rattle.vl_check.specs.Cause.{IsCause};
 ghost use Rattle.vl_eval.specs.Given.{driven_ports, given};
 ghost use Rattle.vl_eval.specs.declared.plan.Capture.{Capture};
-ghost use Rattle.vl_eval.specs.inner.Edges.{AreZeros, IsFirst, IsPut, IsTaken};
+ghost use Rattle.vl_eval.specs.inner.Edges.{IsFirst, IsPut, IsTaken};
 ghost use Rattle.vl_eval.specs.inner.Ops.{IsOrdered};
 
 use crate::operators::half_of;
@@ -33,17 +33,6 @@ pub struct Snapshot {
     values: Vec<u128>,
 }
 
-/// So many zeros.
-fn zeros(alloc: Global, count: usize) -> Result<Vec<u128>, OutOfMemory>
-    ensures { IfOk result (λ values. AreZeros count values.items) }
-{
-    let mut values = Vec::new(alloc);
-    for _place in 0..count {
-        values.push(0)?;
-    }
-    Ok(values)
-}
-
 /// The values of row 0: those of the operations, where every register and input is 0.
 fn first_values(alloc: Global, plan: &Plan) -> Result<Vec<u128>, OutOfMemory>
     requires { IsOrdered plan.now.base plan.now.ops }
@@ -53,7 +42,7 @@ fn first_values(alloc: Global, plan: &Plan) -> Result<Vec<u128>, OutOfMemory>
         // word: words and operations are counted in 64 bits
         return Err(OutOfMemory);
     };
-    let mut values = zeros(alloc, room)?;
+    let mut values = vec![in alloc; 0u128; room]?;
     plan.ops.sweep(plan.base, 0, values.as_mut_slice());
     Ok(values)
 }

@@ -3,7 +3,7 @@ ghost use Rattle.vl_ast.specs.Conditions.{is_number};
 ghost use Rattle.vl_ast.specs.Value.{extended};
 ghost use Rattle.vl_eval.specs.inner.Built.{binary_op, down, shift_op, unary_op};
 
-use crate::ops::Op;
+use crate::ops::{OneOp, Op, TwoOp};
 use vl_ast::{BinOp, ShiftOp, Sized, UnOp, mask_of};
 
 /// The weight of the sign bit of a word of this width.
@@ -42,9 +42,9 @@ pub fn unary_op(op: UnOp, part: usize, mask: u128) -> Op
     ensures { result ≡ unary_op op part mask }
 {
     match op {
-        UnOp::Negate => Op::Negate { part, mask },
-        UnOp::Invert => Op::Invert { part, mask },
-        UnOp::IsZero => Op::IsZero { part },
+        UnOp::Negate => Op::One(OneOp::Negate(mask), part),
+        UnOp::Invert => Op::One(OneOp::Invert(mask), part),
+        UnOp::IsZero => Op::One(OneOp::IsZero, part),
     }
 }
 
@@ -52,28 +52,20 @@ pub fn binary_op(op: BinOp, left: usize, right: usize, mask: u128, half: u128) -
     ensures { result ≡ binary_op op left right mask half }
 {
     match op {
-        BinOp::Add => Op::Add { left, right, mask },
-        BinOp::Subtract => Op::Subtract { left, right, mask },
-        BinOp::Multiply => Op::Multiply { left, right, mask },
-        BinOp::And => Op::And { left, right },
-        BinOp::Or => Op::Or { left, right },
-        BinOp::Xor => Op::Xor { left, right },
-        BinOp::Equal => Op::Equal { left, right },
-        BinOp::NotEqual => Op::NotEqual { left, right },
-        BinOp::Less => Op::Less { left, right, half },
-        BinOp::LessEqual => Op::LessEqual { left, right, half },
-        BinOp::Greater => Op::Less {
-            left: right,
-            right: left,
-            half,
-        },
-        BinOp::GreaterEqual => Op::LessEqual {
-            left: right,
-            right: left,
-            half,
-        },
-        BinOp::Both => Op::Both { left, right },
-        BinOp::Either => Op::Either { left, right },
+        BinOp::Add => Op::Two(TwoOp::Add(mask), left, right),
+        BinOp::Subtract => Op::Two(TwoOp::Subtract(mask), left, right),
+        BinOp::Multiply => Op::Two(TwoOp::Multiply(mask), left, right),
+        BinOp::And => Op::Two(TwoOp::And, left, right),
+        BinOp::Or => Op::Two(TwoOp::Or, left, right),
+        BinOp::Xor => Op::Two(TwoOp::Xor, left, right),
+        BinOp::Equal => Op::Two(TwoOp::Equal, left, right),
+        BinOp::NotEqual => Op::Two(TwoOp::NotEqual, left, right),
+        BinOp::Less => Op::Two(TwoOp::Less(half), left, right),
+        BinOp::LessEqual => Op::Two(TwoOp::LessEqual(half), left, right),
+        BinOp::Greater => Op::Two(TwoOp::Less(half), right, left),
+        BinOp::GreaterEqual => Op::Two(TwoOp::LessEqual(half), right, left),
+        BinOp::Both => Op::Two(TwoOp::Both, left, right),
+        BinOp::Either => Op::Two(TwoOp::Either, left, right),
     }
 }
 
@@ -83,11 +75,8 @@ fn down(part: usize, amount: u128, width: u32) -> Op
     ensures { result ≡ down part amount width }
 {
     if amount < u128::from(width) {
-        Op::Select {
-            part,
-            low: amount as u32,
-            mask: mask_of(width),
-        }
+        let (low, mask) = (amount as u32, mask_of(width));
+        Op::One(OneOp::Select { low, mask }, part)
     } else {
         Op::Constant(0)
     }
@@ -100,11 +89,8 @@ pub fn shift_op(op: ShiftOp, part: usize, amount: u128, width: u32, signed: bool
     match op {
         ShiftOp::Left => {
             if amount < u128::from(width) {
-                Op::Up {
-                    part,
-                    places: amount as u32,
-                    mask: mask_of(width),
-                }
+                let (places, mask) = (amount as u32, mask_of(width));
+                Op::One(OneOp::Up { places, mask }, part)
             } else {
                 Op::Constant(0)
             }
@@ -112,12 +98,9 @@ pub fn shift_op(op: ShiftOp, part: usize, amount: u128, width: u32, signed: bool
         ShiftOp::Right => down(part, amount, width),
         ShiftOp::RightSigned => {
             if signed {
-                Op::SignedDown {
-                    part,
-                    places: amount.min(u128::from(width.saturating_sub(1))) as u32,
-                    half: half_of(width),
-                    mask: mask_of(width),
-                }
+                let places = amount.min(u128::from(width.saturating_sub(1))) as u32;
+                let (half, mask) = (half_of(width), mask_of(width));
+                Op::One(OneOp::SignedDown { places, half, mask }, part)
             } else {
                 down(part, amount, width)
             }

@@ -1,5 +1,49 @@
 ghost use Rattle.std.specs.Prelude.{◌≡◌, ◌<◌, ◌+◌, ◌-◌, ◌/◌, ◌%◌, ◌^◌, ◌==◌, nat_le, length, slice_index, if◌then◌else◌};
-ghost use Rattle.vl_eval.specs.inner.Ops.{op_value, reads_below};
+ghost use Rattle.vl_eval.specs.inner.Ops.{one_value, op_value, reads_below, shifts_within, two_value};
+
+/// What is worked out of one value.
+#[derive(Clone, Copy)]
+pub enum OneOp {
+    /// The value, and `fill` on its left where it is `half` or more.
+    Extended { half: u128, fill: u128 },
+    /// The bits from the place `low` on, of which `mask` is kept.
+    Select { low: u32, mask: u128 },
+    /// The two's complement, of which the mask is kept.
+    Negate(u128),
+    /// The bits of the mask that the value hasn't.
+    Invert(u128),
+    /// 1 where the value is 0.
+    IsZero,
+    /// The bits up by `places`, of which `mask` is kept.
+    Up { places: u32, mask: u128 },
+    /// The bits down by `places`; where the value is `half` or more, ones of `mask` come from the left.
+    SignedDown { places: u32, half: u128, mask: u128 },
+}
+
+/// What is worked out of two values.
+#[derive(Clone, Copy)]
+pub enum TwoOp {
+    /// The sum, of which the mask is kept.
+    Add(u128),
+    /// The difference, of which the mask is kept.
+    Subtract(u128),
+    /// The product, of which the mask is kept.
+    Multiply(u128),
+    And,
+    Or,
+    Xor,
+    Equal,
+    NotEqual,
+    /// 1 where the left one is below the right one; this bit of both is turned, so that signed words
+    /// compare.
+    Less(u128),
+    /// 1 where the left one isn't above the right one, compared as by `Less`.
+    LessEqual(u128),
+    /// 1 where neither is 0.
+    Both,
+    /// 1 where one isn't 0.
+    Either,
+}
 
 /// One step of a row: a value from values that stand before it. Widths, signs and contexts are worked
 /// out when it is made, so that it is arithmetic on whole words alone. Operands are places of values.
@@ -7,116 +51,19 @@ ghost use Rattle.vl_eval.specs.inner.Ops.{op_value, reads_below};
 pub enum Op {
     /// The bits.
     Constant(u128),
-    /// `part`, and `fill` on its left where it is `half` or more.
-    Extended {
-        part: usize,
-        half: u128,
-        fill: u128,
-    },
-    /// The bits of `part` from the place `low` on, of which `mask` is kept.
-    Select {
-        part: usize,
-        low: u32,
-        mask: u128,
-    },
-    /// The sum, of which `mask` is kept.
-    Add {
+    One(OneOp, usize),
+    Two(TwoOp, usize, usize),
+    /// `left` up by `places`, and `right` on its right.
+    Beside {
         left: usize,
         right: usize,
-        mask: u128,
-    },
-    /// The difference, of which `mask` is kept.
-    Subtract {
-        left: usize,
-        right: usize,
-        mask: u128,
-    },
-    /// The product, of which `mask` is kept.
-    Multiply {
-        left: usize,
-        right: usize,
-        mask: u128,
-    },
-    And {
-        left: usize,
-        right: usize,
-    },
-    Or {
-        left: usize,
-        right: usize,
-    },
-    Xor {
-        left: usize,
-        right: usize,
-    },
-    Equal {
-        left: usize,
-        right: usize,
-    },
-    NotEqual {
-        left: usize,
-        right: usize,
-    },
-    /// 1 where `left` is below `right`; the bit `half` of both is turned, so that signed words compare.
-    Less {
-        left: usize,
-        right: usize,
-        half: u128,
-    },
-    /// 1 where `left` isn't above `right`, compared as by `Less`.
-    LessEqual {
-        left: usize,
-        right: usize,
-        half: u128,
-    },
-    /// 1 where neither is 0.
-    Both {
-        left: usize,
-        right: usize,
-    },
-    /// 1 where one isn't 0.
-    Either {
-        left: usize,
-        right: usize,
-    },
-    /// The two's complement of `part`, of which `mask` is kept.
-    Negate {
-        part: usize,
-        mask: u128,
-    },
-    /// The bits of `mask` that `part` hasn't.
-    Invert {
-        part: usize,
-        mask: u128,
-    },
-    /// 1 where `part` is 0.
-    IsZero {
-        part: usize,
-    },
-    /// The bits of `part` up by `places`, of which `mask` is kept.
-    Up {
-        part: usize,
         places: u32,
-        mask: u128,
-    },
-    /// The bits of `part` down by `places`; where it is `half` or more, ones of `mask` come from the left.
-    SignedDown {
-        part: usize,
-        places: u32,
-        half: u128,
-        mask: u128,
     },
     /// `chosen`, or `other` where `test` is 0.
     Choose {
         test: usize,
         chosen: usize,
         other: usize,
-    },
-    /// `left` up by `places`, and `right` on its right.
-    Beside {
-        left: usize,
-        right: usize,
-        places: u32,
     },
     /// What a register takes: `first` where `reset` is 1, else `kept` where `test` is 0, else `value`.
     Next {
@@ -126,15 +73,6 @@ pub enum Op {
         value: usize,
         kept: usize,
     },
-}
-
-/// The words at two places.
-pub fn both(values: &[u128], left: usize, right: usize) -> (u128, u128)
-    requires { (left < length values.now) × (right < length values.now) }
-    ensures left { result.0 ≡ slice_index values.now left }
-    ensures right { result.1 ≡ slice_index values.now right }
-{
-    (values[left], values[right])
 }
 
 /// The word at one of two places, by whether a third is 0.
@@ -162,6 +100,48 @@ pub fn signed_down(bits: u128, places: u32, half: u128, mask: u128) -> u128
     }
 }
 
+/// What an operation gives of one value.
+fn value_of_one(op: OneOp, bits: u128) -> u128
+    requires { shifts_within op }
+    ensures { result ≡ one_value op bits }
+{
+    match op {
+        OneOp::Extended { half, fill } => {
+            if bits >= half {
+                bits.wrapping_add(fill)
+            } else {
+                bits
+            }
+        }
+        OneOp::Select { low, mask } => (bits >> low) & mask,
+        OneOp::Negate(mask) => 0u128.wrapping_sub(bits) & mask,
+        OneOp::Invert(mask) => mask.wrapping_sub(bits),
+        OneOp::IsZero => (bits == 0) as u128,
+        OneOp::Up { places, mask } => (bits << places) & mask,
+        OneOp::SignedDown { places, half, mask } => signed_down(bits, places, half, mask),
+    }
+}
+
+/// What an operation gives of two values.
+fn value_of_two(op: TwoOp, left: u128, right: u128) -> u128
+    ensures { result ≡ two_value op left right }
+{
+    match op {
+        TwoOp::Add(mask) => left.wrapping_add(right) & mask,
+        TwoOp::Subtract(mask) => left.wrapping_sub(right) & mask,
+        TwoOp::Multiply(mask) => left.wrapping_mul(right) & mask,
+        TwoOp::And => left & right,
+        TwoOp::Or => left | right,
+        TwoOp::Xor => left ^ right,
+        TwoOp::Equal => (left == right) as u128,
+        TwoOp::NotEqual => (left != right) as u128,
+        TwoOp::Less(half) => (left ^ half < right ^ half) as u128,
+        TwoOp::LessEqual(half) => (left ^ half <= right ^ half) as u128,
+        TwoOp::Both => ((left != 0) & (right != 0)) as u128,
+        TwoOp::Either => ((left != 0) | (right != 0)) as u128,
+    }
+}
+
 /// What an operation gives.
 pub fn value_of(op: Op, values: &[u128]) -> u128
     requires { reads_below op (length values.now) }
@@ -169,86 +149,18 @@ pub fn value_of(op: Op, values: &[u128]) -> u128
 {
     match op {
         Op::Constant(bits) => bits,
-        Op::Extended { part, half, fill } => {
-            let bits = values[part];
-            if bits >= half {
-                bits.wrapping_add(fill)
-            } else {
-                bits
-            }
-        }
-        Op::Select { part, low, mask } => (values[part] >> low) & mask,
-        Op::Add { left, right, mask } => {
-            let (left, right) = both(values, left, right);
-            left.wrapping_add(right) & mask
-        }
-        Op::Subtract { left, right, mask } => {
-            let (left, right) = both(values, left, right);
-            left.wrapping_sub(right) & mask
-        }
-        Op::Multiply { left, right, mask } => {
-            let (left, right) = both(values, left, right);
-            left.wrapping_mul(right) & mask
-        }
-        Op::And { left, right } => {
-            let (left, right) = both(values, left, right);
-            left & right
-        }
-        Op::Or { left, right } => {
-            let (left, right) = both(values, left, right);
-            left | right
-        }
-        Op::Xor { left, right } => {
-            let (left, right) = both(values, left, right);
-            left ^ right
-        }
-        Op::Equal { left, right } => {
-            let (left, right) = both(values, left, right);
-            (left == right) as u128
-        }
-        Op::NotEqual { left, right } => {
-            let (left, right) = both(values, left, right);
-            (left != right) as u128
-        }
-        Op::Less { left, right, half } => {
-            let (left, right) = both(values, left, right);
-            (left ^ half < right ^ half) as u128
-        }
-        Op::LessEqual { left, right, half } => {
-            let (left, right) = both(values, left, right);
-            (left ^ half <= right ^ half) as u128
-        }
-        Op::Both { left, right } => {
-            let (left, right) = both(values, left, right);
-            ((left != 0) & (right != 0)) as u128
-        }
-        Op::Either { left, right } => {
-            let (left, right) = both(values, left, right);
-            ((left != 0) | (right != 0)) as u128
-        }
-        Op::Negate { part, mask } => 0u128.wrapping_sub(values[part]) & mask,
-        Op::Invert { part, mask } => mask.wrapping_sub(values[part]),
-        Op::IsZero { part } => (values[part] == 0) as u128,
-        Op::Up { part, places, mask } => (values[part] << places) & mask,
-        Op::SignedDown {
-            part,
+        Op::One(of, part) => value_of_one(of, values[part]),
+        Op::Two(of, left, right) => value_of_two(of, values[left], values[right]),
+        Op::Beside {
+            left,
+            right,
             places,
-            half,
-            mask,
-        } => { signed_down(values[part], places, half, mask) }
+        } => (values[left] << places).wrapping_add(values[right]),
         Op::Choose {
             test,
             chosen: first,
             other,
         } => chosen(values, test, first, other),
-        Op::Beside {
-            left,
-            right,
-            places,
-        } => {
-            let (left, right) = both(values, left, right);
-            (left << places).wrapping_add(right)
-        }
         Op::Next {
             reset,
             first,

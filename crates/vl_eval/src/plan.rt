@@ -5,7 +5,7 @@ ghost use Rattle.vl_check.specs.Cause.{IsCause};
 ghost use Rattle.vl_check.specs.Ordering.{IsOrdering};
 ghost use Rattle.vl_check.specs.Scope.{IsScopeOf, names_in};
 ghost use Rattle.vl_eval.specs.Given.{driven_ports};
-ghost use Rattle.vl_eval.specs.inner.Planned.{AreCaptured, AreNumbers, AreOperations, AreWired, IsPlan, IsPlanOf, assignment_at, output_of, slot_of_port, the_assignment};
+ghost use Rattle.vl_eval.specs.inner.Planned.{AreCaptured, AreNumbers, AreOperations, AreWired, IsChecked, IsPlan, IsPlanOf, assignment_at, output_of, slot_of_port, the_assignment};
 
 use crate::arranging::{Arranged, arrange};
 use crate::assigning::{build_assigned, build_next};
@@ -14,7 +14,9 @@ use crate::site::{Site, slot};
 use fx_io::OutOfMemory;
 use std::alloc::Global;
 use vl_ast::{Expr, ModItem, Module, meaning_by_layer};
-use vl_check::{Scope, VlFault, check, is_driven_input, is_number_output, is_stallable, net};
+use vl_check::{
+    Checked, Scope, VlFault, check, is_driven_input, is_number_output, is_stallable, net,
+};
 
 /// What a register takes at an edge: the value at a place, into its own.
 #[derive(Clone, Copy)]
@@ -191,20 +193,19 @@ fn outputs(alloc: Global, site: &Site<'_, '_>, source: &Module) -> Result<Vec<Ou
 /// The operations of the assignments and the registers of a module, by level and kind.
 fn arranged_in(
     alloc: Global,
-    scope: &Scope<'_>,
     source: &Module,
-    order: &[usize],
-    places: &[Option<usize>],
+    checked: &Checked<'_>,
 ) -> Result<Arranged, OutOfMemory>
-    requires sound { BreaksNone source.now }
-    requires scope { IsScopeOf source.now scope.now }
-    requires order { IsOrdering source.now scope.now order.now places.now }
-    ensures { IfOk result (AreOperations source.now scope.now) }
+    requires { IsChecked source.now checked.now }
+    ensures { IfOk result (AreOperations source.now checked.now.scope) }
 {
     meaning_by_layer();
+    let scope = &checked.scope;
     let base = scope.count();
     let mut slots = numbers(alloc, base)?;
     let mut ops = Code::new(alloc);
+    let order = checked.order.as_slice();
+    let places = checked.places.as_slice();
     wires(&mut ops, &mut slots, scope, source, order, places)?;
     let site = Site {
         scope,
@@ -216,26 +217,18 @@ fn arranged_in(
 }
 
 /// The operations of a module that breaks no condition.
-fn plan_in(
-    alloc: Global,
-    scope: &Scope<'_>,
-    source: &Module,
-    order: &[usize],
-    places: &[Option<usize>],
-) -> Result<Plan, OutOfMemory>
-    requires sound { BreaksNone source.now }
-    requires scope { IsScopeOf source.now scope.now }
-    requires order { IsOrdering source.now scope.now order.now places.now }
-    ensures { IfOk result (IsPlan source.now scope.now) }
+fn plan_in(alloc: Global, source: &Module, checked: &Checked<'_>) -> Result<Plan, OutOfMemory>
+    requires { IsChecked source.now checked.now }
+    ensures { IfOk result (IsPlan source.now checked.now.scope) }
 {
-    let base = scope.count();
+    let base = checked.scope.count();
     let Arranged {
         ops,
         slots,
         captures,
-    } = arranged_in(alloc, scope, source, order, places)?;
+    } = arranged_in(alloc, source, checked)?;
     let site = Site {
-        scope,
+        scope: &checked.scope,
         slots: slots.as_slice(),
         base,
     };
@@ -259,12 +252,6 @@ pub fn plan_of(alloc: Global, source: &Module) -> Result<Plan, VlFault>
     ensures fault { IfErr result (IsCause source.now) }
 {
     let checked = check(alloc, source)?;
-    let plan = plan_in(
-        alloc,
-        &checked.scope,
-        source,
-        checked.order.as_slice(),
-        checked.places.as_slice(),
-    )?;
+    let plan = plan_in(alloc, source, &checked)?;
     Ok(plan)
 }

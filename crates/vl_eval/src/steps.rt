@@ -1,10 +1,10 @@
 ghost use Rattle.std.specs.Prelude.{◌≡◌, ◌<◌, ◌^◌, ℕ, List, IsTrue, IfSome};
 ghost use Rattle.vl_eval.specs.declared.ops.Op.{Op};
-ghost use Rattle.vl_eval.specs.inner.Arranged.{each_of, reads_of};
+ghost use Rattle.vl_eval.specs.declared.ops.Op.TheVariants.{One, Two};
+ghost use Rattle.vl_eval.specs.inner.Arranged.{each_of};
 ghost use Rattle.vl_eval.specs.inner.Steps.{IsWithin, op_in};
 
-use crate::leveling::{Reads, reads_of};
-use crate::ops::Op;
+use crate::ops::{OneOp, Op, TwoOp};
 
 /// The greatest number of 64 bits.
 pub const LONGEST: u128 = 0xffff_ffff_ffff_ffff;
@@ -131,13 +131,112 @@ pub enum Step {
 // Five places and numbers of 32 bits, or one and two numbers of 64 bits.
 const _: () = prove!(size_of::<Step>() == 24);
 
-/// The step of an operation on three values or four, whose places it can name.
-fn step_of_choice(op: Op) -> Option<Step>
-    requires { each_of (λ place. place < 2 ^ 32) (reads_of op) }
+/// The step of an operation on one value, if it can hold its numbers.
+fn step_of_one(op: OneOp, part: u32) -> Option<Step>
+    ensures within { IfSome result (λ step. (count : ℕ) → IsWithin count step) }
+    ensures held { IfSome result (λ step. (wide : List Op) → op_in wide step ≡ One op part) }
+{
+    let step = match op {
+        OneOp::Extended { half, fill } if half <= LONGEST && fill <= LONGEST => Step::Extended {
+            part,
+            half: half as u64,
+            fill: fill as u64,
+        },
+        OneOp::Select { low, mask } if mask <= LONGEST => Step::Select {
+            part,
+            low,
+            mask: mask as u64,
+        },
+        OneOp::Negate(mask) if mask <= LONGEST => Step::Negate {
+            part,
+            mask: mask as u64,
+        },
+        OneOp::Invert(mask) if mask <= LONGEST => Step::Invert {
+            part,
+            mask: mask as u64,
+        },
+        OneOp::IsZero => Step::IsZero { part },
+        OneOp::Up { places, mask } if mask <= LONGEST => Step::Up {
+            part,
+            places,
+            mask: mask as u64,
+        },
+        OneOp::SignedDown { places, half, mask }
+            if places < 128 && half <= LONGEST && mask <= LONGEST => {
+            Step::SignedDown {
+                places: places as u8,
+                part,
+                half: half as u64,
+                mask: mask as u64,
+            }
+        }
+        _ => return None,
+    };
+    Some(step)
+}
+
+/// The step of an operation on two values, if it can hold its number.
+fn step_of_two(op: TwoOp, left: u32, right: u32) -> Option<Step>
+    ensures within { IfSome result (λ step. (count : ℕ) → IsWithin count step) }
+    ensures held { IfSome result (λ step. (wide : List Op) → op_in wide step ≡ Two op left right) }
+{
+    let step = match op {
+        TwoOp::Add(mask) if mask <= LONGEST => Step::Add {
+            left,
+            right,
+            mask: mask as u64,
+        },
+        TwoOp::Subtract(mask) if mask <= LONGEST => Step::Subtract {
+            left,
+            right,
+            mask: mask as u64,
+        },
+        TwoOp::Multiply(mask) if mask <= LONGEST => Step::Multiply {
+            left,
+            right,
+            mask: mask as u64,
+        },
+        TwoOp::And => Step::And { left, right },
+        TwoOp::Or => Step::Or { left, right },
+        TwoOp::Xor => Step::Xor { left, right },
+        TwoOp::Equal => Step::Equal { left, right },
+        TwoOp::NotEqual => Step::NotEqual { left, right },
+        TwoOp::Less(half) if half <= LONGEST => Step::Less {
+            left,
+            right,
+            half: half as u64,
+        },
+        TwoOp::LessEqual(half) if half <= LONGEST => Step::LessEqual {
+            left,
+            right,
+            half: half as u64,
+        },
+        TwoOp::Both => Step::Both { left, right },
+        TwoOp::Either => Step::Either { left, right },
+        _ => return None,
+    };
+    Some(step)
+}
+
+/// The step of an operation whose places it can name, if it can hold its numbers.
+fn step_of(op: Op) -> Option<Step>
+    requires { each_of (λ place. place < 2 ^ 32) op }
     ensures within { IfSome result (λ step. (count : ℕ) → IsWithin count step) }
     ensures held { IfSome result (λ step. (wide : List Op) → op_in wide step ≡ op) }
 {
     let step = match op {
+        Op::Constant(bits) if bits <= LONGEST => Step::Constant(bits as u64),
+        Op::One(of, part) => return step_of_one(of, part as u32),
+        Op::Two(of, left, right) => return step_of_two(of, left as u32, right as u32),
+        Op::Beside {
+            left,
+            right,
+            places,
+        } => Step::Beside {
+            left: left as u32,
+            right: right as u32,
+            places,
+        },
         Op::Choose {
             test,
             chosen,
@@ -165,166 +264,26 @@ fn step_of_choice(op: Op) -> Option<Step>
     Some(step)
 }
 
-/// The step of an operation that moves bits, or of those above.
-fn step_of_shift(op: Op) -> Option<Step>
-    requires { each_of (λ place. place < 2 ^ 32) (reads_of op) }
-    ensures within { IfSome result (λ step. (count : ℕ) → IsWithin count step) }
-    ensures held { IfSome result (λ step. (wide : List Op) → op_in wide step ≡ op) }
-{
-    let step = match op {
-        Op::Up { part, places, mask } if mask <= LONGEST => Step::Up {
-            part: part as u32,
-            places,
-            mask: mask as u64,
-        },
-        Op::SignedDown {
-            part,
-            places,
-            half,
-            mask,
-        } if places < 128 && half <= LONGEST && mask <= LONGEST => Step::SignedDown {
-            places: places as u8,
-            part: part as u32,
-            half: half as u64,
-            mask: mask as u64,
-        },
-        Op::Beside {
-            left,
-            right,
-            places,
-        } => Step::Beside {
-            left: left as u32,
-            right: right as u32,
-            places,
-        },
-        _ => return step_of_choice(op),
-    };
-    Some(step)
-}
-
-/// The step of an operation on two values and a number, or of those above.
-fn step_of_sum(op: Op) -> Option<Step>
-    requires { each_of (λ place. place < 2 ^ 32) (reads_of op) }
-    ensures within { IfSome result (λ step. (count : ℕ) → IsWithin count step) }
-    ensures held { IfSome result (λ step. (wide : List Op) → op_in wide step ≡ op) }
-{
-    let step = match op {
-        Op::Add { left, right, mask } if mask <= LONGEST => Step::Add {
-            left: left as u32,
-            right: right as u32,
-            mask: mask as u64,
-        },
-        Op::Subtract { left, right, mask } if mask <= LONGEST => Step::Subtract {
-            left: left as u32,
-            right: right as u32,
-            mask: mask as u64,
-        },
-        Op::Multiply { left, right, mask } if mask <= LONGEST => Step::Multiply {
-            left: left as u32,
-            right: right as u32,
-            mask: mask as u64,
-        },
-        Op::Less { left, right, half } if half <= LONGEST => Step::Less {
-            left: left as u32,
-            right: right as u32,
-            half: half as u64,
-        },
-        Op::LessEqual { left, right, half } if half <= LONGEST => Step::LessEqual {
-            left: left as u32,
-            right: right as u32,
-            half: half as u64,
-        },
-        _ => return step_of_shift(op),
-    };
-    Some(step)
-}
-
-/// The step of an operation on two values alone, or of those above.
-fn step_of_two(op: Op) -> Option<Step>
-    requires { each_of (λ place. place < 2 ^ 32) (reads_of op) }
-    ensures within { IfSome result (λ step. (count : ℕ) → IsWithin count step) }
-    ensures held { IfSome result (λ step. (wide : List Op) → op_in wide step ≡ op) }
-{
-    let step = match op {
-        Op::And { left, right } => Step::And {
-            left: left as u32,
-            right: right as u32,
-        },
-        Op::Or { left, right } => Step::Or {
-            left: left as u32,
-            right: right as u32,
-        },
-        Op::Xor { left, right } => Step::Xor {
-            left: left as u32,
-            right: right as u32,
-        },
-        Op::Equal { left, right } => Step::Equal {
-            left: left as u32,
-            right: right as u32,
-        },
-        Op::NotEqual { left, right } => Step::NotEqual {
-            left: left as u32,
-            right: right as u32,
-        },
-        Op::Both { left, right } => Step::Both {
-            left: left as u32,
-            right: right as u32,
-        },
-        Op::Either { left, right } => Step::Either {
-            left: left as u32,
-            right: right as u32,
-        },
-        _ => return step_of_sum(op),
-    };
-    Some(step)
-}
-
-/// The step of an operation whose places it can name, if it can hold its numbers.
-fn step_of(op: Op) -> Option<Step>
-    requires { each_of (λ place. place < 2 ^ 32) (reads_of op) }
-    ensures within { IfSome result (λ step. (count : ℕ) → IsWithin count step) }
-    ensures held { IfSome result (λ step. (wide : List Op) → op_in wide step ≡ op) }
-{
-    let step = match op {
-        Op::Constant(bits) if bits <= LONGEST => Step::Constant(bits as u64),
-        Op::Extended { part, half, fill } if half <= LONGEST && fill <= LONGEST => Step::Extended {
-            part: part as u32,
-            half: half as u64,
-            fill: fill as u64,
-        },
-        Op::Select { part, low, mask } if mask <= LONGEST => Step::Select {
-            part: part as u32,
-            low,
-            mask: mask as u64,
-        },
-        Op::Negate { part, mask } if mask <= LONGEST => Step::Negate {
-            part: part as u32,
-            mask: mask as u64,
-        },
-        Op::Invert { part, mask } if mask <= LONGEST => Step::Invert {
-            part: part as u32,
-            mask: mask as u64,
-        },
-        Op::IsZero { part } => Step::IsZero { part: part as u32 },
-        _ => return step_of_two(op),
-    };
-    Some(step)
-}
-
 /// Whether a step can name each place that an operation reads.
 fn are_few(op: Op) -> bool
-    ensures { IsTrue result → each_of (λ place. place < 2 ^ 32) (reads_of op) }
+    ensures { IsTrue result → each_of (λ place. place < 2 ^ 32) op }
 {
-    match reads_of(op) {
-        Reads::Nothing => true,
-        Reads::One(part) => part < PLACES,
-        Reads::Two(left, right) => left < PLACES && right < PLACES,
-        Reads::Three(first, second, third) => {
-            first < PLACES && second < PLACES && third < PLACES
-        }
-        Reads::Four(first, second, third, fourth) => {
-            first < PLACES && second < PLACES && third < PLACES && fourth < PLACES
-        }
+    match op {
+        Op::Constant(_) => true,
+        Op::One(_, part) => part < PLACES,
+        Op::Two(_, left, right) | Op::Beside { left, right, .. } => left < PLACES && right < PLACES,
+        Op::Choose {
+            test,
+            chosen,
+            other,
+        } => test < PLACES && chosen < PLACES && other < PLACES,
+        Op::Next {
+            reset,
+            test,
+            value,
+            kept,
+            ..
+        } => reset < PLACES && test < PLACES && value < PLACES && kept < PLACES,
     }
 }
 

@@ -2,7 +2,7 @@ ghost use Rattle.std.specs.Prelude.{◌≡◌, ◌<◌, ◌+◌, ◌-◌, ◌*�
 ghost use Rattle.vl_eval.specs.inner.Ops.{AreSettled, IsOrdered, IsSettled, op_value, reads_below};
 ghost use Rattle.vl_eval.specs.inner.Steps.{AreWithin, IsWithin, op_in, ops_of};
 
-use crate::ops::{Op, both, chosen, signed_down, value_of};
+use crate::ops::{Op, chosen, signed_down, value_of};
 use crate::steps::{LONGEST, Step};
 
 /// The low 64 bits.
@@ -47,7 +47,7 @@ fn words(values: &[u128], left: u32, right: u32) -> (u128, u128)
     ensures left { result.0 ≡ slice_index values.now left }
     ensures right { result.1 ≡ slice_index values.now right }
 {
-    both(values, left as usize, right as usize)
+    (values[left as usize], values[right as usize])
 }
 
 /// What an operation gives, by its step.

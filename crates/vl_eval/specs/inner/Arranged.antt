@@ -1,69 +1,27 @@
 -- The places that an operation reads, and the operations in another order.
 use Rattle.std.specs.Prelude.{◌≡◌, ℕ, ◌+◌, ◌-◌, ◌*◌, ◌%◌, ◌^◌, ◌<◌, ◌≤◌, nat_lt, if◌then◌else◌, List, length, map, slice_index, slice_index_or, ⊤}
-use Rattle.vl_eval.specs.declared.leveling.Reads.{Reads}
-use Rattle.vl_eval.specs.declared.leveling.Reads.TheVariants.{Nothing, One, Two, Three, Four}
 use Rattle.vl_eval.specs.declared.arranging.Arranged.{Arranged}
 use Rattle.vl_eval.specs.declared.ops.Op.{Op}
-use Rattle.vl_eval.specs.declared.ops.Op.TheVariants.{Constant, Extended, Select, Add, Subtract, Multiply, And, Or, Xor, Equal, NotEqual, Less, LessEqual, Both, Either, Negate, Invert, IsZero, Up, SignedDown, Choose, Beside, Next}
+use Rattle.vl_eval.specs.declared.ops.Op.TheVariants.{Constant, One, Two, Beside, Choose, Next}
 use Rattle.vl_eval.specs.declared.plan.Capture.{Capture}
 use Rattle.vl_eval.specs.inner.Ops.{IsOrdered, IsSettled}
 
-abbrev pub reads_of : Op → Reads
-reads_of (Constant bits) = Nothing
-reads_of (Extended part half fill) = One part
-reads_of (Select part low mask) = One part
-reads_of (Add left right mask) = Two left right
-reads_of (Subtract left right mask) = Two left right
-reads_of (Multiply left right mask) = Two left right
-reads_of (And left right) = Two left right
-reads_of (Or left right) = Two left right
-reads_of (Xor left right) = Two left right
-reads_of (Equal left right) = Two left right
-reads_of (NotEqual left right) = Two left right
-reads_of (Less left right half) = Two left right
-reads_of (LessEqual left right half) = Two left right
-reads_of (Both left right) = Two left right
-reads_of (Either left right) = Two left right
-reads_of (Negate part mask) = One part
-reads_of (Invert part mask) = One part
-reads_of (IsZero part) = One part
-reads_of (Up part places mask) = One part
-reads_of (SignedDown part places half mask) = One part
-reads_of (Choose test chosen other) = Three test chosen other
-reads_of (Beside left right places) = Two left right
-reads_of (Next reset first test value kept) = Four reset test value kept
-
-abbrev pub each_of : (ℕ → Type 0) → Reads → Type 0
-each_of P Nothing = ⊤
-each_of P (One a) = P a
-each_of P (Two a b) = P a × P b
-each_of P (Three a b d) = P a × P b × P d
-each_of P (Four a b d e) = P a × P b × P d × P e
+-- each place that an operation reads
+abbrev pub each_of : (ℕ → Type 0) → Op → Type 0
+each_of P (Constant bits) = ⊤
+each_of P (One op part) = P part
+each_of P (Two op left right) = P left × P right
+each_of P (Beside left right places) = P left × P right
+each_of P (Choose test chosen other) = P test × P chosen × P other
+each_of P (Next reset first test value kept) = P reset × P test × P value × P kept
 
 -- the same operation over other places
 abbrev pub renamed : (ℕ → ℕ) → Op → Op
 renamed f (Constant bits) = Constant bits
-renamed f (Extended part half fill) = Extended (f part) half fill
-renamed f (Select part low mask) = Select (f part) low mask
-renamed f (Add left right mask) = Add (f left) (f right) mask
-renamed f (Subtract left right mask) = Subtract (f left) (f right) mask
-renamed f (Multiply left right mask) = Multiply (f left) (f right) mask
-renamed f (And left right) = And (f left) (f right)
-renamed f (Or left right) = Or (f left) (f right)
-renamed f (Xor left right) = Xor (f left) (f right)
-renamed f (Equal left right) = Equal (f left) (f right)
-renamed f (NotEqual left right) = NotEqual (f left) (f right)
-renamed f (Less left right half) = Less (f left) (f right) half
-renamed f (LessEqual left right half) = LessEqual (f left) (f right) half
-renamed f (Both left right) = Both (f left) (f right)
-renamed f (Either left right) = Either (f left) (f right)
-renamed f (Negate part mask) = Negate (f part) mask
-renamed f (Invert part mask) = Invert (f part) mask
-renamed f (IsZero part) = IsZero (f part)
-renamed f (Up part places mask) = Up (f part) places mask
-renamed f (SignedDown part places half mask) = SignedDown (f part) places half mask
-renamed f (Choose test chosen other) = Choose (f test) (f chosen) (f other)
+renamed f (One op part) = One op (f part)
+renamed f (Two op left right) = Two op (f left) (f right)
 renamed f (Beside left right places) = Beside (f left) (f right) places
+renamed f (Choose test chosen other) = Choose (f test) (f chosen) (f other)
 renamed f (Next reset first test value kept) = Next (f reset) first (f test) (f value) (f kept)
 
 -- a place is fixed, or that of an operation below this level
@@ -86,7 +44,7 @@ pub record AreEntered (base : ℕ) (ops : List Op) (levels entries : List ℕ) :
   pub long : length entries ≡ length ops
   pub low : AreLow levels
   pub each : (k : ℕ) → k < length ops → IsEntry (slice_index levels k) k (slice_index entries k)
-  pub rises : (k : ℕ) (d : Op) → k < length ops → each_of (IsAbove base levels (slice_index levels k)) (reads_of (slice_index_or ops k d))
+  pub rises : (k : ℕ) (d : Op) → k < length ops → each_of (IsAbove base levels (slice_index levels k)) (slice_index_or ops k d)
 
 pub record AreEntries (base : ℕ) (ops : List Op) (entries : List ℕ) : Type 0 where
   pub levels : List ℕ

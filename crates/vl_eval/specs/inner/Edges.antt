@@ -20,11 +20,6 @@ pub record IsPut (places bits before after : List ℕ) : Type 0 where
   pub each : (k : ℕ) → k < length places → slice_index after (slice_index places k) ≡ slice_index bits k
   pub others : (place : ℕ) → ((k : ℕ) → k < length places → slice_index places k ≢ place) → slice_index after place ≡ slice_index before place
 
--- so many zeros
-pub record AreZeros (count : ℕ) (values : List ℕ) : Type 0 where
-  pub long : length values ≡ count
-  pub at : (k : ℕ) → slice_index values k ≡ 0
-
 -- every fixed place has 0, and each operation its value
 pub record IsFirst (base : ℕ) (ops : List Op) (values : List ℕ) : Type 0 where
   pub long : length values ≡ base + length ops

@@ -10,7 +10,9 @@ use Rattle.vl_ast.specs.Conditions.{BreaksNone}
 use Rattle.vl_ast.specs.Driven.{output_ports}
 use Rattle.vl_ast.specs.Nets.{Declared, declarations}
 use Rattle.vl_ast.specs.Value.{assigned}
+use Rattle.vl_check.specs.declared.checking.Checked.{Checked}
 use Rattle.vl_check.specs.declared.scope.Scope.{Scope}
+use Rattle.vl_check.specs.Ordering.{IsOrdering}
 use Rattle.vl_check.specs.Scope.{IsScopeOf, names_in, nets_in, number_in}
 use Rattle.vl_eval.specs.Given.{driven_ports}
 use Rattle.vl_eval.specs.declared.arranging.Arranged.{Arranged}
@@ -105,6 +107,12 @@ slot_of_port scope slots port = slot_in scope slots port.name
 
 abbrev pub output_of : Scope → List ℕ → Port → Output
 output_of scope slots port = record { slot = slot_of_port scope slots port; width = port.width; signed = port.signed || port.width == 128 }
+
+-- what trying the six conditions gives of a module that breaks none
+pub record IsChecked (m : Module) (checked : Checked) : Type 0 where
+  pub sound : BreaksNone m
+  pub scope : IsScopeOf m checked.scope
+  pub order : IsOrdering m checked.scope checked.order.items checked.places.items
 
 -- the operations of a module's assignments and registers, in some order
 pub record AreOperations (m : Module) (scope : Scope) (arranged : Arranged) : Type 0 where

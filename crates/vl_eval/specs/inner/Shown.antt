@@ -5,7 +5,8 @@ use Rattle.vl_ast.specs.Context.{Net}
 use Rattle.vl_ast.specs.Nets.{names_read}
 use Rattle.vl_ast.specs.Value.{value_in}
 use Rattle.vl_eval.specs.declared.ops.Op.{Op}
-use Rattle.vl_eval.specs.declared.ops.Op.TheVariants.{Extended, Beside}
+use Rattle.vl_eval.specs.declared.ops.Op.TheVariants.{One, Beside}
+use Rattle.vl_eval.specs.declared.ops.OneOp.TheVariants.{Extended}
 use Rattle.vl_eval.specs.inner.Ops.{IsOrdered, IsSettled}
 
 -- a row gives each of these names bits that fit its width
@@ -35,7 +36,7 @@ pub record Pushed (base : ℕ) (before after : List Op) (slot : ℕ) (op : Op) :
 -- a word, extended by its sign bit where the context is longer
 abbrev pub IsExtended : ℕ → List Op → List Op → ℕ → ℕ → ℕ → ℕ → Type 0
 IsExtended base before after slot part from to =
-    ((from ≡ to) × (slot ≡ part) × (after ≡ before)) ⊎ Pushed base before after slot (Extended part (2 ^ (from - 1)) (2 ^ to - 2 ^ from))
+    ((from ≡ to) × (slot ≡ part) × (after ≡ before)) ⊎ Pushed base before after slot (One (Extended (2 ^ (from - 1)) (2 ^ to - 2 ^ from)) part)
 
 -- an operand on the right of another; where that has no bits, the operand itself
 abbrev pub IsBeside : ℕ → List Op → List Op → ℕ → ℕ → ℕ → ℕ → ℕ → Type 0

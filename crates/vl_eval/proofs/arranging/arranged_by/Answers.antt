@@ -1,9 +1,14 @@
 use Rattle.std.proofs.Common.{◌≡◌, ◌<◌, ℕ, length, map, slice_index, sym, ap, subst, ◌∙◌}
+use Rattle.std.specs.List.Sorted.{IsNonDecreasing}
 use Rattle.std.proofs.lemmas.List.Sorted.{IsNonDecreasingBy-from_sort}
 use Rattle.vl_eval.specs.inner.Arranged.{ArePlaces, moved, moved_capture, number_of, op_at}
 use Rattle.vl_eval.specs.inner.Ops.{IsOrdered, IsSettled}
 use Rattle.vl_eval.proofs.Sorting.{arranged-long, arranged-ordered, arranged-settled, moved-fixed, moved-within, numbers-low, sorted-long}
 use Rattle.vl_eval.proofs.arranging.arranged_by.Goals as goal
+use Rattle.vl_eval.proofs.arranging.arranged_by.Goals.{After-sort_unstable}
+
+rises : (c : After-sort_unstable) → IsNonDecreasing c.sort_unstable.new.self.items
+rises c = IsNonDecreasingBy-from_sort (λ x. x) c.sort_unstable.new.self.items c.sort_unstable.ensures.sorted
 
 pub places_of-requires-clause-numbers : goal.places_of-requires-clause-numbers
 places_of-requires-clause-numbers c =
@@ -12,7 +17,7 @@ places_of-requires-clause-numbers c =
     let all = c.in_ok-entries.ensures in
     let sorted = c.sort_unstable.new.self.items in
     let same = c.sort_unstable.ensures.permutation in
-    let rising = IsNonDecreasingBy-from_sort (λ x. x) sorted c.sort_unstable.ensures.sorted in
+    let rising = rises (goal.at.places_of-requires-clause-numbers c).After-sort_unstable in
     let long = sorted-long c.args.base ops c.in_ok-entries.entries.items sorted sorted few c.requires.ordered all same rising in
     subst (λ xs. (i : ℕ) → i < length xs → number_of (slice_index xs i) < length xs) (sym c.as_slice.ensures.value)
     (λ i low. subst (λ n. number_of (slice_index sorted i) < n) (sym long) (numbers-low c.args.base ops c.in_ok-entries.entries.items sorted sorted few c.requires.ordered all same rising i low))
@@ -20,13 +25,10 @@ places_of-requires-clause-numbers c =
 pub in_order-requires : goal.in_order-requires
 in_order-requires c =
     let ops = c.args.ops.now in
-    let few = c.requires.few in
-    let all = c.in_ok-entries.ensures in
     let sorted = c.sort_unstable.new.self.items in
-    let same = c.sort_unstable.ensures.permutation in
-    let rising = IsNonDecreasingBy-from_sort (λ x. x) sorted c.sort_unstable.ensures.sorted in
+    let rising = rises (goal.at.in_order-requires c).After-sort_unstable in
     subst (λ xs. (i : ℕ) → i < length xs → number_of (slice_index xs i) < length ops) (sym c.as_slice-4.ensures.value)
-    (numbers-low c.args.base ops c.in_ok-entries.entries.items sorted sorted few c.requires.ordered all same rising)
+    (numbers-low c.args.base ops c.in_ok-entries.entries.items sorted sorted c.requires.few c.requires.ordered c.in_ok-entries.ensures c.sort_unstable.ensures.permutation rising)
 
 pub returns : goal.returns
 returns c =
@@ -37,7 +39,7 @@ returns c =
     let all = c.in_ok-entries.ensures in
     let sorted = c.sort_unstable.new.self.items in
     let same = c.sort_unstable.ensures.permutation in
-    let rising = IsNonDecreasingBy-from_sort (λ x. x) sorted c.sort_unstable.ensures.sorted in
+    let rising = rises (goal.at.returns c).After-sort_unstable in
     let places = c.in_ok-places.places.items in
     let there = subst (λ xs. ArePlaces base xs (length xs) places) c.as_slice.ensures.value c.in_ok-places.ensures in
     let is : c.in_ok-ops.ops ≡ map (op_at base places ops) sorted =

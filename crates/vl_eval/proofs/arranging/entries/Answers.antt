@@ -1,7 +1,7 @@
 use Rattle.std.proofs.Common.{◌≡◌, ◌<◌, ◌+◌, ◌*◌, ◌^◌, ◌++◌, ◌∷◌, [], length, take, sym, ap, subst, ◌∙◌, arith}
 use Rattle.std.proofs.lemmas.List.{get_or_default, length-take-le, take_all, take_more}
 use Rattle.vl_eval.specs.declared.ops.Op.TheVariants.{Constant}
-use Rattle.vl_eval.specs.inner.Arranged.{AreEntered, AreLow, IsAbove, each_of, reads_of}
+use Rattle.vl_eval.specs.inner.Arranged.{AreEntered, AreLow, IsAbove, each_of}
 use Rattle.vl_eval.proofs.Sorting.{entered-more, entered-none, reads-levelled}
 use Rattle.vl_eval.proofs.arranging.entries.Goals as goal
 
@@ -46,7 +46,7 @@ loop-number-preserved c =
     let long : length (take k ops) ≡ k = length-take-le k ops (omega (arith, below)) in
     let small = c.level_of-level.ensures.low in
     let levels = ap length c.as_slice.ensures.value in
-    let above = subst (λ xs. each_of (IsAbove base xs level) (reads_of op)) c.as_slice.ensures.value c.level_of-level.ensures.above in
+    let above = subst (λ xs. each_of (IsAbove base xs level) op) c.as_slice.ensures.value c.level_of-level.ensures.above in
     subst (λ os. AreEntered base os c.push.new.self.items c.push-in-loop-number.new.self.items) (sym more)
     (subst (λ ls. AreEntered base (take k ops ++ op ∷ []) ls c.push-in-loop-number.new.self.items) (sym c.in_ok-push.ensures.items)
     (subst (λ es. AreEntered base (take k ops ++ op ∷ []) (c.loop-number.levels.items ++ level ∷ []) es) (sym c.in_ok-push-2.ensures.items)

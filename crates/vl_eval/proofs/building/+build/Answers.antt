@@ -42,23 +42,19 @@ build_unary-returns t c =
     c.requires.sound c.requires.longer c.requires.most c.mask_of.ensures c.unary_context-context.ensures c.in_ok-slot.ensures
     (subst (λ o. Pushed site.base c.build.new.ops c.push.new.ops slot o) c.unary_op.ensures p)) c.push.ensures
 
-pub build_as_signed-shape_of-context-requires : goal.build_as_signed-shape_of-context-requires
-build_as_signed-shape_of-context-requires t c = sound-as-signed (nets_in c.args.site.now.scope.now) c.args.part.now c.requires.sound
-
-pub build_as_signed-build-requires : goal.build_as_signed-build-requires
-build_as_signed-build-requires t c =
-    let site = c.args.site.now in
-    let nets = nets_in site.scope.now in
-    let names = placed site c.args.ops.now _ _ (names-as-signed nets c.args.part.now) c.requires.placed in
-    (omega arith, record { sound = sound-as-signed nets c.args.part.now c.requires.sound; longer = omega (arith, c.shape_of-context.ensures.length); most = c.shape_of-context.ensures.few; placed = names })
+pub build_as_signed-build_alone-requires : goal.build_as_signed-build_alone-requires
+build_as_signed-build_alone-requires t c =
+    let nets = nets_in c.args.site.now.scope.now in
+    (omega arith, (sound-as-signed nets c.args.part.now c.requires.sound, placed c.args.site.now c.args.ops.now _ _ (names-as-signed nets c.args.part.now) c.requires.placed))
 
 pub build_as_signed-returns-then-not-signed : goal.build_as_signed-returns-then-not-signed
 build_as_signed-returns-then-not-signed t c =
     let site = c.args.site.now in
-    built-as-signed-plain c.meaning_by_layer.ensures.value site.base site.scope.now site.slots.now c.args.part.now c.args.ops.now c.build.new.ops c.in_ok-slot.slot c.args.width c.args.signed c.shape_of-context.result c.shape_of-context.ensures.length c.shape_of-context.ensures.sign c.if-not-signed.true c.in_ok-slot.ensures
+    let own = c.in_ok-own.ensures in
+    built-as-signed-plain c.meaning_by_layer.ensures.value site.base site.scope.now site.slots.now c.args.part.now c.args.ops.now c.build_alone.new.ops c.in_ok-own.own.slot c.args.width c.args.signed c.in_ok-own.own.shape own.length own.sign c.if-not-signed.true own.built
 
 pub build_as_signed-extend-requires-clause-longer : goal.build_as_signed-extend-requires-clause-longer
-build_as_signed-extend-requires-clause-longer t c = let l = length-as-signed (nets_in c.args.site.now.scope.now) c.args.part.now in omega (arith, l, c.shape_of-context.ensures.length, c.requires.longer)
+build_as_signed-extend-requires-clause-longer t c = let l = length-as-signed (nets_in c.args.site.now.scope.now) c.args.part.now in let own = c.in_ok-own.ensures.length in omega (arith, l, own, c.requires.longer)
 
 pub build_as_signed-extend-requires-clause-most : goal.build_as_signed-extend-requires-clause-most
 build_as_signed-extend-requires-clause-most t c = c.requires.most
@@ -66,23 +62,20 @@ build_as_signed-extend-requires-clause-most t c = c.requires.most
 pub build_as_signed-returns : goal.build_as_signed-returns
 build_as_signed-returns t c =
     let site = c.args.site.now in
-    IfOk-weaker c.extend.result _ _ (λ slot x. built-as-signed c.meaning_by_layer.ensures.value site.base site.scope.now site.slots.now c.args.part.now c.args.ops.now c.build.new.ops c.extend.new.ops c.in_ok-slot.slot slot c.args.width c.args.signed c.shape_of-context.result
-    c.requires.sound c.requires.longer c.requires.most c.shape_of-context.ensures.length c.shape_of-context.ensures.sign c.if-not-signed.false c.in_ok-slot.ensures x) c.extend.ensures
+    let own = c.in_ok-own.ensures in
+    IfOk-weaker c.extend.result _ _ (λ slot x. built-as-signed c.meaning_by_layer.ensures.value site.base site.scope.now site.slots.now c.args.part.now c.args.ops.now c.build_alone.new.ops c.extend.new.ops c.in_ok-own.own.slot slot c.args.width c.args.signed c.in_ok-own.own.shape
+    c.requires.sound c.requires.longer c.requires.most own.length own.sign c.if-not-signed.false own.built x) c.extend.ensures
 
-pub build_as_unsigned-shape_of-context-requires : goal.build_as_unsigned-shape_of-context-requires
-build_as_unsigned-shape_of-context-requires t c = sound-as-unsigned (nets_in c.args.site.now.scope.now) c.args.part.now c.requires.sound
-
-pub build_as_unsigned-build-requires : goal.build_as_unsigned-build-requires
-build_as_unsigned-build-requires t c =
-    let site = c.args.site.now in
-    let nets = nets_in site.scope.now in
-    let names = placed site c.args.ops.now _ _ (names-as-unsigned nets c.args.part.now) c.requires.placed in
-    (omega arith, record { sound = sound-as-unsigned nets c.args.part.now c.requires.sound; longer = omega (arith, c.shape_of-context.ensures.length); most = c.shape_of-context.ensures.few; placed = names })
+pub build_as_unsigned-build_alone-requires : goal.build_as_unsigned-build_alone-requires
+build_as_unsigned-build_alone-requires t c =
+    let nets = nets_in c.args.site.now.scope.now in
+    (omega arith, (sound-as-unsigned nets c.args.part.now c.requires.sound, placed c.args.site.now c.args.ops.now _ _ (names-as-unsigned nets c.args.part.now) c.requires.placed))
 
 pub build_as_unsigned-returns : goal.build_as_unsigned-returns
 build_as_unsigned-returns t c =
     let site = c.args.site.now in
-    IfOk-weaker c.build.result _ _ (λ slot b. built-as-unsigned c.meaning_by_layer.ensures.value site.base site.scope.now site.slots.now c.args.part.now c.args.ops.now c.build.new.ops slot c.args.width c.args.signed c.shape_of-context.result c.shape_of-context.ensures.length c.shape_of-context.ensures.sign b) c.build.ensures
+    let own = c.in_ok-own.ensures in
+    built-as-unsigned c.meaning_by_layer.ensures.value site.base site.scope.now site.slots.now c.args.part.now c.args.ops.now c.build_alone.new.ops c.in_ok-own.own.slot c.args.width c.args.signed c.in_ok-own.own.shape own.length own.sign own.built
 
 pub build_binary-left_context-on_left-requires-clause-left : goal.build_binary-left_context-on_left-requires-clause-left
 build_binary-left_context-on_left-requires-clause-left t c = (sound-binary (nets_in c.args.site.now.scope.now) c.args.op c.args.left.now c.args.right.now c.requires.sound).0
@@ -132,15 +125,23 @@ build_binary-returns t c =
     c.left_context-on_left.result c.left_context-on_right.result c.requires.sound c.requires.longer c.requires.most c.mask_of.ensures c.left_context-on_left.ensures c.left_context-on_right.ensures c.half_in.ensures c.in_ok-first.ensures c.in_ok-second.ensures
     (subst (λ o. Pushed site.base c.build-2.new.ops c.push.new.ops slot o) c.binary_op.ensures p)) c.push.ensures
 
-pub build_choice-shape_of-context-requires : goal.build_choice-shape_of-context-requires
-build_choice-shape_of-context-requires t c = (sound-choose (nets_in c.args.site.now.scope.now) c.args.test.now c.args.chosen.now c.args.other.now c.requires.sound).0
+pub build_choice-build_alone-requires : goal.build_choice-build_alone-requires
+build_choice-build_alone-requires t c =
+    let site = c.args.site.now in
+    let nets = nets_in site.scope.now in
+    let all = placed site c.args.ops.now _ _ (names-choose nets c.args.test.now c.args.chosen.now c.args.other.now) c.requires.placed in
+    let first = placed-left c.meaning_by_layer.ensures.value site.base site.scope.now site.slots.now c.args.ops.now (names_read c.args.test.now) (names_read c.args.chosen.now ++ names_read c.args.other.now) all in
+    (omega arith, ((sound-choose nets c.args.test.now c.args.chosen.now c.args.other.now c.requires.sound).0, first))
 
 pub build_choice-build-requires : goal.build_choice-build-requires
 build_choice-build-requires t c =
     let site = c.args.site.now in
     let nets = nets_in site.scope.now in
     let all = placed site c.args.ops.now _ _ (names-choose nets c.args.test.now c.args.chosen.now c.args.other.now) c.requires.placed in
-    (omega arith, record { sound = (sound-choose nets c.args.test.now c.args.chosen.now c.args.other.now c.requires.sound).0; longer = omega (arith, c.shape_of-context.ensures.length); most = c.shape_of-context.ensures.few; placed = placed-left c.meaning_by_layer.ensures.value site.base site.scope.now site.slots.now c.args.ops.now (names_read c.args.test.now) (names_read c.args.chosen.now ++ names_read c.args.other.now) all })
+    let rest = placed-right c.meaning_by_layer.ensures.value site.base site.scope.now site.slots.now c.args.ops.now (names_read c.args.test.now) (names_read c.args.chosen.now ++ names_read c.args.other.now) all in
+    let mine = placed-left c.meaning_by_layer.ensures.value site.base site.scope.now site.slots.now c.args.ops.now (names_read c.args.chosen.now) (names_read c.args.other.now) rest in
+    let l = length-choose nets c.args.test.now c.args.chosen.now c.args.other.now in
+    (omega arith, record { sound = (sound-choose nets c.args.test.now c.args.chosen.now c.args.other.now c.requires.sound).1; longer = omega (arith, l, c.requires.longer); most = c.requires.most; placed = placed-later c.meaning_by_layer.ensures.value site.base site.scope.now site.slots.now c.args.ops.now c.build_alone.new.ops (names_read c.args.chosen.now) c.in_ok-tested.ensures.built.grows mine })
 
 pub build_choice-build-requires-2 : goal.build_choice-build-requires-2
 build_choice-build-requires-2 t c =
@@ -148,25 +149,15 @@ build_choice-build-requires-2 t c =
     let nets = nets_in site.scope.now in
     let all = placed site c.args.ops.now _ _ (names-choose nets c.args.test.now c.args.chosen.now c.args.other.now) c.requires.placed in
     let rest = placed-right c.meaning_by_layer.ensures.value site.base site.scope.now site.slots.now c.args.ops.now (names_read c.args.test.now) (names_read c.args.chosen.now ++ names_read c.args.other.now) all in
-    let mine = placed-left c.meaning_by_layer.ensures.value site.base site.scope.now site.slots.now c.args.ops.now (names_read c.args.chosen.now) (names_read c.args.other.now) rest in
-    let l = length-choose nets c.args.test.now c.args.chosen.now c.args.other.now in
-    (omega arith, record { sound = (sound-choose nets c.args.test.now c.args.chosen.now c.args.other.now c.requires.sound).1; longer = omega (arith, l, c.requires.longer); most = c.requires.most; placed = placed-later c.meaning_by_layer.ensures.value site.base site.scope.now site.slots.now c.args.ops.now c.build.new.ops (names_read c.args.chosen.now) c.in_ok-tested.ensures.grows mine })
-
-pub build_choice-build-requires-3 : goal.build_choice-build-requires-3
-build_choice-build-requires-3 t c =
-    let site = c.args.site.now in
-    let nets = nets_in site.scope.now in
-    let all = placed site c.args.ops.now _ _ (names-choose nets c.args.test.now c.args.chosen.now c.args.other.now) c.requires.placed in
-    let rest = placed-right c.meaning_by_layer.ensures.value site.base site.scope.now site.slots.now c.args.ops.now (names_read c.args.test.now) (names_read c.args.chosen.now ++ names_read c.args.other.now) all in
     let mine = placed-right c.meaning_by_layer.ensures.value site.base site.scope.now site.slots.now c.args.ops.now (names_read c.args.chosen.now) (names_read c.args.other.now) rest in
     let l = length-choose nets c.args.test.now c.args.chosen.now c.args.other.now in
-    (omega arith, record { sound = (sound-choose nets c.args.test.now c.args.chosen.now c.args.other.now c.requires.sound).2; longer = omega (arith, l, c.requires.longer); most = c.requires.most; placed = placed-later c.meaning_by_layer.ensures.value site.base site.scope.now site.slots.now c.build.new.ops c.build-2.new.ops (names_read c.args.other.now) c.in_ok-first.ensures.grows (placed-later c.meaning_by_layer.ensures.value site.base site.scope.now site.slots.now c.args.ops.now c.build.new.ops (names_read c.args.other.now) c.in_ok-tested.ensures.grows mine) })
+    (omega arith, record { sound = (sound-choose nets c.args.test.now c.args.chosen.now c.args.other.now c.requires.sound).2; longer = omega (arith, l, c.requires.longer); most = c.requires.most; placed = placed-later c.meaning_by_layer.ensures.value site.base site.scope.now site.slots.now c.build_alone.new.ops c.build.new.ops (names_read c.args.other.now) c.in_ok-first.ensures.grows (placed-later c.meaning_by_layer.ensures.value site.base site.scope.now site.slots.now c.args.ops.now c.build_alone.new.ops (names_read c.args.other.now) c.in_ok-tested.ensures.built.grows mine) })
 
 pub build_choice-returns : goal.build_choice-returns
 build_choice-returns t c =
     let site = c.args.site.now in
-    IfOk-weaker c.push.result _ _ (λ slot p. built-choice c.meaning_by_layer.ensures.value site.base site.scope.now site.slots.now c.args.test.now c.args.chosen.now c.args.other.now c.args.ops.now c.build.new.ops c.build-2.new.ops c.build-3.new.ops c.push.new.ops c.in_ok-tested.tested c.in_ok-first.first c.in_ok-second.second slot c.args.width c.args.signed c.shape_of-context.result
-    c.shape_of-context.ensures.length c.shape_of-context.ensures.sign c.in_ok-tested.ensures c.in_ok-first.ensures c.in_ok-second.ensures p) c.push.ensures
+    IfOk-weaker c.push.result _ _ (λ slot p. built-choice c.meaning_by_layer.ensures.value site.base site.scope.now site.slots.now c.args.test.now c.args.chosen.now c.args.other.now c.args.ops.now c.build_alone.new.ops c.build.new.ops c.build-2.new.ops c.push.new.ops c.in_ok-tested.tested.slot c.in_ok-first.first c.in_ok-second.second slot c.args.width c.args.signed c.in_ok-tested.tested.shape
+    c.in_ok-tested.ensures.length c.in_ok-tested.ensures.sign c.in_ok-tested.ensures.built c.in_ok-first.ensures c.in_ok-second.ensures p) c.push.ensures
 
 pub build_shift-build-requires : goal.build_shift-build-requires
 build_shift-build-requires t c =

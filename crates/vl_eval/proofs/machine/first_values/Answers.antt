@@ -1,7 +1,8 @@
-use Rattle.std.proofs.Common.{◌≡◌, length, slice_index, take, sym, ap, subst, ◌∙◌, arith}
+use Rattle.std.proofs.Common.{◌≡◌, ℕ, List, length, slice_index, replicate, take, sym, ap, subst, ◌∙◌, arith}
 use Rattle.std.specs.Vec.{with_items}
-use Rattle.std.proofs.lemmas.List.{with_items_is}
+use Rattle.std.proofs.lemmas.List.{length-replicate, with_items_is}
 use Rattle.vl_eval.specs.inner.Ops.{IsSettled}
+use Rattle.vl_eval.proofs.Listing.{zero-at}
 use Rattle.vl_eval.proofs.Swept.{settled-none}
 use Rattle.vl_eval.proofs.machine.first_values.Goals as goal
 
@@ -11,15 +12,15 @@ sweep-requires-clause-begun c = settled-none c.args.plan.now.base c.args.plan.no
 pub returns : goal.returns
 returns c =
     let plan = c.args.plan.now in
-    let none = c.in_ok-values.ensures in
     let values = c.in_ok-values.values in
+    let zeros : values.items ≡ replicate c.in-Some.room 0 = c.in_ok-values.ensures.items_if_clones_equal (λ y same. same) in
     let now = (with_items values c.sweep.new.values).items in
     let long = c.sweep.ensures.long ∙ ap length c.as_mut_slice.ensures.value in
     let is : now ≡ c.sweep.new.values = with_items_is values c.sweep.new.values (long ∙ sym values.ok.0) in
     record {
-      long = (let z = none.long in let l = ap length is ∙ long in omega (arith, z, l, c.in-Some.ensures, c.len.ensures));
+      long = (let z = ap length zeros ∙ length-replicate c.in-Some.room 0 in let l = ap length is ∙ long in omega (arith, z, l, c.in-Some.ensures, c.len.ensures));
       zeros = values.items;
-      none = none.at;
+      none = λ k. ap (λ (items : List ℕ). slice_index items k) zeros ∙ zero-at c.in-Some.room k;
       kept = subst (λ v. take plan.base v ≡ take plan.base values.items) (sym is) (c.sweep.ensures.kept ∙ ap (take plan.base) c.as_mut_slice.ensures.value);
       settled = subst (λ v. IsSettled plan.base plan.ops (λ k. slice_index v k)) (sym is) c.sweep.ensures.settled;
     }

@@ -1,6 +1,7 @@
 use Rattle.std.proofs.Common.{◌<◌, length, codes, subst, sym, arith}
 use Rattle.std.proofs.lemmas.Option.{slice_get_within}
 use Rattle.vl_check.proofs.Scoped.{at-number}
+use Rattle.vl_check.specs.Ordering.{IsOrdering}
 use Rattle.vl_check.specs.Scope.{names_in}
 use Rattle.vl_eval.specs.inner.Arranged.{IsArranged}
 use Rattle.vl_eval.specs.inner.Planned.{AreCaptured, AreNumbers, AreWired}
@@ -17,7 +18,10 @@ pub wires-requires-clause-scope : goal.wires-requires-clause-scope
 wires-requires-clause-scope c = c.requires.scope
 
 pub wires-requires-clause-order : goal.wires-requires-clause-order
-wires-requires-clause-order c = c.requires.order
+wires-requires-clause-order c =
+    let checked = c.args.checked.now in
+    subst (λ order. IsOrdering c.args.source.now checked.scope order c.as_slice-places.result.now) (sym c.as_slice-order.ensures.value)
+    (subst (λ places. IsOrdering c.args.source.now checked.scope checked.order.items places) (sym c.as_slice-places.ensures.value) c.requires.order)
 
 pub wires-requires-clause-numbers : goal.wires-requires-clause-numbers
 wires-requires-clause-numbers c = subst (λ n. AreNumbers n c.in_ok-slots.slots.items) c.count-base.ensures c.in_ok-slots.ensures
@@ -35,12 +39,12 @@ pub captures-requires-clause-base : goal.captures-requires-clause-base
 captures-requires-clause-base c = c.count-base.ensures
 
 pub captures-requires-clause-wired : goal.captures-requires-clause-wired
-captures-requires-clause-wired c = subst (λ xs. AreWired c.args.source.now c.args.scope.now xs c.wires.new.ops) (sym c.as_slice.ensures.value) c.in_ok-wires.ensures
+captures-requires-clause-wired c = subst (λ xs. AreWired c.args.source.now c.args.checked.now.scope xs c.wires.new.ops) (sym c.as_slice.ensures.value) c.in_ok-wires.ensures
 
 pub returns : goal.returns
 returns c =
     let m = c.args.source.now in
-    let scope = c.args.scope.now in
+    let scope = c.args.checked.now.scope in
     let by_layer = c.meaning_by_layer.ensures.value in
     let a = c.requires.sound.acyclic in
     let few = scope-few m c.requires.sound.narrow a.driven a.once scope c.requires.scope in

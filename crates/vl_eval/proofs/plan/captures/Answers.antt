@@ -1,8 +1,9 @@
-use Rattle.std.proofs.Common.{◌≡◌, ◌≤◌, ◌++◌, ◌∷◌, [], List, length, take, Vec, Global, refl, sym, subst, ap, ◌∙◌}
+use Rattle.std.proofs.Common.{◌≡◌, ◌≤◌, ◌++◌, ◌∷◌, [], true, List, length, take, Contains, Vec, Global, refl, sym, subst, ap, ◌∙◌}
 use Rattle.std.proofs.lemmas.List.{take_all}
 use Rattle.vl_ast.specs.declared.modules.ModItem.{ModItem}
 use Rattle.vl_ast.specs.declared.modules.ModItem.TheVariants.{Always}
-use Rattle.vl_check.specs.Scope.{names_in}
+use Rattle.vl_ast.specs.Conditions.{is_number, is_sound, is_sound_condition}
+use Rattle.vl_check.specs.Scope.{names_in, nets_in}
 use Rattle.vl_eval.specs.inner.Assigning.{Captures, next_names}
 use Rattle.vl_eval.specs.declared.ops.Op.{Op}
 use Rattle.vl_eval.specs.declared.plan.Capture.{Capture}
@@ -11,28 +12,25 @@ use Rattle.vl_eval.specs.inner.Site.{ArePlaced, slot_in}
 use Rattle.vl_eval.proofs.Capturing.{captured-more, captured-none, captured-same, item-there, items-more, known-placed, next-known, reset-known}
 use Rattle.vl_eval.proofs.Sounds.{scope-always, scope-few}
 use Rattle.vl_eval.proofs.plan.captures.Goals as goal
-use Rattle.vl_eval.proofs.plan.captures.Goals.{in-Always+in_ok-from+in_ok-push, in_default}
+use Rattle.vl_eval.proofs.plan.captures.Goals.{In-Always, in-Always+in_ok-from+in_ok-push, in_default}
+
+-- the item stands in the module, and is sound
+there : (c : In-Always) → Contains c.args.source.now.items (Always c.in-Always.name c.in-Always.first c.in-Always.condition c.in-Always.value)
+there c = item-there c.as_slice-item-items.result.now c.args.source.now.items c.loop-item.item-index c.item-item.result _ c.as_slice-item-items.ensures c.loop-item-test.true c.item-item.is c.in-Always.is
+
+sound : (c : In-Always) → (is_number c.in-Always.first ≡ true) × (is_sound_condition (nets_in c.args.site.now.scope.now) c.in-Always.condition ≡ true) × (is_sound (nets_in c.args.site.now.scope.now) c.in-Always.value ≡ true)
+sound c =
+    let a = c.in-Always in
+    scope-always c.args.source.now c.requires.sound.narrow c.args.site.now.scope.now c.requires.scope a.name a.first a.condition a.value (there c)
 
 pub build_next-requires-clause-number : goal.build_next-requires-clause-number
-build_next-requires-clause-number c =
-    let m = c.args.source.now in
-    let a = c.in-Always in
-    let there = item-there c.as_slice-item-items.result.now m.items c.loop-item.item-index c.item-item.result _ c.as_slice-item-items.ensures c.loop-item-test.true c.item-item.is a.is in
-    (scope-always m c.requires.sound.narrow c.args.site.now.scope.now c.requires.scope a.name a.first a.condition a.value there).0
+build_next-requires-clause-number c = (sound (goal.at.build_next-requires-clause-number c).In-Always).0
 
 pub build_next-requires-clause-condition : goal.build_next-requires-clause-condition
-build_next-requires-clause-condition c =
-    let m = c.args.source.now in
-    let a = c.in-Always in
-    let there = item-there c.as_slice-item-items.result.now m.items c.loop-item.item-index c.item-item.result _ c.as_slice-item-items.ensures c.loop-item-test.true c.item-item.is a.is in
-    (scope-always m c.requires.sound.narrow c.args.site.now.scope.now c.requires.scope a.name a.first a.condition a.value there).1
+build_next-requires-clause-condition c = (sound (goal.at.build_next-requires-clause-condition c).In-Always).1
 
 pub build_next-requires-clause-value : goal.build_next-requires-clause-value
-build_next-requires-clause-value c =
-    let m = c.args.source.now in
-    let a = c.in-Always in
-    let there = item-there c.as_slice-item-items.result.now m.items c.loop-item.item-index c.item-item.result _ c.as_slice-item-items.ensures c.loop-item-test.true c.item-item.is a.is in
-    (scope-always m c.requires.sound.narrow c.args.site.now.scope.now c.requires.scope a.name a.first a.condition a.value there).2
+build_next-requires-clause-value c = (sound (goal.at.build_next-requires-clause-value c).In-Always).2
 
 pub build_next-requires-clause-placed : goal.build_next-requires-clause-placed
 build_next-requires-clause-placed c =
@@ -42,12 +40,11 @@ build_next-requires-clause-placed c =
     let a = c.in-Always in
     let w = c.requires.sound.acyclic in
     let few = scope-few m c.requires.sound.narrow w.driven w.once scope c.requires.scope in
-    let there = item-there c.as_slice-item-items.result.now m.items c.loop-item.item-index c.item-item.result _ c.as_slice-item-items.ensures c.loop-item-test.true c.item-item.is a.is in
     subst (λ n. ArePlaced n scope site.slots.now c.loop-item.ops (next_names c.bytes.result.now a.condition a.value)) (sym c.requires.base)
     (subst (λ n. ArePlaced (length (names_in scope)) scope site.slots.now c.loop-item.ops (next_names n a.condition a.value)) (sym c.bytes.ensures)
     (known-placed c.meaning_by_layer.ensures.value m scope c.requires.scope w.driven w.once few site.slots.now c.args.ops.now c.requires.wired c.loop-item.ops c.loop-item.invariant.grows (next_names a.name a.condition a.value)
     (next-known c.meaning_by_layer.ensures.value m scope c.requires.scope w.driven w.once few site.slots.now c.args.ops.now c.requires.wired
-    (reset-known c.meaning_by_layer.ensures.value m scope c.requires.scope w.driven w.once few site.slots.now c.args.ops.now c.requires.wired c.requires.sound.clocked) a.name a.first a.condition a.value there)))
+    (reset-known c.meaning_by_layer.ensures.value m scope c.requires.scope w.driven w.once few site.slots.now c.args.ops.now c.requires.wired c.requires.sound.clocked) a.name a.first a.condition a.value (there (goal.at.build_next-requires-clause-placed c).In-Always))))
 
 pub loop-item-preserved : goal.loop-item-preserved
 loop-item-preserved c =

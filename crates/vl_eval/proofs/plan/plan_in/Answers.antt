@@ -7,7 +7,7 @@ use Rattle.vl_eval.proofs.plan.plan_in.Goals as goal
 pub returns : goal.returns
 returns c =
     let m = c.args.source.now in
-    let scope = c.args.scope.now in
+    let scope = c.args.checked.now.scope in
     let operations = c.in_ok-ops.ensures in
     record {
       base = c.count-base.ensures;

@@ -1,5 +1,8 @@
 use Rattle.vl_eval.proofs.plan.plan_of.Goals as goal
 
+pub plan_in-requires : goal.plan_in-requires
+plan_in-requires c = let checked = c.in_ok-checked.ensures in record { sound = checked.sound; scope = checked.scope; order = checked.order }
+
 pub returns-clause-planned : goal.returns-clause-planned
 returns-clause-planned c = record {
   sound = c.in_ok-checked.ensures.sound;

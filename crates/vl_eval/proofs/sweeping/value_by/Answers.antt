@@ -77,7 +77,7 @@ pub returns-in-Constant : goal.returns-in-Constant
 returns-in-Constant c = ap (gives c.args.wide.now c.args.values.now) (sym c.in-Constant.is)
 
 pub bounds-values-part : goal.bounds-values-part
-bounds-values-part c = subst (reads c.args.wide.now c.args.values.now) c.in-Extended.is c.requires.reads
+bounds-values-part c = (subst (reads c.args.wide.now c.args.values.now) c.in-Extended.is c.requires.reads).0
 
 pub returns-in-Extended : goal.returns-in-Extended
 returns-in-Extended c = c.extended.ensures ∙ ap (gives c.args.wide.now c.args.values.now) (sym c.in-Extended.is)
@@ -89,19 +89,19 @@ pub returns-in-Select : goal.returns-in-Select
 returns-in-Select c = ap (gives c.args.wide.now c.args.values.now) (sym c.in-Select.is)
 
 pub bounds-values-part-in-Negate : goal.bounds-values-part-in-Negate
-bounds-values-part-in-Negate c = subst (reads c.args.wide.now c.args.values.now) c.in-Negate.is c.requires.reads
+bounds-values-part-in-Negate c = (subst (reads c.args.wide.now c.args.values.now) c.in-Negate.is c.requires.reads).0
 
 pub returns-in-Negate : goal.returns-in-Negate
 returns-in-Negate c = ap (gives c.args.wide.now c.args.values.now) (sym c.in-Negate.is)
 
 pub bounds-values-part-in-Invert : goal.bounds-values-part-in-Invert
-bounds-values-part-in-Invert c = subst (reads c.args.wide.now c.args.values.now) c.in-Invert.is c.requires.reads
+bounds-values-part-in-Invert c = (subst (reads c.args.wide.now c.args.values.now) c.in-Invert.is c.requires.reads).0
 
 pub returns-in-Invert : goal.returns-in-Invert
 returns-in-Invert c = ap (gives c.args.wide.now c.args.values.now) (sym c.in-Invert.is)
 
 pub bounds-values-part-in-IsZero : goal.bounds-values-part-in-IsZero
-bounds-values-part-in-IsZero c = subst (reads c.args.wide.now c.args.values.now) c.in-IsZero.is c.requires.reads
+bounds-values-part-in-IsZero c = (subst (reads c.args.wide.now c.args.values.now) c.in-IsZero.is c.requires.reads).0
 
 pub bounds-values-part-in-Up : goal.bounds-values-part-in-Up
 bounds-values-part-in-Up c = (subst (reads c.args.wide.now c.args.values.now) c.in-Up.is c.requires.reads).0

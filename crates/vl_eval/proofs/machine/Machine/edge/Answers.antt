@@ -1,4 +1,4 @@
-use Rattle.std.proofs.Common.{◌≡◌, ◌<◌, ℕ, length, take, slice_index, Contains, sym, ap, subst, ◌∙◌}
+use Rattle.std.proofs.Common.{◌≡◌, ◌<◌, ℕ, List, length, take, slice_index, Contains, sym, ap, subst, ◌∙◌}
 use Rattle.std.specs.Vec.{with_items}
 use Rattle.std.proofs.lemmas.List.{with_items_is}
 use Rattle.vl_eval.specs.inner.Edges.{IsPut, IsTaken}
@@ -7,6 +7,7 @@ use Rattle.vl_eval.proofs.Swept.{constants-settled}
 use Rattle.vl_eval.proofs.FixedPlaces.{captures-apart, captures-within, places-apart, places-within}
 use Rattle.vl_eval.proofs.Edges.{edge-fits-named, edge-named, edge-still-named, ops-stay}
 use Rattle.vl_eval.proofs.machine.Machine.edge.Goals as goal
+use Rattle.vl_eval.proofs.machine.Machine.edge.Goals.{After-put, After-sweep}
 
 pub capture-requires-clause-within : goal.capture-requires-clause-within
 capture-requires-clause-within c = λ d h.
@@ -36,49 +37,60 @@ put-requires-clause-apart c =
     subst (λ ps. (i j : ℕ) → i < j → j < length ps → slice_index ps i ≡ slice_index ps j → ⊥) (sym c.as_slice-2.ensures.value)
     (places-apart c.meaning_by_layer.ensures.value self.source of.sound of.scope of.scope_is self.plan of.plan_is)
 
+-- what was captured of the row, and what was put after it
+taken : (c : After-put) → IsTaken c.args.self.now.plan.captures.items c.args.self.now.values.items c.capture.new.values
+taken c =
+    subst (λ v. IsTaken c.args.self.now.plan.captures.items v c.capture.new.values) c.as_mut_slice-values.ensures.value
+    (subst (λ cs. IsTaken cs c.as_mut_slice-values.result.now c.capture.new.values) c.as_slice.ensures.value c.capture.ensures)
+
+put : (c : After-put) → IsPut c.args.self.now.plan.inputs.items c.args.inputs.now c.capture.new.values c.put.new.values
+put c = subst (λ ps. IsPut ps c.args.inputs.now c.capture.new.values c.put.new.values) c.as_slice-2.ensures.value c.put.ensures
+
+-- the values after the sweep
+abbrev swept : After-sweep → List ℕ
+swept c = (with_items c.args.self.now.values c.sweep.new.values).items
+
+long : (c : After-sweep) → length c.sweep.new.values ≡ length c.args.self.now.values.items
+long c = c.sweep.ensures.long ∙ c.put.ensures.long ∙ c.capture.ensures.long ∙ ap length c.as_mut_slice-values.ensures.value
+
+is : (c : After-sweep) → swept c ≡ c.sweep.new.values
+is c = with_items_is c.args.self.now.values c.sweep.new.values (long c ∙ sym c.args.self.now.values.ok.0)
+
+kept : (c : After-sweep) → take c.args.self.now.plan.base (swept c) ≡ take c.args.self.now.plan.base c.put.new.values
+kept c = subst (λ v. take c.args.self.now.plan.base v ≡ take c.args.self.now.plan.base c.put.new.values) (sym (is c)) c.sweep.ensures.kept
+
+settled : (c : After-sweep) → IsSettled c.args.self.now.plan.base c.args.self.now.plan.ops (λ k. slice_index (swept c) k)
+settled c = subst (λ v. IsSettled c.args.self.now.plan.base c.args.self.now.plan.ops (λ k. slice_index v k)) (sym (is c)) c.sweep.ensures.settled
+
 pub sweep-requires-clause-begun : goal.sweep-requires-clause-begun
 sweep-requires-clause-begun c =
+    let point = (goal.at.sweep-requires-clause-begun c).After-put in
     let self = c.args.self.now in
     let ready = c.requires.ready in
     let of = ready.plan_is in
-    let taken = subst (λ v. IsTaken self.plan.captures.items v c.capture.new.values) c.as_mut_slice-values.ensures.value (subst (λ cs. IsTaken cs c.as_mut_slice-values.result.now c.capture.new.values) c.as_slice.ensures.value c.capture.ensures) in
-    let put = subst (λ ps. IsPut ps c.args.inputs.now c.capture.new.values c.put.new.values) c.as_slice-2.ensures.value c.put.ensures in
     constants-settled self.plan.base self.plan.constants self.plan.ops self.values.items c.put.new.values of.plan_is.constants ready.settled
-    (ops-stay c.meaning_by_layer.ensures.value self.source of.sound of.scope of.scope_is self.plan of.plan_is self.values.items c.capture.new.values c.put.new.values c.args.inputs.now taken put)
+    (ops-stay c.meaning_by_layer.ensures.value self.source of.sound of.scope of.scope_is self.plan of.plan_is self.values.items c.capture.new.values c.put.new.values c.args.inputs.now (taken point) (put point))
 
 pub returns-clause-row : goal.returns-clause-row
 returns-clause-row c =
+    let points = goal.at.returns-clause-row c in
     let self = c.args.self.now in
-    let ready = c.requires.ready in
-    let of = ready.plan_is in
-    let taken = subst (λ v. IsTaken self.plan.captures.items v c.capture.new.values) c.as_mut_slice-values.ensures.value (subst (λ cs. IsTaken cs c.as_mut_slice-values.result.now c.capture.new.values) c.as_slice.ensures.value c.capture.ensures) in
-    let put = subst (λ ps. IsPut ps c.args.inputs.now c.capture.new.values c.put.new.values) c.as_slice-2.ensures.value c.put.ensures in
-    let now = (with_items self.values c.sweep.new.values).items in
-    let long = c.sweep.ensures.long ∙ c.put.ensures.long ∙ c.capture.ensures.long ∙ ap length c.as_mut_slice-values.ensures.value in
-    let is : now ≡ c.sweep.new.values = with_items_is self.values c.sweep.new.values (long ∙ sym self.values.ok.0) in
-    let kept = subst (λ v. take self.plan.base v ≡ take self.plan.base c.put.new.values) (sym is) c.sweep.ensures.kept in
-    let settled = subst (λ v. IsSettled self.plan.base self.plan.ops (λ k. slice_index v k)) (sym is) c.sweep.ensures.settled in
-    edge-named c.meaning_by_layer.ensures.value self.source of.sound of.scope of.scope_is self.plan of.plan_is self.values.items c.capture.new.values c.put.new.values c.args.inputs.now taken put c.requires.fit
-    now ready.settled ready.fits ready.still kept settled
+    let of = c.requires.ready.plan_is in
+    edge-named c.meaning_by_layer.ensures.value self.source of.sound of.scope of.scope_is self.plan of.plan_is self.values.items c.capture.new.values c.put.new.values c.args.inputs.now (taken points.After-put) (put points.After-put) c.requires.fit
+    (swept points.After-sweep) c.requires.ready.settled c.requires.ready.fits c.requires.ready.still (kept points.After-sweep) (settled points.After-sweep)
 
 pub returns-clause-ready : goal.returns-clause-ready
 returns-clause-ready c =
+    let points = goal.at.returns-clause-ready c in
     let self = c.args.self.now in
     let ready = c.requires.ready in
     let of = ready.plan_is in
-    let taken = subst (λ v. IsTaken self.plan.captures.items v c.capture.new.values) c.as_mut_slice-values.ensures.value (subst (λ cs. IsTaken cs c.as_mut_slice-values.result.now c.capture.new.values) c.as_slice.ensures.value c.capture.ensures) in
-    let put = subst (λ ps. IsPut ps c.args.inputs.now c.capture.new.values c.put.new.values) c.as_slice-2.ensures.value c.put.ensures in
-    let now = (with_items self.values c.sweep.new.values).items in
-    let long = c.sweep.ensures.long ∙ c.put.ensures.long ∙ c.capture.ensures.long ∙ ap length c.as_mut_slice-values.ensures.value in
-    let is : now ≡ c.sweep.new.values = with_items_is self.values c.sweep.new.values (long ∙ sym self.values.ok.0) in
-    let kept = subst (λ v. take self.plan.base v ≡ take self.plan.base c.put.new.values) (sym is) c.sweep.ensures.kept in
-    let settled = subst (λ v. IsSettled self.plan.base self.plan.ops (λ k. slice_index v k)) (sym is) c.sweep.ensures.settled in
     record {
       plan_is = of;
-      room = ap length is ∙ long ∙ ready.room;
-      settled = settled;
-      fits = edge-fits-named c.meaning_by_layer.ensures.value self.source of.sound of.scope of.scope_is self.plan of.plan_is self.values.items c.capture.new.values c.put.new.values c.args.inputs.now taken put c.requires.fit
-          now ready.settled ready.fits ready.still kept settled;
-      still = edge-still-named c.meaning_by_layer.ensures.value self.source of.sound of.scope of.scope_is self.plan of.plan_is self.values.items c.capture.new.values c.put.new.values c.args.inputs.now taken put c.requires.fit
-          now ready.settled ready.fits ready.still kept settled;
+      room = ap length (is points.After-sweep) ∙ long points.After-sweep ∙ ready.room;
+      settled = settled points.After-sweep;
+      fits = edge-fits-named c.meaning_by_layer.ensures.value self.source of.sound of.scope of.scope_is self.plan of.plan_is self.values.items c.capture.new.values c.put.new.values c.args.inputs.now (taken points.After-put) (put points.After-put) c.requires.fit
+          (swept points.After-sweep) ready.settled ready.fits ready.still (kept points.After-sweep) (settled points.After-sweep);
+      still = edge-still-named c.meaning_by_layer.ensures.value self.source of.sound of.scope of.scope_is self.plan of.plan_is self.values.items c.capture.new.values c.put.new.values c.args.inputs.now (taken points.After-put) (put points.After-put) c.requires.fit
+          (swept points.After-sweep) ready.settled ready.fits ready.still (kept points.After-sweep) (settled points.After-sweep);
     }

@@ -3,22 +3,18 @@ use Rattle.vl_eval.proofs.machine.Machine.new.Goals as goal
 
 pub returns-in-Ok-first_values-clause-row : goal.returns-in-Ok-first_values-clause-row
 returns-in-Ok-first_values-clause-row c =
-    let plan = c.in-Ok.plan in
     let of = c.in-Ok.ensures.planned in
-    let values = c.in-Ok-first_values.values.items in
     let first = c.in-Ok-first_values.ensures in
-    first-named c.meaning_by_layer.ensures.value c.args.source of.sound of.scope of.scope_is plan of.plan_is first.zeros values first.none first.kept first.settled
+    first-named c.meaning_by_layer.ensures.value c.args.source of.sound of.scope of.scope_is c.in-Ok.plan of.plan_is first.zeros c.in-Ok-first_values.values.items first.none first.kept first.settled
 
 pub returns-in-Ok-first_values-clause-ready : goal.returns-in-Ok-first_values-clause-ready
 returns-in-Ok-first_values-clause-ready c =
-    let plan = c.in-Ok.plan in
     let of = c.in-Ok.ensures.planned in
-    let values = c.in-Ok-first_values.values.items in
     let first = c.in-Ok-first_values.ensures in
     record {
       plan_is = of;
       room = first.long;
       settled = first.settled;
-      fits = first-fits-named c.meaning_by_layer.ensures.value c.args.source of.sound of.scope of.scope_is plan of.plan_is first.zeros values first.none first.kept first.settled;
-      still = first-still-named c.meaning_by_layer.ensures.value c.args.source of.sound of.scope of.scope_is plan of.plan_is first.zeros values first.none first.kept first.settled;
+      fits = first-fits-named c.meaning_by_layer.ensures.value c.args.source of.sound of.scope of.scope_is c.in-Ok.plan of.plan_is first.zeros c.in-Ok-first_values.values.items first.none first.kept first.settled;
+      still = first-still-named c.meaning_by_layer.ensures.value c.args.source of.sound of.scope of.scope_is c.in-Ok.plan of.plan_is first.zeros c.in-Ok-first_values.values.items first.none first.kept first.settled;
     }
