@@ -6,7 +6,7 @@ use Rattle.std.proofs.lemmas.List.{drop_all}
 use Rattle.vl_ast.specs.declared.modules.Module.{Module}
 use Rattle.vl_ast.specs.Grammar.{Spells, most_items}
 use Rattle.vl_read.specs.declared.scan.Mode.{Mode}
-use Rattle.vl_read.specs.declared.scan.Mode.TheVariants.{Between, Word, Mark, Slash, LineComment, BlockComment, Star}
+use Rattle.vl_read.specs.declared.scan.Mode.TheVariants.{Between, Word, Mark}
 use Rattle.vl_read.specs.inner.Places.{Parser}
 use Rattle.vl_read.specs.inner.Lexemes.{move}
 use Rattle.vl_read.specs.inner.Plain.{step}
@@ -22,22 +22,14 @@ abbrev pub ReachedAt : List ℕ → Parser → Mode → List ℕ → ℕ → Typ
 ReachedAt bytes parser mode lexeme place = Reached bytes (drop place bytes) parser mode lexeme (line_at (take place bytes))
 
 begun_none : (mode : Mode) (byte : ℕ) → IsBeyond mode → begun_with mode byte ≡ []
-begun_none Between byte h = refl
 begun_none Word byte h = absurd h
 begun_none Mark byte h = absurd h
-begun_none Slash byte h = refl
-begun_none LineComment byte h = refl
-begun_none BlockComment byte h = refl
-begun_none Star byte h = refl
+begun_none _ byte h = refl
 
 begun_one : (mode : Mode) (byte : ℕ) → IsWithin mode → begun_with mode byte ≡ byte ∷ []
-begun_one Between byte h = absurd h
 begun_one Word byte h = refl
 begun_one Mark byte h = refl
-begun_one Slash byte h = absurd h
-begun_one LineComment byte h = absurd h
-begun_one BlockComment byte h = absurd h
-begun_one Star byte h = absurd h
+begun_one _ byte h = absurd h
 
 module _ (bytes : List ℕ) (parser : Parser) (mode : Mode) (start : ℕ) (reached : ReachedAt bytes parser mode [] start) (beyond : IsBeyond mode) (inside : start < length bytes) where
   -- a byte that may not stand there

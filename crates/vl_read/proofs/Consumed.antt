@@ -70,13 +70,10 @@ IsText frames (Low name high) text = text ≡ frames_tokens frames ++ (Identifie
 -- how deep the parts of what is begun nest
 abbrev pub frame_depth : Frame → ℕ
 frame_depth (InConcat parts) = fold max 0 (map depth parts)
-frame_depth (InRepeat count) = 0
-frame_depth (InCast signed) = 0
-frame_depth (InUnary op) = 0
-frame_depth InLeft = 0
 frame_depth (InRight op left) = depth left
 frame_depth (InChosen test) = depth test
 frame_depth (InOther test chosen) = max (depth test) (depth chosen)
+frame_depth _ = 0
 
 -- how deep all that is begun nests
 abbrev pub frames_depth : List Frame → ℕ
@@ -90,13 +87,10 @@ depth_push (f ∷ fs) frame = omega (arith, depth_push fs frame)
 -- whether no concatenation in it is empty
 abbrev pub is_frame_filled : Frame → Bool
 is_frame_filled (InConcat parts) = list_all (λ more. more) (map is_filled parts)
-is_frame_filled (InRepeat count) = true
-is_frame_filled (InCast signed) = true
-is_frame_filled (InUnary op) = true
-is_frame_filled InLeft = true
 is_frame_filled (InRight op left) = is_filled left
 is_frame_filled (InChosen test) = is_filled test
 is_frame_filled (InOther test chosen) = is_filled test && is_filled chosen
+is_frame_filled _ = true
 
 -- an operand of the grammar, inside of so many frames
 abbrev pub IsGood : ℕ → Expr → Type 0
@@ -104,16 +98,12 @@ IsGood around value = (depth value + around ≤ 256) × (is_filled value ≡ tru
 
 -- what the spot has fits into this many frames
 abbrev pub HasRoom : ℕ → Spot → Type 0
-HasRoom around Operand = Unit {0}
 HasRoom around Opened = around < 256
 HasRoom around Braced = around < 256
-HasRoom around (Begins mark) = Unit {0}
 HasRoom around (Value value) = IsGood around value
 HasRoom around (Ends value mark) = IsGood around value
 HasRoom around (Amount op value) = IsGood (around + 1) value
-HasRoom around (Index name) = Unit {0}
-HasRoom around (High name place) = Unit {0}
-HasRoom around (Low name high) = Unit {0}
+HasRoom around _ = Unit {0}
 
 -- an expression is begun by the text
 pub record Begun (frames : List Frame) (spot : Spot) (text : List Token) : Type 0 where

@@ -55,10 +55,7 @@ starts_opened : (draft : Draft) (goal : Goal) (frames : List Frame) (lexeme : Li
 unfolding step attr_step declared net_step compound_step operand_step unary_or_left opened_step braced_step left_step frame_step goal_step spot_step item_step step_at kind_of dec_of sized_of
 starts_opened draft goal frames lexeme (as_name _ h) = rw h refl
 starts_opened draft goal frames lexeme (as_number _ n h) = rw h refl
-starts_opened draft goal frames lexeme as_open = refl
-starts_opened draft goal frames lexeme as_brace = refl
-starts_opened draft goal frames lexeme as_signed = refl
-starts_opened draft goal frames lexeme as_unsigned = refl
+starts_opened draft goal frames lexeme _ = refl
 
 -- and after `{` too
 starts_braced : (draft : Draft) (goal : Goal) (frames : List Frame) (lexeme : List ℕ) → Starts lexeme →
@@ -66,10 +63,7 @@ starts_braced : (draft : Draft) (goal : Goal) (frames : List Frame) (lexeme : Li
 unfolding step attr_step declared net_step compound_step operand_step unary_or_left opened_step braced_step left_step frame_step goal_step spot_step item_step step_at kind_of dec_of sized_of
 starts_braced draft goal frames lexeme (as_name _ h) = rw h refl
 starts_braced draft goal frames lexeme (as_number _ n h) = rw h refl
-starts_braced draft goal frames lexeme as_open = refl
-starts_braced draft goal frames lexeme as_brace = refl
-starts_braced draft goal frames lexeme as_signed = refl
-starts_braced draft goal frames lexeme as_unsigned = refl
+starts_braced draft goal frames lexeme _ = refl
 
 abbrev First : List (List ℕ) → Type 0
 First lexemes = (lexeme : List ℕ) × (more : List (List ℕ)) × (lexemes ≡ lexeme ∷ more) × Starts lexeme
@@ -89,10 +83,7 @@ first_of (Expr-F.Concat parts) tokens lexemes w = (w.0, w.1, w.2, starts_at w.0 
 first_of (Expr-F.Repeat count part) tokens lexemes w = (w.0, w.1, w.2, starts_at w.0 _ w.3 as_brace)
 first_of (Expr-F.AsSigned part) tokens lexemes w = (w.0, w.1, w.2, starts_at w.0 _ w.3 as_signed)
 first_of (Expr-F.AsUnsigned part) tokens lexemes w = (w.0, w.1, w.2, starts_at w.0 _ w.3 as_unsigned)
-first_of (Expr-F.Unary op part) tokens lexemes w = (w.0, w.1, w.2, starts_at w.0 _ w.3 as_open)
-first_of (Expr-F.Binary op left right) tokens lexemes w = (w.0, w.1, w.2, starts_at w.0 _ w.3 as_open)
-first_of (Expr-F.Shift op part amount) tokens lexemes w = (w.0, w.1, w.2, starts_at w.0 _ w.3 as_open)
-first_of (Expr-F.Choose test chosen other) tokens lexemes w = (w.0, w.1, w.2, starts_at w.0 _ w.3 as_open)
+first_of _ tokens lexemes w = (w.0, w.1, w.2, starts_at w.0 _ w.3 as_open)
 
 pub first_lexeme : (e : Expr) → HasFirst e
 first_lexeme e = by_layers HasFirst (λ y tokens lexemes w. let x : Expr-F Expr = map-Expr ((e : Expr) × HasFirst e) Expr (λ p. p.0) y in first_of x tokens lexemes (subst (λ t. Writes t lexemes) (layer_tokens x tokens) w).each) e

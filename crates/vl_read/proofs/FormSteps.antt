@@ -2,11 +2,11 @@
 use Rattle.std.proofs.Common.{◌≡◌, ℕ, ◌<◌, true, false, cond, List, [], ◌∷◌, ◌++◌, length, Some, None, refl, ◌∙◌, ap, codes, bytes_eq}
 use Rattle.std.proofs.lemmas.Bool.{lt-ltb}
 use Rattle.vl_ast.specs.declared.expressions.UnOp.{UnOp}
-use Rattle.vl_ast.specs.declared.expressions.UnOp.TheVariants.{Negate, Invert, IsZero}
+use Rattle.vl_ast.specs.declared.expressions.UnOp.TheVariants.{Negate}
 use Rattle.vl_ast.specs.declared.expressions.BinOp.{BinOp}
-use Rattle.vl_ast.specs.declared.expressions.BinOp.TheVariants.{Add, Subtract, Multiply, And, Or, Xor, Equal, NotEqual, Less, LessEqual, Greater, GreaterEqual, Both, Either}
+use Rattle.vl_ast.specs.declared.expressions.BinOp.TheVariants.{Add}
 use Rattle.vl_ast.specs.declared.expressions.ShiftOp.{ShiftOp}
-use Rattle.vl_ast.specs.declared.expressions.ShiftOp.TheVariants.{Left, Right, RightSigned}
+use Rattle.vl_ast.specs.declared.expressions.ShiftOp.TheVariants.{Left}
 use Rattle.vl_ast.specs.declared.expressions.Sized.{Sized}
 use Rattle.vl_ast.specs.declared.expressions.Expr.{Expr}
 use Rattle.vl_ast.specs.declared.expressions.Expr.TheOpen.{Expr-F}
@@ -96,80 +96,39 @@ count_step draft goal frames n lexeme h = rw h
 pub unary_step : (draft : Draft) (goal : Goal) (frames : List Frame) (op : UnOp) → step (at draft goal frames Opened) (unary_text op) ≡ Some (at draft goal (frames ++ InUnary op ∷ []) Operand)
 unfolding step attr_step declared net_step compound_step operand_step unary_or_left opened_step braced_step left_step frame_step goal_step spot_step item_step step_at kind_of dec_of sized_of
 unary_step draft goal frames Negate = refl
-unary_step draft goal frames Invert = refl
-unary_step draft goal frames IsZero = refl
+unary_step draft goal frames _ = refl
 
 -- the words of operators
 
 infix_binary : (op : BinOp) → infix_of (binary_text op) ≡ Some op
 unfolding infix_of
 infix_binary Add = refl
-infix_binary Subtract = refl
-infix_binary Multiply = refl
-infix_binary And = refl
-infix_binary Or = refl
-infix_binary Xor = refl
-infix_binary Equal = refl
-infix_binary NotEqual = refl
-infix_binary Less = refl
-infix_binary LessEqual = refl
-infix_binary Greater = refl
-infix_binary GreaterEqual = refl
-infix_binary Both = refl
-infix_binary Either = refl
+infix_binary _ = refl
 
 no_question : (op : BinOp) → bytes_eq (binary_text op) (codes "?") ≡ false
 no_question Add = refl
-no_question Subtract = refl
-no_question Multiply = refl
-no_question And = refl
-no_question Or = refl
-no_question Xor = refl
-no_question Equal = refl
-no_question NotEqual = refl
-no_question Less = refl
-no_question LessEqual = refl
-no_question Greater = refl
-no_question GreaterEqual = refl
-no_question Both = refl
-no_question Either = refl
+no_question _ = refl
 
 infix_shift : (op : ShiftOp) → infix_of (shift_text op) ≡ None
 unfolding infix_of
 infix_shift Left = refl
-infix_shift Right = refl
-infix_shift RightSigned = refl
+infix_shift _ = refl
 
 shift_shift : (op : ShiftOp) → shift_of (shift_text op) ≡ Some op
 shift_shift Left = refl
-shift_shift Right = refl
-shift_shift RightSigned = refl
+shift_shift _ = refl
 
 shift_no_question : (op : ShiftOp) → bytes_eq (shift_text op) (codes "?") ≡ false
 shift_no_question Left = refl
-shift_no_question Right = refl
-shift_no_question RightSigned = refl
+shift_no_question _ = refl
 
 binary_no_index : (op : BinOp) → bytes_eq (binary_text op) (codes "[") ≡ false
 binary_no_index Add = refl
-binary_no_index Subtract = refl
-binary_no_index Multiply = refl
-binary_no_index And = refl
-binary_no_index Or = refl
-binary_no_index Xor = refl
-binary_no_index Equal = refl
-binary_no_index NotEqual = refl
-binary_no_index Less = refl
-binary_no_index LessEqual = refl
-binary_no_index Greater = refl
-binary_no_index GreaterEqual = refl
-binary_no_index Both = refl
-binary_no_index Either = refl
+binary_no_index _ = refl
 
 shift_no_index : (op : ShiftOp) → bytes_eq (shift_text op) (codes "[") ≡ false
 shift_no_index Left = refl
-shift_no_index Right = refl
-shift_no_index RightSigned = refl
+shift_no_index _ = refl
 
 -- what follows the first operand
 

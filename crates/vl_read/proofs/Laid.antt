@@ -3,7 +3,7 @@ use Rattle.std.proofs.Common.{◌≡◌, ◌≢◌, ⊎_elim, ℕ, Bool, true, f
 use Rattle.std.specs.Prelude.{⊤, ◌==◌, ◌&&◌}
 use Rattle.std.proofs.lemmas.Bool.{and_parts, eqb-true, eqb-false, cases_Bool, false≢true, true≢false}
 use Rattle.std.proofs.lemmas.Option.{none-some, same_Some}
-use Rattle.vl_ast.specs.Tokens.{Token, Key, Sign, Identifier, Number, Based, Blank, is_blank, is_word, is_longest, IsWritten, IsLongest, Lays}
+use Rattle.vl_ast.specs.Tokens.{Token, Sign, Blank, is_blank, is_word, is_longest, IsWritten, IsLongest, Lays}
 use Rattle.vl_read.specs.declared.scan.ByteClass.{ByteClass}
 use Rattle.vl_read.specs.declared.scan.ByteClass.TheVariants.{OfWord, OfBlank, OfComment, OfMark, OfNone}
 use Rattle.vl_read.specs.declared.scan.Mode.{Mode}
@@ -71,29 +71,20 @@ mark_begins (byte ∷ bytes) h = mark_class (class_of byte) (and_parts (is_mark_
 -- what begins as a word is written for a word, and so with marks
 word_token : (token : Token) (written : List ℕ) → is_fine token ≡ true → IsWritten token written → Begins OfWord written → is_word token ≡ true
 unfolding is_fine
-word_token (Key word) written fine w begins = refl
 word_token (Sign mark) written fine w begins = absurd (begins_one written begins (subst (Begins OfMark) (sym w) (mark_begins mark fine)))
-word_token (Identifier name) written fine w begins = refl
-word_token (Number n) written fine w begins = refl
-word_token (Based n) written fine w begins = refl
+word_token _ written fine w begins = refl
 
 mark_token : (token : Token) (written : List ℕ) → is_fine token ≡ true → IsWritten token written → Begins OfMark written → is_word token ≡ false
 mark_token token written fine w begins =
     ⊎_elim (λ e. absurd (begins_one written (word_begins written (word_text token written e fine w)) begins)) (λ e. e) (cases_Bool (is_word token))
 
 word_longest : (token : Token) (rest : List ℕ) → is_word token ≡ true → IsLongest token rest
-word_longest (Key word) rest h = tt
 word_longest (Sign mark) rest h = absurd (false≢true h)
-word_longest (Identifier name) rest h = tt
-word_longest (Number n) rest h = tt
-word_longest (Based n) rest h = tt
+word_longest _ rest h = tt
 
 mark_longest : (token : Token) (written rest : List ℕ) → IsWritten token written → written ≢ [] → IsCut written rest → IsLongest token rest
-mark_longest (Key word) written rest w some cut = tt
 mark_longest (Sign mark) written rest w some cut = subst (λ m. is_longest m rest ≡ true) w (longest_here written rest some cut)
-mark_longest (Identifier name) written rest w some cut = tt
-mark_longest (Number n) written rest w some cut = tt
-mark_longest (Based n) written rest w some cut = tt
+mark_longest _ written rest w some cut = tt
 
 -- the tokens that the lexemes are written for, the first after this one
 pub record AreTokens (tokens : List Token) (lexemes : List (List ℕ)) : Type 0 where
@@ -211,10 +202,8 @@ at_end : AreLaid []
 at_end Between lexeme tokens d = λ after wordless. nothing_laid after tokens (tokens_of tokens _ d.lexemes d.read d.are)
 at_end Word lexeme tokens d = λ begins. put_word tokens lexeme [] [] (tokens_of tokens _ d.lexemes d.read d.are) begins (λ others are. nothing_laid true others are)
 at_end Mark lexeme tokens d = λ begins after. put_mark tokens lexeme [] [] after (tokens_of tokens _ d.lexemes d.read d.are) begins tt (λ others are. nothing_laid false others are)
-at_end Slash lexeme tokens d = absurd (none-some _ d.read)
 at_end LineComment lexeme tokens d = inr (no_tokens tokens (tokens_of tokens _ d.lexemes d.read d.are), nothing_one_line)
-at_end BlockComment lexeme tokens d = absurd (none-some _ d.read)
-at_end Star lexeme tokens d = absurd (none-some _ d.read)
+at_end _ lexeme tokens d = absurd (none-some _ d.read)
 
 -- a byte more
 

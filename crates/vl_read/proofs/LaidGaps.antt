@@ -5,8 +5,7 @@ use Rattle.vl_ast.specs.Tokens.{Token, Filler, Blank, LineComment as LineFiller,
 
 filler_first : (filler : Filler) (gap : List ℕ) → filler_text filler ++ gap ≢ []
 filler_first (Blank byte) gap e = cc
-filler_first (LineFiller body) gap e = cc
-filler_first (BlockFiller body) gap e = cc
+filler_first _ gap e = cc
 
 filler_gap : (filler : Filler) (gap : List ℕ) → IsFiller filler → IsGap gap → IsGap (filler_text filler ++ gap)
 filler_gap filler gap is h =

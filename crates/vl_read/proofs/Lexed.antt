@@ -162,11 +162,8 @@ word_read (b ∷ bs) rest is =
     silent Between Word [] (b ∷ []) b (bs ++ rest) (ap (λ class. outside Between [] class b) is.all.0) ∙ word_rest bs rest (b ∷ []) is.all.1
 
 pub mark_class : (class : ByteClass) → is_mark_class class ≡ true → class ≡ OfMark
-mark_class OfWord h = cc
-mark_class OfBlank h = cc
-mark_class OfComment h = cc
 mark_class OfMark h = refl
-mark_class OfNone h = cc
+mark_class _ h = cc
 
 -- and so is a mark
 chain_read : (bytes rest mark : List ℕ) → chain mark bytes ≡ true → lexemes_from Mark mark (bytes ++ rest) ≡ lexemes_from Mark (mark ++ bytes) rest

@@ -28,7 +28,7 @@ use Rattle.vl_read.specs.inner.Places.AttrSpot.{AttrName, AttrSign, AttrValue, M
 use Rattle.vl_read.specs.inner.Places.Place.{Start, Attributes, Title, Ports, Port as PortPlace, Net, AfterPort, AfterPorts, Items, AssignName, AssignSign, Head, ClockedName, ClockedSign, First, AfterFirst, Else, Branch, If, Again, NextSign, Expression, Semicolon, End, Done}
 use Rattle.vl_read.specs.declared.places.Draft.{Draft}
 use Rattle.vl_read.specs.declared.places.HeadSpot.{HeadSpot}
-use Rattle.vl_read.specs.declared.places.HeadSpot.TheVariants.{Event, OpenEvent, Posedge, Clock, CloseEvent, Begin, Test, OpenTest, Reset, CloseTest}
+use Rattle.vl_read.specs.declared.places.HeadSpot.TheVariants.{Event}
 use Rattle.vl_read.specs.inner.Lexemes.{kind_of}
 use Rattle.vl_read.specs.inner.Turns.{feed}
 use Rattle.vl_read.specs.inner.Plain.{goes, after_head, expect, spot_at, expect_spot, on_name, on_number, on_based, attr_step, declared, net_step, compound_step, operand_step, unary_or_left, opened_step, braced_step, innermost, left_by, left_step, frame_step, goal_step, value_step, name_of, indexed, spot_step, item_step, step_at, step, start}
@@ -75,21 +75,15 @@ expect_lives word lexeme draft place h = if_lives _ _ None (there draft place h)
 
 name_lives : (kind : Kind) (named other : Option Parser) → (kind ≡ Name → Lives named) → Lives other → Lives (on_name kind named other)
 name_lives Name named other h k = h refl
-name_lives (Count number) named other h k = k
-name_lives (Constant number) named other h k = k
-name_lives Fixed named other h k = k
+name_lives _ named other h k = k
 
 number_lives : (kind : Kind) (then : ℕ → Option Parser) → ((number : ℕ) → Lives (then number)) → Lives (on_number kind then)
-number_lives Name then h = stopped
 number_lives (Count number) then h = h number
-number_lives (Constant number) then h = stopped
-number_lives Fixed then h = stopped
+number_lives _ then h = stopped
 
 based_lives : (kind : Kind) (then : Sized → Option Parser) → ((number : Sized) → Lives (then number)) → Lives (on_based kind then)
-based_lives Name then h = stopped
-based_lives (Count number) then h = stopped
 based_lives (Constant number) then h = h number
-based_lives Fixed then h = stopped
+based_lives _ then h = stopped
 
 -- attributes and declarations
 
@@ -172,13 +166,10 @@ unfolding frame_step left_step
 frame_lives draft goal outer (InConcat parts) value lexeme g =
     if_lives _ _ _ (spot_there draft goal (outer ++ InConcat (parts ++ value ∷ []) ∷ []) Operand g tt) (spot_expected 125 lexeme draft goal outer (Value _) g tt)
 frame_lives draft goal outer (InRepeat count) value lexeme g = spot_expected 125 lexeme draft goal outer (Ends _ CloseBrace) g tt
-frame_lives draft goal outer (InCast signed) value lexeme g = spot_expected 41 lexeme draft goal outer (Value _) g tt
-frame_lives draft goal outer (InUnary op) value lexeme g = spot_expected 41 lexeme draft goal outer (Value _) g tt
 frame_lives draft goal outer InLeft value lexeme g =
     if_lives _ _ _ (spot_there draft goal (outer ++ InChosen value ∷ []) Operand g tt) (infix_lives draft goal outer value (infix_of lexeme) (shift_of lexeme) g)
-frame_lives draft goal outer (InRight op left) value lexeme g = spot_expected 41 lexeme draft goal outer (Value _) g tt
 frame_lives draft goal outer (InChosen test) value lexeme g = spot_expected 58 lexeme draft goal (outer ++ InOther test value ∷ []) Operand g tt
-frame_lives draft goal outer (InOther test chosen) value lexeme g = spot_expected 41 lexeme draft goal outer (Value _) g tt
+frame_lives draft goal outer _ value lexeme g = spot_expected 41 lexeme draft goal outer (Value _) g tt
 
 goal_lives : (draft : Draft) (goal : Goal) (value : Expr) (lexeme : List ℕ) → IsLiveGoal goal → Lives (goal_step draft goal value lexeme)
 unfolding goal_step
@@ -221,15 +212,7 @@ item_lives draft lexeme =
 
 head_live : (at : HeadSpot) → IsLive (after_head at)
 head_live Event = tt
-head_live OpenEvent = tt
-head_live Posedge = tt
-head_live Clock = tt
-head_live CloseEvent = tt
-head_live Begin = tt
-head_live Test = tt
-head_live OpenTest = tt
-head_live Reset = tt
-head_live CloseTest = tt
+head_live _ = tt
 
 place_lives : (draft : Draft) (place : Place) (kind : Kind) (lexeme : List ℕ) → (kind ≡ Name → IsName lexeme) → IsLive place → Lives (step_at draft place kind lexeme)
 unfolding step_at

@@ -84,8 +84,7 @@ declared_at draft OfReg signed width n = parser_at draft (Semicolon (Reg signed 
 declared_is : (draft : Draft) (net : NetKind) (signed : Bool) (width : ℕ) (n : List ℕ) → declared draft net signed width n ≡ Some (declared_at draft net signed width n)
 unfolding declared
 declared_is draft (OfPort attrs input) signed width n = refl
-declared_is draft OfWire signed width n = refl
-declared_is draft OfReg signed width n = refl
+declared_is draft _ signed width n = refl
 
 signed_word : (draft : Draft) (net : NetKind) → step (parser_at draft (Net net Signed)) (codes "signed") ≡ Some (parser_at draft (Net net (Ranged true)))
 unfolding step attr_step declared net_step compound_step operand_step unary_or_left opened_step braced_step left_step frame_step goal_step spot_step item_step step_at kind_of dec_of sized_of

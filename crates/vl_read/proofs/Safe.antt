@@ -4,22 +4,16 @@ use Rattle.std.specs.Prelude.{◌&&◌}
 use Rattle.std.specs.List.{list_all}
 use Rattle.vl_ast.specs.Tokens.{Token, Key, Sign, Identifier, Number, Based}
 use Rattle.vl_read.specs.declared.scan.ByteClass.{ByteClass}
-use Rattle.vl_read.specs.declared.scan.ByteClass.TheVariants.{OfWord, OfBlank, OfComment, OfMark, OfNone}
+use Rattle.vl_read.specs.declared.scan.ByteClass.TheVariants.{OfWord, OfMark}
 use Rattle.vl_read.specs.inner.Lexemes.{class_of, extends, is_nonempty}
 
 abbrev pub is_word_class : ByteClass → Bool
 is_word_class OfWord = true
-is_word_class OfBlank = false
-is_word_class OfComment = false
-is_word_class OfMark = false
-is_word_class OfNone = false
+is_word_class _ = false
 
 abbrev pub is_mark_class : ByteClass → Bool
-is_mark_class OfWord = false
-is_mark_class OfBlank = false
-is_mark_class OfComment = false
 is_mark_class OfMark = true
-is_mark_class OfNone = false
+is_mark_class _ = false
 
 -- bytes that go on with a mark, each with what stands before it
 abbrev pub chain : List ℕ → List ℕ → Bool
@@ -37,9 +31,7 @@ is_key word = is_nonempty word && list_all (λ byte. is_word_class (class_of byt
 unfoldable pub is_fine : Token → Bool
 is_fine (Key word) = is_key word
 is_fine (Sign mark) = is_mark mark
-is_fine (Identifier name) = true
-is_fine (Number number) = true
-is_fine (Based number) = true
+is_fine _ = true
 
 abbrev pub joins : List ℕ → List ℕ → Bool
 joins mark [] = true

@@ -3,11 +3,11 @@ use Rattle.std.proofs.Common.{◌≡◌, ℕ, true, List, [], ◌∷◌, ◌++�
 use Rattle.std.specs.Prelude.{◌&&◌}
 use Rattle.std.proofs.lemmas.Bool.{and_parts, and_from}
 use Rattle.vl_ast.specs.declared.expressions.UnOp.{UnOp}
-use Rattle.vl_ast.specs.declared.expressions.UnOp.TheVariants.{Negate, Invert, IsZero}
+use Rattle.vl_ast.specs.declared.expressions.UnOp.TheVariants.{Negate}
 use Rattle.vl_ast.specs.declared.expressions.BinOp.{BinOp}
-use Rattle.vl_ast.specs.declared.expressions.BinOp.TheVariants.{Add, Subtract, Multiply, And, Or, Xor, Equal, NotEqual, Less, LessEqual, Greater, GreaterEqual, Both, Either}
+use Rattle.vl_ast.specs.declared.expressions.BinOp.TheVariants.{Add}
 use Rattle.vl_ast.specs.declared.expressions.ShiftOp.{ShiftOp}
-use Rattle.vl_ast.specs.declared.expressions.ShiftOp.TheVariants.{Left, Right, RightSigned}
+use Rattle.vl_ast.specs.declared.expressions.ShiftOp.TheVariants.{Left}
 use Rattle.vl_ast.specs.declared.expressions.Sized.{Sized}
 use Rattle.vl_ast.specs.declared.expressions.Expr.{Expr}
 use Rattle.vl_ast.specs.declared.expressions.Expr.TheOpen.{Expr-F}
@@ -35,37 +35,22 @@ layer_safe_as x tokens other before same h = ap (safe before) (layer_tokens x to
 opens_unary : (op : UnOp) → opens (Sign (unary_text op)) ≡ true
 unfolding follows extends
 opens_unary Negate = refl
-opens_unary Invert = refl
-opens_unary IsZero = refl
+opens_unary _ = refl
 
 opens_binary : (op : BinOp) → (is_fine (Sign (binary_text op)) && opens (Sign (binary_text op))) ≡ true
 unfolding follows extends is_fine class_of
 opens_binary Add = refl
-opens_binary Subtract = refl
-opens_binary Multiply = refl
-opens_binary And = refl
-opens_binary Or = refl
-opens_binary Xor = refl
-opens_binary Equal = refl
-opens_binary NotEqual = refl
-opens_binary Less = refl
-opens_binary LessEqual = refl
-opens_binary Greater = refl
-opens_binary GreaterEqual = refl
-opens_binary Both = refl
-opens_binary Either = refl
+opens_binary _ = refl
 
 fine_unary : (op : UnOp) → (follows (Sign (codes "(")) (Sign (unary_text op)) && is_fine (Sign (unary_text op))) ≡ true
 unfolding follows extends is_fine class_of
 fine_unary Negate = refl
-fine_unary Invert = refl
-fine_unary IsZero = refl
+fine_unary _ = refl
 
 fine_shift : (op : ShiftOp) → is_fine (Sign (shift_text op)) ≡ true
 unfolding is_fine class_of extends
 fine_shift Left = refl
-fine_shift Right = refl
-fine_shift RightSigned = refl
+fine_shift _ = refl
 
 -- each form
 

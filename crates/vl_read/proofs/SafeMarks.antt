@@ -34,12 +34,8 @@ never byte = simp same_cond
 -- what no byte goes on with
 closes_mark : (mark : List ℕ) → ((byte : ℕ) → extends mark byte ≡ false) → Closes (Sign mark)
 unfolding follows
-closes_mark mark ends (Key word) = refl
-closes_mark mark ends (Sign []) = refl
 closes_mark mark ends (Sign (b ∷ bs)) = ap not (ends b)
-closes_mark mark ends (Identifier name) = refl
-closes_mark mark ends (Number number) = refl
-closes_mark mark ends (Based number) = refl
+closes_mark mark ends _ = refl
 
 pub closes_square : Closes (Sign (codes "]"))
 unfolding extends
@@ -95,26 +91,17 @@ opens_word before h = and_parts _ _ h
 pub follows_identifier : (before : Token) (name : List ℕ) → follows before (Identifier name) ≡ true
 unfolding follows
 follows_identifier (Key word) name = refl
-follows_identifier (Sign mark) name = refl
-follows_identifier (Identifier other) name = refl
-follows_identifier (Number n) name = refl
-follows_identifier (Based n) name = refl
+follows_identifier _ name = refl
 
 pub follows_key : (before : Token) (name : List ℕ) → follows before (Key name) ≡ true
 unfolding follows
 follows_key (Key word) name = refl
-follows_key (Sign mark) name = refl
-follows_key (Identifier other) name = refl
-follows_key (Number n) name = refl
-follows_key (Based n) name = refl
+follows_key _ name = refl
 
 pub follows_based : (before : Token) (n : Sized) → follows before (Based n) ≡ true
 unfolding follows
 follows_based (Key word) n = refl
-follows_based (Sign mark) n = refl
-follows_based (Identifier other) n = refl
-follows_based (Number m) n = refl
-follows_based (Based m) n = refl
+follows_based _ n = refl
 
 pub opens_open : opens (Sign (codes "(")) ≡ true
 unfolding follows extends

@@ -44,10 +44,7 @@ begin_map lexemes OfNone byte bytes = refl
 
 pub between_no : (class : ByteClass) (lexeme : List ℕ) (byte : ℕ) → continues Between class lexeme byte ≡ false
 between_no OfWord lexeme byte = refl
-between_no OfBlank lexeme byte = refl
-between_no OfComment lexeme byte = refl
-between_no OfMark lexeme byte = refl
-between_no OfNone lexeme byte = refl
+between_no _ lexeme byte = refl
 
 -- a byte that doesn't go on with the lexeme before it is read as between lexemes
 pub restart : (mode : Mode) (lexeme : List ℕ) (byte : ℕ) (bytes : List ℕ) → IsOutside mode → continues mode (class_of byte) lexeme byte ≡ false →

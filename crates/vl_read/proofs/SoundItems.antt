@@ -75,15 +75,7 @@ item_sound most draft lexeme text q body room =
 
 head_written : (at : HeadSpot) (lexeme : List ℕ) → lexeme ≡ head_word at → IsWritten (head_token at) lexeme
 head_written Event lexeme e = e
-head_written OpenEvent lexeme e = e
-head_written Posedge lexeme e = e
-head_written Clock lexeme e = e
-head_written CloseEvent lexeme e = e
-head_written Begin lexeme e = e
-head_written Test lexeme e = e
-head_written OpenTest lexeme e = e
-head_written Reset lexeme e = e
-head_written CloseTest lexeme e = e
+head_written _ lexeme e = e
 
 head_more : (most : ℕ) (draft : Draft) (at : HeadSpot) (own text : List Token) → InItem most draft own text → own ≡ take (words_before at) head_tokens → Has most draft (after_head at) (text ++ head_token at ∷ [])
 head_more most draft Event own text around is = more_item most draft own text (Sign (codes "@")) (Head OpenEvent) around (ap (λ t. t ++ Sign (codes "@") ∷ []) is)

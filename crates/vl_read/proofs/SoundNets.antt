@@ -10,7 +10,7 @@ use Rattle.vl_ast.specs.Tokens.{Token, Key, Sign, Identifier, Number, IsWritten}
 use Rattle.vl_names.specs.Identifiers.{is_identifier}
 use Rattle.vl_ast.specs.Grammar.{comma, attr_tokens, attrs_tokens, signed_tokens, IsRange, IsPortText, IsItemText}
 use Rattle.vl_read.specs.declared.scan.Kind.{Kind}
-use Rattle.vl_read.specs.declared.scan.Kind.TheVariants.{Name, Count, Constant, Fixed}
+use Rattle.vl_read.specs.declared.scan.Kind.TheVariants.{Name}
 use Rattle.vl_read.specs.inner.Places.{NetKind, AttrSpot, Place, Parser}
 use Rattle.vl_read.specs.inner.Places.NetKind.{OfPort, OfWire, OfReg}
 use Rattle.vl_read.specs.declared.places.NetSpot.{NetSpot}
@@ -55,9 +55,7 @@ onward_key most text lexeme q draft place word has e =
 pub on_name_or : {R : Type 0} (kind : Kind) (lexeme : List ℕ) (x other : Option Parser) (q : Parser) → IsOfKind kind lexeme → (is_identifier lexeme ≡ true → x ≡ Some q → R) → (other ≡ Some q → R) →
     cond (is_name kind) x other ≡ Some q → R
 on_name_or Name lexeme x other q is first second e = first is e
-on_name_or (Count n) lexeme x other q is first second e = second e
-on_name_or (Constant n) lexeme x other q is first second e = second e
-on_name_or Fixed lexeme x other q is first second e = second e
+on_name_or _ lexeme x other q is first second e = second e
 
 -- what stands around grows
 

@@ -20,7 +20,7 @@ use Rattle.vl_ast.specs.Tokens.{Token, Sign, Identifier, Number, Based, IsDec, I
 use Rattle.vl_ast.specs.Grammar.{comma, tokens_step, expr_tokens, depth, is_filled, is_filled_step, IsExpr}
 use Rattle.vl_read.specs.declared.places.Closing.TheVariants.{CloseParenthesis, CloseBrace, CloseBracket}
 use Rattle.vl_read.specs.declared.scan.Kind.{Kind}
-use Rattle.vl_read.specs.declared.scan.Kind.TheVariants.{Name, Count, Constant, Fixed}
+use Rattle.vl_read.specs.declared.scan.Kind.TheVariants.{Count, Constant}
 use Rattle.vl_read.specs.declared.places.Frame.{Frame}
 use Rattle.vl_read.specs.declared.places.Frame.TheVariants.{InConcat, InRepeat, InCast, InUnary, InLeft, InRight, InChosen, InOther}
 use Rattle.vl_read.specs.inner.Places.{Spot, Goal, Parser, opening_byte, closing_byte}
@@ -281,16 +281,12 @@ index_number frames name place text begun =
 
 -- a number that is wanted is there
 pub on_count : {R : Type 0} (kind : Kind) (lexeme : List ℕ) (f : ℕ → Option Parser) (q : Parser) → IsOfKind kind lexeme → ((n : ℕ) → IsDec n lexeme → f n ≡ Some q → R) → option_and_then f (count_of kind) ≡ Some q → R
-on_count Name lexeme f q is more e = nowhere q e
 on_count (Count n) lexeme f q is more e = more n is e
-on_count (Constant n) lexeme f q is more e = nowhere q e
-on_count Fixed lexeme f q is more e = nowhere q e
+on_count _ lexeme f q is more e = nowhere q e
 
 pub on_constant : {R : Type 0} (kind : Kind) (lexeme : List ℕ) (f : Sized → Option Parser) (q : Parser) → IsOfKind kind lexeme → ((n : Sized) → IsBased n lexeme → f n ≡ Some q → R) → option_and_then f (constant_of kind) ≡ Some q → R
-on_constant Name lexeme f q is more e = nowhere q e
-on_constant (Count n) lexeme f q is more e = nowhere q e
 on_constant (Constant n) lexeme f q is more e = more n is e
-on_constant Fixed lexeme f q is more e = nowhere q e
+on_constant _ lexeme f q is more e = nowhere q e
 
 pub spot_sound : (draft : Draft) (goal : Goal) (frames : List Frame) (spot : Spot) (kind : Kind) (lexeme : List ℕ) (text : List Token) (q : Parser) → Begun frames spot text → IsOfKind kind lexeme →
     spot_step draft goal frames spot kind lexeme ≡ Some q → Goes draft goal text lexeme q ⊎ Ended draft goal text lexeme q

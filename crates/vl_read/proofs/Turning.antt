@@ -11,24 +11,23 @@ use Rattle.vl_read.specs.inner.Turns.{IsBeyond, IsWithin, mode_by, mode_after, f
 use Rattle.vl_read.specs.inner.Plain.{parse, step}
 use Rattle.vl_read.proofs.Scanned.{silent, restart, is_word, is_mark}
 
-parse_feed : (ls more : List (List ℕ)) (p : Parser) → parse p (ls ++ more) ≡ option_and_then (λ q. parse q more) (feed p ls)
-parse_feed [] more p = refl
-parse_feed (l ∷ ls) more p = of (step p l) (parse_feed ls more)
+-- what goes on lexeme by lexeme goes on after some of them
+run_feed : {X : Type 0} (run : Parser → List (List ℕ) → Option X) → ((p : Parser) (l : List ℕ) (ls : List (List ℕ)) → run p (l ∷ ls) ≡ option_and_then (λ q. run q ls) (step p l)) →
+    (ls more : List (List ℕ)) (p : Parser) → run p (ls ++ more) ≡ option_and_then (λ q. run q more) (feed p ls)
+run_feed run steps [] more p = refl
+run_feed run steps (l ∷ ls) more p = steps p l (ls ++ more) ∙ of (step p l) (run_feed run steps ls more)
   where
-    of : (o : Option Parser) → ((q : Parser) → parse q (ls ++ more) ≡ option_and_then (λ q. parse q more) (feed q ls)) →
-        option_and_then (λ q. parse q (ls ++ more)) o ≡ option_and_then (λ q. parse q more) (option_and_then (λ q. feed q ls) o)
+    of : (o : Option Parser) → ((q : Parser) → run q (ls ++ more) ≡ option_and_then (λ q. run q more) (feed q ls)) →
+        option_and_then (λ q. run q (ls ++ more)) o ≡ option_and_then (λ q. run q more) (option_and_then (λ q. feed q ls) o)
     of None later = refl
     of (Some q) later = later q
 
+parse_feed : (ls more : List (List ℕ)) (p : Parser) → parse p (ls ++ more) ≡ option_and_then (λ q. parse q more) (feed p ls)
+parse_feed ls more p = run_feed parse (λ p l ls. refl) ls more p
+
 -- lexemes after lexemes
 pub feed_append : (ls more : List (List ℕ)) (p : Parser) → feed p (ls ++ more) ≡ option_and_then (λ q. feed q more) (feed p ls)
-feed_append [] more p = refl
-feed_append (l ∷ ls) more p = of (step p l) (feed_append ls more)
-  where
-    of : (o : Option Parser) → ((q : Parser) → feed q (ls ++ more) ≡ option_and_then (λ q. feed q more) (feed q ls)) →
-        option_and_then (λ q. feed q (ls ++ more)) o ≡ option_and_then (λ q. feed q more) (option_and_then (λ q. feed q ls) o)
-    of None later = refl
-    of (Some q) later = later q
+feed_append ls more p = run_feed feed (λ p l ls. refl) ls more p
 
 -- one lexeme
 pub fed_one : (p : Parser) (lexeme : List ℕ) → feed p (lexeme ∷ []) ≡ step p lexeme
@@ -100,11 +99,7 @@ pub grows : (mode : Mode) (lexeme : List ℕ) (byte : ℕ) → IsWithin mode →
     Some (silently mode (lexeme ++ byte ∷ [])) ≡ move mode lexeme byte
 grows Word lexeme byte h e = ap (λ t. cond t (moved [] Word (lexeme ++ byte ∷ [])) (begin (lexeme ∷ []) (class_of byte) byte)) (sym e)
 grows Mark lexeme byte h e = ap (λ t. cond t (moved [] Mark (lexeme ++ byte ∷ [])) (begin (lexeme ∷ []) (class_of byte) byte)) (sym e)
-grows Between lexeme byte h e = absurd h
-grows Slash lexeme byte h e = absurd h
-grows LineComment lexeme byte h e = absurd h
-grows BlockComment lexeme byte h e = absurd h
-grows Star lexeme byte h e = absurd h
+grows _ lexeme byte h e = absurd h
 
 pub ahead_next : (p : Parser) (mode to : Mode) (lexeme then rest : List ℕ) (byte : ℕ) → Some (silently to then) ≡ move mode lexeme byte →
     ahead p mode lexeme (byte ∷ rest) ≡ ahead p to then rest
@@ -132,11 +127,7 @@ ahead_ended p Mark lexeme (byte ∷ rest) h quits =
     ap (option_and_then (parse p)) (restart Mark lexeme byte rest is_mark quits)
     ∙ ahead_feed (lexeme ∷ []) p (lexemes_from Between [] (byte ∷ rest))
     ∙ ap (option_and_then (λ q. ahead q Between [] (byte ∷ rest))) (fed_one p lexeme)
-ahead_ended p Between lexeme rest h quits = absurd h
-ahead_ended p Slash lexeme rest h quits = absurd h
-ahead_ended p LineComment lexeme rest h quits = absurd h
-ahead_ended p BlockComment lexeme rest h quits = absurd h
-ahead_ended p Star lexeme rest h quits = absurd h
+ahead_ended p _ lexeme rest h quits = absurd h
 
 -- what is left of bytes at a place in them
 pub drop_next : (bytes : List ℕ) (place : ℕ) → place < length bytes → drop place bytes ≡ get_or bytes place 0 ∷ drop (place + 1) bytes
