@@ -1,14 +1,13 @@
 -- A wired diagram has what the rounds of widths ask of it.
-use Rattle.std.proofs.Common.{◌≡◌, ℕ, ◌-◌, ◌≤◌, Bool, true, false, List, [], ◌∷◌, length, All, Some, get_or, refl, sym, subst, ◌∙◌, inl, inr, arith}
+use Rattle.std.proofs.Common.{◌≡◌, ℕ, ◌-◌, ◌≤◌, Bool, true, false, List, length, All, Some, get_or, refl, sym, subst, ◌∙◌, inl, inr, arith}
 use Rattle.std.specs.Prelude.{slice_get, ◌⊎◌, if◌then◌else◌}
 use Rattle.std.proofs.lemmas.Bool.{lt-ltb, cases_lt}
 use Rattle.std.proofs.lemmas.List.{get_or_past}
 use Rattle.std.proofs.lemmas.Option.{same_Some, slice_get_within, get_or_from_slice_get}
 use Rattle.dg_model.specs.declared.diagram.Diagram.{Diagram}
 use Rattle.dg_model.specs.declared.diagram.Block.{Block}
-use Rattle.dg_model.specs.declared.kind.Gate.TheVariants.{And, Or, Nand, Nor, Xor, Nxor, Not}
 use Rattle.dg_model.specs.declared.kind.Kind.{Kind}
-use Rattle.dg_model.specs.declared.kind.Kind.TheVariants.{Inport, Outport, Constant, Ground, Sum, Gain, Product, Switch, Relational, Logic, Convert, Delay, Mux, Demux, RateTransition, Pass, EnableTest, EnOut, Terminator}
+use Rattle.dg_model.specs.declared.kind.Kind.TheVariants.{Inport, Constant, Gain, Switch, Delay, Demux, RateTransition, Pass, EnOut}
 use Rattle.dg_model.specs.KindRow.{Shape, IsBetween}
 use Rattle.dg_model.specs.Library.{HasPorts, IsReadable, row_of}
 use Rattle.dg_model.specs.Widths.{are_open, list_length}
@@ -21,32 +20,8 @@ use Rattle.dg_types.specs.inner.Rows.{HasRow}
 use Rattle.dg_model.proofs.Ports.{found, joins}
 
 port_is : (kind : Kind) (inputs outputs port : ℕ) → HasPorts kind inputs outputs → 1 ≤ port → port ≤ outputs → IsPort (shape_of kind) port
-port_is (Inport number width) inputs outputs port has low high = omega (arith, has.1)
-port_is (Outport number) inputs outputs port has low high = omega (arith, has.1)
-port_is (Constant value) inputs outputs port has low high = omega (arith, has.1)
-port_is Ground inputs outputs port has low high = omega (arith, has.1)
-port_is (Sum negative) inputs outputs port has low high = omega (arith, has.1)
-port_is (Gain value param) inputs outputs port has low high = omega (arith, has.1)
-port_is Product inputs outputs port has low high = omega (arith, has.1)
-port_is (Switch criterion threshold) inputs outputs port has low high = omega (arith, has.1)
-port_is (Relational operator) inputs outputs port has low high = omega (arith, has.1)
-port_is (Logic And) inputs outputs port has low high = omega (arith, has.1)
-port_is (Logic Or) inputs outputs port has low high = omega (arith, has.1)
-port_is (Logic Nand) inputs outputs port has low high = omega (arith, has.1)
-port_is (Logic Nor) inputs outputs port has low high = omega (arith, has.1)
-port_is (Logic Xor) inputs outputs port has low high = omega (arith, has.1)
-port_is (Logic Nxor) inputs outputs port has low high = omega (arith, has.1)
-port_is (Logic Not) inputs outputs port has low high = omega (arith, has.1)
-port_is (Convert stored) inputs outputs port has low high = omega (arith, has.1)
-port_is (Delay delay initial reset) inputs outputs port has low high = omega (arith, has.1)
-port_is (Mux []) inputs outputs port has low high = omega (arith, has.1)
-port_is (Mux (size ∷ sizes)) inputs outputs port has low high = omega (arith, has.1)
 port_is (Demux sizes) inputs outputs port has low high = (low, omega (arith, has.1))
-port_is (RateTransition period initial) inputs outputs port has low high = omega (arith, has.1)
-port_is (Pass width) inputs outputs port has low high = omega (arith, has.1)
-port_is EnableTest inputs outputs port has low high = omega (arith, has.1)
-port_is (EnOut reset initial) inputs outputs port has low high = omega (arith, has.1)
-port_is Terminator inputs outputs port has low high = omega (arith, has.1)
+port_is _ inputs outputs port has low high = omega (arith, has.1)
 
 size_fits : (sizes : List ℕ) → (All (IsBetween 1 1024) sizes ⊎ All (λ size. size ≡ 0) sizes) → (k : ℕ) → get_or sizes k 0 ≤ 1025
 size_fits sizes has k =
@@ -56,68 +31,24 @@ size_fits sizes has k =
     ]
 
 parts_are : (kind : Kind) → (row_of kind).parameters → HasParts (shape_of kind)
-parts_are (Inport number width) has = tt
-parts_are (Outport number) has = tt
-parts_are (Constant value) has = tt
-parts_are Ground has = tt
-parts_are (Sum negative) has = tt
-parts_are (Gain value param) has = tt
-parts_are Product has = tt
-parts_are (Switch criterion threshold) has = tt
-parts_are (Relational operator) has = tt
-parts_are (Logic operator) has = tt
-parts_are (Convert stored) has = tt
-parts_are (Delay delay initial reset) has = tt
-parts_are (Mux sizes) has = tt
 parts_are (Demux sizes) has = (has.0.0, size_fits sizes (has.1))
-parts_are (RateTransition period initial) has = tt
-parts_are (Pass width) has = tt
-parts_are EnableTest has = tt
-parts_are (EnOut reset initial) has = tt
-parts_are Terminator has = tt
+parts_are _ has = tt
 
 declared_fits : (kind : Kind) → (row_of kind).parameters → declared_width kind ≤ 1025
 declared_fits (Inport number width) has = omega (arith, has.1.1)
-declared_fits (Outport number) has = omega arith
 declared_fits (Constant value) has = omega (arith, has.1)
-declared_fits Ground has = omega arith
-declared_fits (Sum negative) has = omega arith
-declared_fits (Gain value param) has = omega arith
-declared_fits Product has = omega arith
-declared_fits (Switch criterion threshold) has = omega arith
-declared_fits (Relational operator) has = omega arith
-declared_fits (Logic operator) has = omega arith
-declared_fits (Convert stored) has = omega arith
-declared_fits (Delay delay initial reset) has = omega arith
-declared_fits (Mux sizes) has = omega arith
-declared_fits (Demux sizes) has = omega arith
-declared_fits (RateTransition period initial) has = omega arith
 declared_fits (Pass width) has = omega (arith, has.1)
-declared_fits EnableTest has = omega arith
-declared_fits (EnOut reset initial) has = omega arith
-declared_fits Terminator has = omega arith
+declared_fits _ has = omega arith
 
 -- the lists of a kind are short
 lists_are : (kind : Kind) → (row_of kind).parameters → list_length kind ≤ 1024
-lists_are (Inport number width) has = omega arith
-lists_are (Outport number) has = omega arith
 lists_are (Constant value) has = omega (arith, has.1)
-lists_are Ground has = omega arith
-lists_are (Sum negative) has = omega arith
 lists_are (Gain value param) has = omega (arith, has.0.1)
-lists_are Product has = omega arith
 lists_are (Switch criterion threshold) has = omega (arith, has.1)
-lists_are (Relational operator) has = omega arith
-lists_are (Logic operator) has = omega arith
-lists_are (Convert stored) has = omega arith
 lists_are (Delay delay initial reset) has = omega (arith, has.1.1)
-lists_are (Mux sizes) has = omega arith
-lists_are (Demux sizes) has = omega arith
 lists_are (RateTransition period initial) has = omega (arith, has.1.1)
-lists_are (Pass width) has = omega arith
-lists_are EnableTest has = omega arith
 lists_are (EnOut reset initial) has = omega (arith, has.1)
-lists_are Terminator has = omega arith
+lists_are _ has = omega arith
 
 pub readable : (diagram : Diagram) (k : ℕ) (block : Block) → IsWired diagram → slice_get diagram.blocks k ≡ Some block → IsReadable block
 readable diagram k block wired at = subst IsReadable (get_or_from_slice_get diagram.blocks k block block at) (wired.blocks k block (slice_get_within diagram.blocks k block at))
@@ -132,47 +63,24 @@ is_laid diagram wired = record {
 }
 
 part_shared : (shape : Shape) (port : ℕ) → HasParts shape → is_shared_out (share_at shape port) ≡ true
-part_shared Shape.Elementwise port has = refl
-part_shared (Shape.Joined sizes) port has = refl
-part_shared Shape.Single port has = refl
 part_shared (Shape.Parted sizes) port has = go (are_open sizes) where
   go : (b : Bool) → is_shared_out (if b then Even (length sizes) (port - 1) else Fixed (get_or sizes (port - 1) 0)) ≡ true
   go true = lt-ltb 0 (length sizes) (omega (arith, has.0))
   go false = refl
+part_shared _ port has = refl
 
 port_of : (shape : Shape) (port : ℕ) → (parted : (sizes : List ℕ) → shape ≡ Shape.Parted sizes → (length sizes ≤ 1024) × AreAlike sizes) → IsPort shape port → IsPortOf shape port
-port_of Shape.Elementwise port parted is = tt
-port_of (Shape.Joined sizes) port parted is = tt
-port_of Shape.Single port parted is = tt
 port_of (Shape.Parted sizes) port parted is = (is.1, omega (arith, (parted sizes refl).0), (parted sizes refl).1)
+port_of _ port parted is = tt
 
 parts_alike : (kind : Kind) (sizes : List ℕ) → (row_of kind).parameters → shape_of kind ≡ Shape.Parted sizes → (length sizes ≤ 1024) × AreAlike sizes
-parts_alike (Inport number width) sizes has is = absurd (cc)
-parts_alike (Outport number) sizes has is = absurd (cc)
-parts_alike (Constant value) sizes has is = absurd (cc)
-parts_alike Ground sizes has is = absurd (cc)
-parts_alike (Sum negative) sizes has is = absurd (cc)
-parts_alike (Gain value param) sizes has is = absurd (cc)
-parts_alike Product sizes has is = absurd (cc)
-parts_alike (Switch criterion threshold) sizes has is = absurd (cc)
-parts_alike (Relational operator) sizes has is = absurd (cc)
-parts_alike (Logic operator) sizes has is = absurd (cc)
-parts_alike (Convert stored) sizes has is = absurd (cc)
-parts_alike (Delay delay initial reset) sizes has is = absurd (cc)
-parts_alike (Mux others) sizes has is = absurd (cc)
 parts_alike (Demux others) sizes has is =
     let same : others ≡ sizes = cc in subst (λ (xs : List ℕ). (length xs ≤ 1024) × AreAlike xs) same (has.0.1, has.1)
-parts_alike (RateTransition period initial) sizes has is = absurd (cc)
-parts_alike (Pass width) sizes has is = absurd (cc)
-parts_alike EnableTest sizes has is = absurd (cc)
-parts_alike (EnOut reset initial) sizes has is = absurd (cc)
-parts_alike Terminator sizes has is = absurd (cc)
+parts_alike _ sizes has is = absurd (cc)
 
 few_of : (shape : Shape) → ((sizes : List ℕ) → shape ≡ Shape.Parted sizes → length sizes ≤ 1024) → HasRow shape
-few_of Shape.Elementwise few = tt
-few_of (Shape.Joined sizes) few = tt
 few_of (Shape.Parted sizes) few = few sizes refl
-few_of Shape.Single few = tt
+few_of _ few = tt
 
 -- each block has few outputs
 pub have_rows : (diagram : Diagram) → IsWired diagram → All (λ block. HasRow (shape_of block.kind)) diagram.blocks

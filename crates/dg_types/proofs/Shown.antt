@@ -31,9 +31,6 @@ ones_at (x ∷ xs) zero inside = refl
 ones_at (x ∷ xs) (suc k) inside = ones_at xs k (omega arith)
 
 through : (shape : Shape) (held port : ℕ) → IsPort shape port → width_through (share_at shape port) held ≡ get_or (outputs_of shape held) (port - 1) 0
-through Shape.Elementwise held port is = rw is refl
-through (Shape.Joined sizes) held port is = rw is refl
-through Shape.Single held port is = rw is refl
 through (Shape.Parted sizes) zero port is = go (are_open sizes) where
   go : (b : Bool) → width_through (if b then Even (length sizes) (port - 1) else Fixed (get_or sizes (port - 1) 0)) zero ≡ get_or (map {A = ℕ} {B = ℕ} (λ x. 1) sizes) (port - 1) 0
   go true = sym (ones_at sizes (port - 1) (omega arith))
@@ -42,6 +39,7 @@ through (Shape.Parted sizes) (suc width) port is = go (are_open sizes) where
   go : (b : Bool) → width_through (if b then Even (length sizes) (port - 1) else Fixed (get_or sizes (port - 1) 0)) (suc width) ≡ get_or (if b then map (share width (length sizes)) (numbers_from 0 (length sizes)) else sizes) (port - 1) 0
   go true = ap (share width (length sizes)) (omega arith) ∙ sym (mapped_or (share width (length sizes)) 0 (length sizes) (port - 1) (omega arith))
   go false = refl
+through _ held port is = rw is refl
 
 -- ---- the cut
 
@@ -71,15 +69,13 @@ cut (x ∷ xs) (suc k) = cut xs k
 
 taken_shown : (shape : Shape) (lists held : ℕ) (inputs : List ℕ) → HasParts shape → ((k : ℕ) → get_or inputs k 0 ≤ 1025) →
     outputs_of shape (taken_by (form_of shape lists) held inputs) ≡ map (min most_width) (taken shape lists (get_or (outputs_of shape held) 0 0) inputs)
-taken_shown Shape.Elementwise lists held inputs parts small = refl
-taken_shown (Shape.Joined sizes) lists held inputs parts small = refl
-taken_shown Shape.Single lists held inputs parts small = refl
 taken_shown (Shape.Parted sizes) lists held inputs parts small =
     let same : min most_width (get_or inputs 0 0) ≡ get_or inputs 0 0 = omega (arith, small 0) in
     ap (λ (w : ℕ). outputs_of (Shape.Parted sizes) (suc w)) same ∙ go (are_open sizes) where
       go : (b : Bool) → (if b then map (share (get_or inputs 0 0) (length sizes)) (numbers_from 0 (length sizes)) else sizes) ≡ map (min most_width) (if b then map (share (get_or inputs 0 0) (length sizes)) (numbers_from 0 (length sizes)) else sizes)
       go true = sym (cut_numbers (share (get_or inputs 0 0) (length sizes)) 0 (length sizes) (λ k. share_small (get_or inputs 0 0) (length sizes) k (omega (arith, parts.0)) (small 0)))
       go false = sym (cut_small sizes (parts.1))
+taken_shown _ lists held inputs parts small = refl
 
 -- ---- a round
 
@@ -182,9 +178,7 @@ shown_round diagram forms sources held laid mirrors size is =
 
 first_row : (shape : Shape) (width : ℕ) → outputs_of shape (first_held shape width) ≡ first_of shape width
 first_row Shape.Elementwise width = refl
-first_row (Shape.Joined sizes) width = refl
-first_row (Shape.Parted sizes) width = refl
-first_row Shape.Single width = refl
+first_row _ width = refl
 
 first_shown : (blocks : List Block) → shown blocks (all_first blocks) ≡ map (λ block. first_of (shape_of block.kind) (declared_width block.kind)) blocks
 first_shown [] = refl
@@ -241,9 +235,7 @@ held_shows diagram forms sources n laid mirrors = (shows diagram forms sources n
 
 first_held_fits : (shape : Shape) (width : ℕ) → width ≤ 1025 → first_held shape width ≤ 1026
 first_held_fits Shape.Elementwise width small = omega arith
-first_held_fits (Shape.Joined sizes) width small = omega arith
-first_held_fits (Shape.Parted sizes) width small = omega arith
-first_held_fits Shape.Single width small = omega arith
+first_held_fits _ width small = omega arith
 
 pub first_fits : (blocks : List Block) (k d : ℕ) → ((j : ℕ) (block : Block) → slice_get blocks j ≡ Some block → declared_width block.kind ≤ 1025) → k < length (all_first blocks) → get_or (all_first blocks) k d ≤ 1026
 first_fits [] k d small inside = absurd (omega arith)

@@ -12,7 +12,7 @@ use Rattle.fx_type.proofs.Found.{Decides-int_le}
 use Rattle.fx_type.specs.declared.kind.FxType.{FxType}
 use Rattle.fx_type.specs.declared.kind.FxType.TheVariants.{Num, Logical}
 use Rattle.fx_type.specs.declared.spec.TypeSpec.{TypeSpec}
-use Rattle.fx_type.specs.declared.spec.TypeSpec.TheVariants.{Fixed, Internal, SameFirst, Auto}
+use Rattle.fx_type.specs.declared.spec.TypeSpec.TheVariants.{Fixed}
 use Rattle.fx_type.specs.FxType.{IsType}
 use Rattle.fx_type.specs.FullTypeOf.{is_word}
 use Rattle.fx_type.specs.Laws.{FullSumIsOne, UnionIsOne}
@@ -21,7 +21,7 @@ use Rattle.dg_model.specs.declared.diagram.Diagram.{Diagram}
 use Rattle.dg_model.specs.declared.diagram.Block.{Block}
 use Rattle.dg_model.specs.declared.diagram.Edge.{Edge}
 use Rattle.dg_model.specs.declared.kind.Kind.{Kind}
-use Rattle.dg_model.specs.declared.kind.Kind.TheVariants.{Inport, Outport, Constant, Ground, Sum, Gain, Product, Switch, Relational, Logic, Convert, Delay, Mux, Demux, RateTransition, Pass, EnableTest, EnOut, Terminator}
+use Rattle.dg_model.specs.declared.kind.Kind.TheVariants.{Sum, Gain}
 use Rattle.dg_model.specs.KindRow.{IsSpec}
 use Rattle.dg_model.specs.Library.{HasPorts, IsReadable, row_of}
 use Rattle.dg_model.specs.Periods.{known_at, known_or}
@@ -49,9 +49,7 @@ type_is Logical valid = refl
 
 spec_is : (spec : TypeSpec) → IsSpec spec → is_valid_spec spec ≡ true
 spec_is (Fixed type) valid = type_is type valid
-spec_is Internal valid = refl
-spec_is SameFirst valid = refl
-spec_is Auto valid = refl
+spec_is _ valid = refl
 
 pub full_types_are : FullSumIsOne → UnionIsOne → FullTypesAreValid
 full_types_are sums unions = record {
@@ -66,25 +64,9 @@ full_types_are sums unions = record {
 }
 
 full_ready : (kind : Kind) (inputs outputs : ℕ) → HasPorts kind inputs outputs → (row_of kind).parameters → is_full_ready (row_of kind).types.full inputs ≡ true
-full_ready (Inport number width) inputs outputs ports has = refl
-full_ready (Outport number) inputs outputs ports has = refl
-full_ready (Constant value) inputs outputs ports has = refl
-full_ready Ground inputs outputs ports has = refl
 full_ready (Sum negative) inputs outputs ports has = both_true (eq-eqb (length negative) inputs (sym ports.0)) (both_true (le-leb 1 (length negative) (omega (arith, has.0))) (le-leb (length negative) 32 has.1))
 full_ready (Gain value param) inputs outputs ports has = spec_is param has.2
-full_ready Product inputs outputs ports has = refl
-full_ready (Switch criterion threshold) inputs outputs ports has = refl
-full_ready (Relational operator) inputs outputs ports has = refl
-full_ready (Logic operator) inputs outputs ports has = refl
-full_ready (Convert stored) inputs outputs ports has = refl
-full_ready (Delay delay initial reset) inputs outputs ports has = refl
-full_ready (Mux sizes) inputs outputs ports has = refl
-full_ready (Demux sizes) inputs outputs ports has = refl
-full_ready (RateTransition period initial) inputs outputs ports has = refl
-full_ready (Pass width) inputs outputs ports has = refl
-full_ready EnableTest inputs outputs ports has = refl
-full_ready (EnOut reset initial) inputs outputs ports has = refl
-full_ready Terminator inputs outputs ports has = refl
+full_ready _ inputs outputs ports has = refl
 
 inputs_are : (diagram : Diagram) (place : ℕ) (block : Block) → IsWired diagram → slice_get diagram.blocks place ≡ Some block → length (edges_into diagram place) ≡ block.inputs
 inputs_are diagram place block wired at =
@@ -93,9 +75,7 @@ inputs_are diagram place block wired at =
 
 explicit_valid : (spec : TypeSpec) → IsSpec spec → IsKnownValid (explicit_type spec)
 explicit_valid (Fixed type) valid = valid
-explicit_valid Internal valid = tt
-explicit_valid SameFirst valid = tt
-explicit_valid Auto valid = tt
+explicit_valid _ valid = tt
 
 -- the types that are written out are valid
 pub first_valid : (blocks : List Block) → All IsReadable blocks → All IsKnownValid (first_types blocks)

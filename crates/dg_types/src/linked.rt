@@ -1,5 +1,5 @@
 ghost use Rattle.std.specs.Prelude.{◌≡◌, true, ◌<◌, ◌≤◌, [], min, max, sum, All, length, slice_index_or};
-ghost use Rattle.dg_types.specs.inner.Linked.{width_through as width_through_of, is_shared_out, source_widths, next_held, AreLinked};
+ghost use Rattle.dg_types.specs.inner.Linked.{width_through as width_through_of, is_shared_out, source_widths, next_held, AreLinked, CanTake};
 ghost use Rattle.dg_types.specs.inner.LinkedLaws.{is_local, stays};
 ghost use Rattle.dg_model.specs.Widths.{share as share_of, greatest, most_width};
 
@@ -84,9 +84,7 @@ fn width_through(share: Share, held: u32) -> u32
 
 /// The greatest of what the sources show and a least.
 fn greatest_width(values: &[u32], sources: &[Source], least: u32) -> u32
-    requires small { All (λ value. value ≤ 1026) values.now }
-    requires there { All (λ source. source.block < length values.now) sources.now }
-    requires some { All (λ source. is_shared_out source.share ≡ true) sources.now }
+    requires { CanTake values.now sources.now }
     ensures { result ≡ max least (greatest (source_widths values.now sources.now)) }
 {
     let mut most = least;
@@ -98,9 +96,7 @@ fn greatest_width(values: &[u32], sources: &[Source], least: u32) -> u32
 
 /// What the sources show together, cut.
 fn sum_of_widths(values: &[u32], sources: &[Source]) -> u32
-    requires small { All (λ value. value ≤ 1026) values.now }
-    requires there { All (λ source. source.block < length values.now) sources.now }
-    requires some { All (λ source. is_shared_out source.share ≡ true) sources.now }
+    requires { CanTake values.now sources.now }
     ensures { result ≡ min most_width (sum (source_widths values.now sources.now)) }
 {
     let mut together = 0;
@@ -166,9 +162,7 @@ impl Round for WidthRound {
 
 /// What the first source shows, 0 where there is none.
 fn first_width(values: &[u32], sources: &[Source]) -> u32
-    requires small { All (λ value. value ≤ 1026) values.now }
-    requires there { All (λ source. source.block < length values.now) sources.now }
-    requires some { All (λ source. is_shared_out source.share ≡ true) sources.now }
+    requires { CanTake values.now sources.now }
     ensures { result ≡ slice_index_or (source_widths values.now sources.now) 0 0 }
 {
     match sources.first() {

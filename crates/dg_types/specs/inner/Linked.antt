@@ -1,5 +1,5 @@
 -- What the code of the rounds of widths holds: of each block what it has taken, and how its sources are read (own).
-use Rattle.std.specs.Prelude.{◌≡◌, ℕ, zero, suc, ◌<◌, min, max, sum, Bool, true, List, [], length, map, All, Some, slice_get, slice_index_or, nat_lt}
+use Rattle.std.specs.Prelude.{◌≡◌, ℕ, zero, suc, ◌<◌, ◌≤◌, min, max, sum, Bool, true, List, [], length, map, All, Some, slice_get, slice_index_or, nat_lt}
 use Rattle.dg_types.specs.declared.linked.Share.{Share}
 use Rattle.dg_types.specs.declared.linked.Share.TheVariants.{Whole, Even, Fixed}
 use Rattle.dg_types.specs.declared.linked.Source.{Source}
@@ -21,6 +21,12 @@ abbrev pub is_shared_out : Share → Bool
 is_shared_out Whole = true
 is_shared_out (Even parts place) = nat_lt 0 parts
 is_shared_out (Fixed size) = true
+
+-- each value is one that a block can hold, and each source a block that has one, and shares it out
+pub record CanTake (values : List ℕ) (sources : List Source) : Type 0 where
+  pub small : All (λ value. value ≤ 1026) values
+  pub there : All (λ source. source.block < length values) sources
+  pub some : All (λ source. is_shared_out source.share ≡ true) sources
 
 abbrev pub source_widths : List ℕ → List Source → List ℕ
 source_widths values sources = map (λ source. width_through source.share (slice_index_or values source.block 0)) sources

@@ -4,7 +4,7 @@ use Rattle.std.specs.Prelude.{slice_get, unwrap_or, Option}
 use Rattle.std.proofs.lemmas.Option.{unwrap_or-slice_get}
 use Rattle.dg_types.specs.declared.linked.Source.{Source}
 use Rattle.dg_types.specs.declared.linked.Form.{Form}
-use Rattle.dg_types.specs.declared.linked.Form.TheVariants.{Elementwise, Joined, Divided, Single}
+use Rattle.dg_types.specs.declared.linked.Form.TheVariants.{Elementwise, Single}
 use Rattle.dg_types.specs.inner.Linked.{width_through, source_widths, taken_by, next_held, AreLinked}
 use Rattle.dg_waves.specs.inner.Waves.{is_in}
 
@@ -28,9 +28,7 @@ is_local forms sources readers old new block linked inside same =
 
 taken_stays : (form : Form) (own : ℕ) (inputs : List ℕ) → taken_by form own inputs ≤ 1026
 taken_stays (Elementwise least) own inputs = omega arith
-taken_stays Joined own inputs = omega arith
-taken_stays Divided own inputs = omega arith
-taken_stays Single own inputs = omega arith
+taken_stays _ own inputs = omega arith
 
 pub stays : (forms : List Form) (sources : List (List Source)) (values : List ℕ) (block : ℕ) → next_held forms sources values block ≤ 1026
 stays forms sources values block = taken_stays (get_or forms block Single) (get_or values block 0) (source_widths values (get_or sources block []))

@@ -13,7 +13,7 @@ use Rattle.fx_type.specs.declared.decimal.Decimal.{Decimal}
 use Rattle.fx_type.specs.FxType.{IsType, is_signed, width_of, frac_of}
 use Rattle.fx_type.specs.FullTypeOf.{is_word, full_sum_of, full_product_of, union_of}
 use Rattle.dg_model.specs.declared.kind.Kind.{Kind}
-use Rattle.dg_model.specs.declared.kind.Kind.TheVariants.{Inport, Outport, Constant, Ground, Sum, Gain, Product, Switch, Relational, Logic, Convert, Delay, Mux, Demux, RateTransition, Pass, EnableTest, EnOut, Terminator}
+use Rattle.dg_model.specs.declared.kind.Kind.TheVariants.{Ground}
 use Rattle.dg_model.specs.declared.row.OwnType.{OwnType}
 use Rattle.dg_model.specs.KindRow.{FullRule}
 use Rattle.dg_model.specs.Library.{row_of}
@@ -69,9 +69,7 @@ type_valid Logical h = tt
 
 spec_valid : (spec : TypeSpec) → is_valid_spec spec ≡ true → IsKnownValid (explicit_type spec)
 spec_valid (Fixed type) h = type_valid type h
-spec_valid Internal h = tt
-spec_valid SameFirst h = tt
-spec_valid Auto h = tt
+spec_valid _ h = tt
 
 given : (o : Option FxType) → ((type : FxType) → o ≡ Some type → is_valid_type type ≡ true) → IsKnownValid o
 given None is = tt
@@ -160,25 +158,8 @@ IsOwnValid OwnType.OfInput = Unit {0}
 
 own_is : (kind : Kind) → IsOwnValid (row_of kind).types.own
 unfolding IsOwnValid
-own_is (Inport number width) = tt
-own_is (Outport number) = tt
-own_is (Constant value) = tt
 own_is Ground = ((omega arith, omega arith), omega (arith, ints), omega (arith, ints))
-own_is (Sum negative) = tt
-own_is (Gain value param) = tt
-own_is Product = tt
-own_is (Switch criterion threshold) = tt
-own_is (Relational operator) = tt
-own_is (Logic operator) = tt
-own_is (Convert stored) = tt
-own_is (Delay delay initial reset) = tt
-own_is (Mux sizes) = tt
-own_is (Demux sizes) = tt
-own_is (RateTransition period initial) = tt
-own_is (Pass width) = tt
-own_is EnableTest = tt
-own_is (EnOut reset initial) = tt
-own_is Terminator = tt
+own_is _ = tt
 
 own_valid : (own : OwnType) (types : Types) → IsOwnValid own → All IsKnownValid types → IsKnownValid (own_type own types)
 unfolding IsOwnValid

@@ -1,8 +1,9 @@
-use Rattle.std.proofs.Common.{ℕ, List, [], ◌∷◌, ◌++◌, Some, take, sym, ap, ◌∙◌}
-use Rattle.std.proofs.lemmas.List.{map_more, take_all}
+use Rattle.std.proofs.Common.{Some, sym, ap, ◌∙◌}
+use Rattle.std.proofs.lemmas.List.{take_all}
 use Rattle.std.proofs.lemmas.Option.{slice_get-get_or}
 use Rattle.dg_model.specs.declared.diagram.Block.{Block}
 use Rattle.dg_types.specs.inner.Shown.{shape_of, declared_width, first_held, all_first}
+use Rattle.dg_types.proofs.Numbered.{made_more}
 use Rattle.dg_types.proofs.scanning.all_first.Goals as goal
 
 pub first_held-requires : goal.first_held-requires
@@ -12,13 +13,8 @@ first_held-requires c =
 
 pub loop-block-preserved : goal.loop-block-preserved
 loop-block-preserved c =
-    let before = all_first (take c.loop-block.block-index c.args.blocks.now) in
-    let value = λ (block : Block). first_held (shape_of block.kind) (declared_width block.kind) in
-    c.in_ok-push.ensures.items
-    ∙ ap (λ (first : List ℕ). first ++ c.first_held.result ∷ []) c.loop-block.invariant
-    ∙ ap (λ (held : ℕ). before ++ held ∷ []) c.first_held.ensures
-    ∙ ap (λ (block : Block). before ++ value block ∷ []) c.block-item.is
-    ∙ sym (map_more value c.args.blocks.now c.loop-block.block-index c.block-item.result c.loop-block-test.true)
+    made_more (λ (block : Block). first_held (shape_of block.kind) (declared_width block.kind)) c.args.blocks.now c.loop-block.block-index c.block-item.result c.first_held.result _ _
+    c.loop-block-test.true c.block-item.is c.first_held.ensures c.loop-block.invariant c.in_ok-push.ensures.items
 
 pub returns : goal.returns
 returns c = c.loop-block.invariant ∙ ap all_first (take_all c.loop-block.block-index c.args.blocks.now c.loop-block-test.false)

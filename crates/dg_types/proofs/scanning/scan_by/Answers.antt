@@ -9,6 +9,7 @@ use Rattle.dg_types.proofs.FromWired.{have_rows, is_laid}
 use Rattle.dg_types.proofs.Shown.{first_fits, length_first, length_shown}
 use Rattle.dg_types.proofs.ScanFacts.{ends_there, is_scan}
 use Rattle.dg_types.proofs.scanning.scan_by.Goals as goal
+use Rattle.dg_types.proofs.scanning.scan_by.Goals.{After-as_slice, After-as_slice-4}
 
 pub after_rounds-requires-clause-fit : goal.after_rounds-requires-clause-fit
 after_rounds-requires-clause-fit c =
@@ -44,11 +45,18 @@ all_first-requires c = λ k block at.
     let small = (is_laid c.args.diagram.now c.requires.wired).declared k block (ap (λ (bs : List Block). slice_get bs k) (sym c.as_slice-blocks.ensures) ∙ at) in
     omega (arith, small)
 
-pub rows_of-requires-clause-size : goal.rows_of-requires-clause-size
-rows_of-requires-clause-size c =
+-- how many blocks hold widths, and have them at their output ports
+held_long : (c : After-as_slice) → length c.as_slice.result.now ≡ length c.as_slice-blocks.result.now
+held_long c =
     let blocks = c.as_slice-blocks.result.now in
-    let next = next_held c.args.round.now.forms c.args.round.now.sources in
-    ap length (c.as_slice.ensures.value ∙ c.in_ok-held.ensures.values) ∙ length_after next (length blocks) c.in_ok-first.first.items ∙ ap length c.in_ok-first.ensures ∙ length_first blocks
+    ap length (c.as_slice.ensures.value ∙ c.in_ok-held.ensures.values) ∙ length_after (next_held c.args.round.now.forms c.args.round.now.sources) (length blocks) c.in_ok-first.first.items
+    ∙ ap length c.in_ok-first.ensures ∙ length_first blocks
+
+widths_long : (c : After-as_slice-4) → length c.as_slice.result.now ≡ length c.as_slice-blocks.result.now → length c.in_ok-widths.widths ≡ length c.args.diagram.now.blocks
+widths_long c held = ap length c.in_ok-widths.ensures ∙ length_shown c.as_slice-blocks.result.now c.as_slice.result.now held ∙ ap length c.as_slice-blocks.ensures
+
+pub rows_of-requires-clause-size : goal.rows_of-requires-clause-size
+rows_of-requires-clause-size c = held_long (goal.at.rows_of-requires-clause-size c).After-as_slice
 
 pub after_rounds-requires-2-clause-size : goal.after_rounds-requires-2-clause-size
 after_rounds-requires-2-clause-size c =
@@ -66,18 +74,14 @@ rows_of-requires-2-clause-size c =
 
 pub input_rows-requires-clause-from : goal.input_rows-requires-clause-from
 input_rows-requires-clause-from c =
-    let blocks = c.as_slice-blocks.result.now in
-    let next = next_held c.args.round.now.forms c.args.round.now.sources in
-    let held : length c.as_slice.result.now ≡ length blocks = ap length (c.as_slice.ensures.value ∙ c.in_ok-held.ensures.values) ∙ length_after next (length blocks) c.in_ok-first.first.items ∙ ap length c.in_ok-first.ensures ∙ length_first blocks in
-    let size = ap length c.in_ok-widths.ensures ∙ length_shown blocks c.as_slice.result.now held ∙ ap length c.as_slice-blocks.ensures in
+    let points = goal.at.input_rows-requires-clause-from c in
+    let size = widths_long points.After-as_slice-4 (held_long points.After-as_slice) in
     rw (c.as_slice-3.ensures, c.as_slice-4.ensures) (λ k edge inside. (ends_there c.args.diagram.now c.in_ok-widths.widths c.requires.wired size k edge inside).0)
 
 pub input_rows-requires-clause-to : goal.input_rows-requires-clause-to
 input_rows-requires-clause-to c =
-    let blocks = c.as_slice-blocks.result.now in
-    let next = next_held c.args.round.now.forms c.args.round.now.sources in
-    let held : length c.as_slice.result.now ≡ length blocks = ap length (c.as_slice.ensures.value ∙ c.in_ok-held.ensures.values) ∙ length_after next (length blocks) c.in_ok-first.first.items ∙ ap length c.in_ok-first.ensures ∙ length_first blocks in
-    let size = ap length c.in_ok-widths.ensures ∙ length_shown blocks c.as_slice.result.now held ∙ ap length c.as_slice-blocks.ensures in
+    let points = goal.at.input_rows-requires-clause-to c in
+    let size = widths_long points.After-as_slice-4 (held_long points.After-as_slice) in
     rw (c.as_slice-3.ensures, c.as_slice-4.ensures) (λ k edge inside. (ends_there c.args.diagram.now c.in_ok-widths.widths c.requires.wired size k edge inside).1)
 
 pub returns : goal.returns

@@ -1,28 +1,15 @@
+use Rattle.dg_types.specs.inner.Linked.{CanTake}
 use Rattle.dg_types.proofs.linked.WidthRoundRound.next.Goals as goal
+use Rattle.dg_types.proofs.linked.WidthRoundRound.next.Goals.{After-sources_of-sources}
 
-pub greatest_width-requires-clause-small : goal.greatest_width-requires-clause-small
-greatest_width-requires-clause-small c = c.requires.fit
+can_take : (c : After-sources_of-sources) → CanTake c.args.values.now c.sources_of-sources.result.now
+can_take c = record { small = c.requires.fit; there = rw c.requires.all c.sources_of-sources.ensures.there; some = c.sources_of-sources.ensures.shared_out }
 
-pub greatest_width-requires-clause-there : goal.greatest_width-requires-clause-there
-greatest_width-requires-clause-there c = rw c.requires.all c.sources_of-sources.ensures.there
+pub greatest_width-requires : goal.greatest_width-requires
+greatest_width-requires c = can_take (goal.at.greatest_width-requires c).After-sources_of-sources
 
-pub greatest_width-requires-clause-some : goal.greatest_width-requires-clause-some
-greatest_width-requires-clause-some c = c.sources_of-sources.ensures.shared_out
+pub sum_of_widths-requires : goal.sum_of_widths-requires
+sum_of_widths-requires c = can_take (goal.at.sum_of_widths-requires c).After-sources_of-sources
 
-pub sum_of_widths-requires-clause-small : goal.sum_of_widths-requires-clause-small
-sum_of_widths-requires-clause-small c = c.requires.fit
-
-pub sum_of_widths-requires-clause-there : goal.sum_of_widths-requires-clause-there
-sum_of_widths-requires-clause-there c = rw c.requires.all c.sources_of-sources.ensures.there
-
-pub sum_of_widths-requires-clause-some : goal.sum_of_widths-requires-clause-some
-sum_of_widths-requires-clause-some c = c.sources_of-sources.ensures.shared_out
-
-pub first_width-requires-clause-small : goal.first_width-requires-clause-small
-first_width-requires-clause-small c = c.requires.fit
-
-pub first_width-requires-clause-there : goal.first_width-requires-clause-there
-first_width-requires-clause-there c = rw c.requires.all c.sources_of-sources.ensures.there
-
-pub first_width-requires-clause-some : goal.first_width-requires-clause-some
-first_width-requires-clause-some c = c.sources_of-sources.ensures.shared_out
+pub first_width-requires : goal.first_width-requires
+first_width-requires c = can_take (goal.at.first_width-requires c).After-sources_of-sources
