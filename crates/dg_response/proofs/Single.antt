@@ -19,12 +19,8 @@ use Rattle.dg_response.proofs.Lists.{same-map}
 
 output-role : (diagram : Diagram) (attributes : Attributes) (outputs block port number : ℕ) (role : Role) → root_output role ≡ Some number
     → (ports_of_role role outputs ≡ 1) × (width_of_role diagram attributes role block port ≡ width_into diagram attributes block 1)
-output-role diagram attributes outputs block port number (Role.RootInput own) e = absurd (none-some number e)
 output-role diagram attributes outputs block port number (Role.RootOutput own) e = (refl, refl)
-output-role diagram attributes outputs block port number (Role.InnerPort width) e = absurd (none-some number e)
-output-role diagram attributes outputs block port number Role.EnabledOutput e = absurd (none-some number e)
-output-role diagram attributes outputs block port number Role.Control e = absurd (none-some number e)
-output-role diagram attributes outputs block port number Role.Plain e = absurd (none-some number e)
+output-role diagram attributes outputs block port number _ e = absurd (none-some number e)
 
 module _ (listed : OutputsAreListed) (one : TablesAreOne) (diagram : Diagram) (order : List ℕ) (ordered : IsOrdered diagram order) where
   abbrev attributes : Attributes

@@ -5,13 +5,18 @@ use Rattle.std.proofs.lemmas.Int.{to_z-of_z}
 use Rattle.fx_type.specs.FxType.{IsType, lowest_of, highest_of}
 use Rattle.fx_io.proofs.Places.{get_some}
 use Rattle.dg_response.proofs.root_columns.column.Goals as goal
+use Rattle.dg_response.proofs.root_columns.column.Goals.{After-result-kind}
 
-pub lowest-requires : goal.lowest-requires
-lowest-requires c =
+-- the type is valid
+valid : (c : After-result-kind) → IsType c.result-kind.result
+valid c =
     let checked = c.args.checked.now in
     let there = get_some checked.diagram.blocks c.args.block c.requires in
-    let valid = c.operations_prepare.ensures.types checked.diagram checked.order c.args.block there.0 (record { checked = c.keeps_rules.ensures.checked; ordered = c.keeps_rules.ensures.ordered }) there.1 in
-    subst IsType (sym (c.result-kind.ensures 1)) valid.0
+    subst IsType (sym (c.result-kind.ensures 1))
+    (c.operations_prepare.ensures.types checked.diagram checked.order c.args.block there.0 (record { checked = c.keeps_rules.ensures.checked; ordered = c.keeps_rules.ensures.ordered }) there.1).0
+
+pub lowest-requires : goal.lowest-requires
+lowest-requires c = valid (goal.at.lowest-requires c).After-result-kind
 
 pub returns : goal.returns
 returns c =
@@ -22,8 +27,4 @@ returns c =
     rw (low, high, period) refl
 
 pub highest-requires : goal.highest-requires
-highest-requires c =
-    let checked = c.args.checked.now in
-    let there = get_some checked.diagram.blocks c.args.block c.requires in
-    let valid = c.operations_prepare.ensures.types checked.diagram checked.order c.args.block there.0 (record { checked = c.keeps_rules.ensures.checked; ordered = c.keeps_rules.ensures.ordered }) there.1 in
-    subst IsType (sym (c.result-kind.ensures 1)) valid.0
+highest-requires c = valid (goal.at.highest-requires c).After-result-kind
