@@ -10,7 +10,7 @@ use Rattle.dg_model.specs.declared.diagram.Block.{Block}
 use Rattle.dg_model.specs.declared.diagram.PeriodSpec.{PeriodSpec}
 use Rattle.dg_model.specs.declared.diagram.PeriodSpec.TheVariants.{Inherit, Constant as NeverChanges, Every}
 use Rattle.dg_model.specs.declared.kind.Kind.{Kind}
-use Rattle.dg_model.specs.declared.kind.Kind.TheVariants.{Inport, Outport, Constant, Ground, Sum, Gain, Product, Switch, Relational, Logic, Convert, Delay, Mux, Demux, RateTransition, Pass, EnableTest, EnOut, Terminator}
+use Rattle.dg_model.specs.declared.kind.Kind.TheVariants.{Ground, Mux, Demux, RateTransition, EnableTest, Terminator}
 use Rattle.dg_model.specs.KindRow.{IsPeriod}
 use Rattle.dg_model.specs.Library.{row_of}
 use Rattle.dg_model.specs.Periods.{Period, Periods, base_units, first_period, units_of}
@@ -29,25 +29,13 @@ first_is diagram base kind (Every period) same = ap (λ b. Some (Some (units_of 
 
 -- a period that a kind may declare is above 0
 pub declared_above : (kind : Kind) (period : Decimal) → (row_of kind).parameters → (row_of kind).timing.may_be (Every period) → IsPeriod period
-declared_above (Inport number width) period has is = is
-declared_above (Outport number) period has is = is
-declared_above (Constant value) period has is = is
 declared_above Ground period has is = absurd (cc is)
-declared_above (Sum negative) period has is = is
-declared_above (Gain value param) period has is = is
-declared_above Product period has is = is
-declared_above (Switch criterion threshold) period has is = is
-declared_above (Relational operator) period has is = is
-declared_above (Logic operator) period has is = is
-declared_above (Convert stored) period has is = is
-declared_above (Delay delay initial reset) period has is = is
 declared_above (Mux sizes) period has is = absurd (cc is)
 declared_above (Demux sizes) period has is = absurd (cc is)
 declared_above (RateTransition own initial) period has is = let same : own ≡ period = cc is in subst IsPeriod same (has.0)
-declared_above (Pass width) period has is = is
 declared_above EnableTest period has is = absurd (cc is)
-declared_above (EnOut reset initial) period has is = is
 declared_above Terminator period has is = absurd (cc is)
+declared_above _ period has is = is
 
 above : (kind : Kind) (period : PeriodSpec) (block : Block) → block.kind ≡ kind → block.period ≡ period → (row_of kind).parameters → (row_of kind).timing.may_be period → IsAbove block
 above kind Inherit block kind_is period_is has may = rw period_is tt
