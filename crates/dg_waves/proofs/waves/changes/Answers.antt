@@ -50,14 +50,10 @@ pub other_value-requires-clause-fit : goal.other_value-requires-clause-fit
 other_value-requires-clause-fit g c = c.requires.between.fit
 
 pub returns-clause-sought : goal.returns-clause-sought
-returns-clause-sought g c =
-    let none = drop_all c.loop-block.block-index c.args.waiting.now (omega (arith, c.loop-block-test.false)) in
-    rw none at c.loop-block.invariant.sought
+returns-clause-sought g c = rw (drop_all c.loop-block.block-index c.args.waiting.now (omega (arith, c.loop-block-test.false))) at c.loop-block.invariant.sought
 
 pub returns-clause-there : goal.returns-clause-there
 returns-clause-there g c = c.loop-block.invariant.there
 
 pub returns-clause-none : goal.returns-clause-none
-returns-clause-none g c =
-    let none = drop_all c.loop-block.block-index c.args.waiting.now (omega (arith, c.loop-block-test.false)) in
-    rw none at c.loop-block.invariant.wait
+returns-clause-none g c = rw (drop_all c.loop-block.block-index c.args.waiting.now (omega (arith, c.loop-block-test.false))) at c.loop-block.invariant.wait

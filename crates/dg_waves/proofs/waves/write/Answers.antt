@@ -41,9 +41,7 @@ pub let_wait-requires-clause-wait : goal.let_wait-requires-clause-wait
 let_wait-requires-clause-wait g c = c.loop-change.invariant.wait
 
 pub returns-clause-written : goal.returns-clause-written
-returns-clause-written g c =
-    let none = drop_all c.loop-change.change-index c.args.changes.now (omega (arith, c.loop-change-test.false)) in
-    rw none at c.loop-change.invariant.left
+returns-clause-written g c = rw (drop_all c.loop-change.change-index c.args.changes.now (omega (arith, c.loop-change-test.false))) at c.loop-change.invariant.left
 
 pub returns-clause-there : goal.returns-clause-there
 returns-clause-there g c = c.loop-change.invariant.there
@@ -52,9 +50,7 @@ pub returns-clause-wait : goal.returns-clause-wait
 returns-clause-wait g c = c.loop-change.invariant.wait
 
 pub returns-clause-marked : goal.returns-clause-marked
-returns-clause-marked g c =
-    let none = drop_all c.loop-change.change-index c.args.changes.now (omega (arith, c.loop-change-test.false)) in
-    rw none at c.loop-change.invariant.marked
+returns-clause-marked g c = rw (drop_all c.loop-change.change-index c.args.changes.now (omega (arith, c.loop-change-test.false))) at c.loop-change.invariant.marked
 
 pub bounds-values-change : goal.bounds-values-change
 bounds-values-change g c =
