@@ -13,8 +13,6 @@ use Rattle.hw_lower.specs.declared.plan.Step.{Step}
 use Rattle.hw_lower.specs.declared.plan.Operand.{Operand}
 use Rattle.hw_lower.specs.inner.Planned.{Numbers, Obeys, IsAt, HasParts, CanRead, IsPlain, IsSound, Grows, IsMade, IsPut, reads_of, operands_of, three, no_inputs, step_of}
 
--- Lists.
-
 -- Plans that grow.
 
 pub still-at : (old added new : List Step) (k : ℕ) (step : Step) → new ≡ old ++ added → slice_get old k ≡ Some step → slice_get new k ≡ Some step
@@ -98,13 +96,16 @@ last-is old new step other k is past there =
     let found : slice_get new k ≡ Some step = ap (λ (xs : List Step). slice_get xs k) is ∙ ap (slice_get (old ++ step ∷ [])) last ∙ last_at old step in
     (last, same_Some step other (sym found ∙ there))
 
+pub sound-one : (old new : List Step) (step : Step) → new ≡ old ++ step ∷ [] → IsSound new (length old) step → (k : ℕ) (other : Step) → length old ≤ k → slice_get new k ≡ Some other → IsSound new k other
+sound-one old new step is sound k other past there =
+    let last = last-is old new step other k is past there in
+    subst (λ (i : ℕ). IsSound new i other) (sym last.0) (subst (λ (s : Step). IsSound new (length old) s) last.1 sound)
+
 pub grows-one : (old new : List Step) (step : Step) → new ≡ old ++ step ∷ [] → IsSound new (length old) step → IsPlain step.op → Grows old new
 grows-one old new step is sound plain = record {
   added = step ∷ [];
   is = is;
-  sound = λ k other past there.
-      let last = last-is old new step other k is past there in
-      subst (λ (i : ℕ). IsSound new i other) (sym last.0) (subst (λ (s : Step). IsSound new (length old) s) last.1 sound);
+  sound = sound-one old new step is sound;
   plain = λ k other past there.
       let last = last-is old new step other k is past there in
       subst (λ (s : Step). IsPlain s.op) last.1 plain;

@@ -118,10 +118,17 @@ slice-bits nets number high low order wide = record {
 abbrev HaveWords : List Step → List Net → (ℕ → ℕ) → ℕ → Type 0
 HaveWords steps nets f place = (read : ℕ) (step : Step) → read < place → slice_get steps read ≡ Some step → HasWord nets (f read) step.word.width step.word.signed
 
+-- an input is no operation of steps
+pub no-input : (number : ℕ) → IsInner (Input number) → ⊥
+no-input number (inl plain) = plain
+no-input number (inr e) =
+    let two : 0 ≡ 2 = ap arity e in
+    absurd (omega (arith, two))
+
 parts-there : (steps : List Step) (nets : List Net) (inputs place : ℕ) (op : NetOp) (f : ℕ → ℕ) (a b c : ℕ) → IsInner op → HasParts steps a op
     → All (λ read. read < place) (take (arity op) (a ∷ b ∷ c ∷ [])) → HaveWords steps nets f place → (default : Step) → place ≤ length steps
     → NetHasParts nets inputs (map f (take (arity op) (a ∷ b ∷ c ∷ []))) op
-parts-there steps nets inputs place (Input number) f a b c inner has earlier words default inside = absurd inner
+parts-there steps nets inputs place (Input number) f a b c inner has earlier words default inside = absurd (no-input number inner)
 parts-there steps nets inputs place (Const value) f a b c inner has earlier words default inside = tt
 parts-there steps nets inputs place Resize f a b c inner has earlier words default inside = tt
 parts-there steps nets inputs place (ShiftUp places) f a b c inner has earlier words default inside = tt

@@ -26,12 +26,12 @@ use Rattle.hw_lower.specs.inner.Spread.{AreInputs, AreArguments, OfArguments, Is
 use Rattle.hw_lower.specs.inner.Placed.{number_of, net_of, AreNets, CanPut}
 use Rattle.hw_lower.proofs.Made.{stood-at}
 use Rattle.fx_type.proofs.Ranges.{range-word}
-use Rattle.hw_lower.proofs.Numbered.{number-given, number-later, word-at}
+use Rattle.hw_lower.proofs.Numbered.{no-input, number-given, number-later, word-at}
 
 -- a step and its net are given the same
 given-same : (op : NetOp) (inputs other row : ℕ → ℤ) (f : ℕ → ℕ) (a b c : ℕ) → IsInner op
     → given_by op inputs (operands_at row (map f (take (arity op) (a ∷ b ∷ c ∷ [])))) ≡ given_by op other (record { first = row (f a); second = row (f b); third = row (f c) })
-given-same (Input number) inputs other row f a b c inner = absurd inner
+given-same (Input number) inputs other row f a b c inner = absurd (no-input number inner)
 given-same (Const value) inputs other row f a b c inner = refl
 given-same Resize inputs other row f a b c inner = refl
 given-same (ShiftUp places) inputs other row f a b c inner = refl

@@ -3,35 +3,15 @@ use Rattle.std.proofs.Common.{◌≡◌, ℕ, ◌+◌, ◌-◌, ◌≤◌, ◌*�
 use Rattle.std.proofs.lemmas.Bool.{cases_lt}
 use Rattle.std.proofs.lemmas.Option.{none-some, same_Some, slice_get_within}
 use Rattle.fx_num.specs.Word.{IsWord, IsWrapped}
-use Rattle.hw_net.specs.declared.netlist.NetOp.{NetOp}
-use Rattle.hw_net.specs.declared.netlist.NetOp.TheVariants.{Input, Const, Resize, ShiftUp, ShiftDown, Add, Subtract, Negate, Multiply, And, Or, Xor, Not, Less, Equal, Choose, Slice}
+use Rattle.hw_net.specs.declared.netlist.NetOp.TheVariants.{Multiply}
 use Rattle.hw_lower.specs.declared.plan.Word.{Word}
 use Rattle.hw_lower.specs.declared.plan.Step.{Step}
 use Rattle.hw_lower.specs.declared.plan.Operand.{Operand}
 use Rattle.hw_lower.specs.inner.Planned.{Numbers, IsAt, IsPlain, IsSound, Grows, Gives, IsMade, IsPut, step_of, Obeys}
 use Rattle.hw_lower.specs.inner.Spread.{IsInner, IsMultiplyAt, Spreads, IsPlanned}
 use Rattle.fx_io.proofs.Places.{last_at}
-use Rattle.hw_lower.proofs.Made.{last-is, still-at, stood-at, each-trans, sound-trans, obeys-before, below-taken}
+use Rattle.hw_lower.proofs.Made.{last-is, sound-one, still-at, stood-at, each-trans, sound-trans, obeys-before, below-taken}
 use Rattle.hw_lower.proofs.Chained.{InWords, in-words}
-
-plain-inner : (op : NetOp) → IsPlain op → IsInner op
-plain-inner (Input number) plain = plain
-plain-inner (Const value) plain = tt
-plain-inner Resize plain = tt
-plain-inner (ShiftUp places) plain = tt
-plain-inner (ShiftDown places) plain = tt
-plain-inner Add plain = tt
-plain-inner Subtract plain = tt
-plain-inner Negate plain = tt
-plain-inner Multiply plain = tt
-plain-inner And plain = tt
-plain-inner Or plain = tt
-plain-inner Xor plain = tt
-plain-inner Not plain = tt
-plain-inner Less plain = tt
-plain-inner Equal plain = tt
-plain-inner Choose plain = tt
-plain-inner (Slice high low) plain = tt
 
 -- no plain step is a Multiply
 plain-none : (old new : List Step) (k : ℕ) → Grows old new → length old ≤ k → IsMultiplyAt new k → ⊥
@@ -42,7 +22,7 @@ spreads-plain old new g = record {
   added = g.added;
   is = g.is;
   sound = g.sound;
-  inner = λ k step past there. plain-inner step.op (g.plain k step past there);
+  inner = λ k step past there. inl (g.plain k step past there);
   multiplies = λ place e. absurd (none-some place e);
   only = λ place at. absurd (plain-none old new (length old + place) g (omega arith) at);
 }
@@ -51,13 +31,10 @@ pub spreads-multiply : (old new : List Step) (step : Step) → new ≡ old ++ st
 spreads-multiply old new step is sound multiplies = record {
   added = step ∷ [];
   is = is;
-  sound = λ k other past there.
-      let last = last-is old new step other k is past there in
-      subst (λ (i : ℕ). IsSound new i other) (sym last.0) (subst (λ (s : Step). IsSound new (length old) s) last.1 sound);
+  sound = sound-one old new step is sound;
   inner = λ k other past there.
       let last = last-is old new step other k is past there in
-      let op : other.op ≡ Multiply = ap (λ (s : Step). s.op) (sym last.1) ∙ multiplies in
-      subst IsInner (sym op) tt;
+      inr (ap (λ (s : Step). s.op) (sym last.1) ∙ multiplies);
   multiplies = λ place e.
       let none : place ≡ 0 = sym (same_Some 0 place e) in
       let at : length old + place ≡ length old = omega arith in
@@ -77,7 +54,7 @@ spreads-then a b c m p q = record {
   added = p.added ++ q.added;
   is = q.is ∙ ap (λ (xs : List Step). xs ++ q.added) p.is ∙ append_assoc a p.added q.added;
   sound = sound-trans a b q.added c q.is p.sound q.sound;
-  inner = each-trans a b q.added c (λ k step. IsInner step.op) (λ k step. IsInner step.op) q.is (λ k step less inner. inner) p.inner (λ k step more there. plain-inner step.op (q.plain k step more there));
+  inner = each-trans a b q.added c (λ k step. IsInner step.op) (λ k step. IsInner step.op) q.is (λ k step less inner. inner) p.inner (λ k step more there. inl (q.plain k step more there));
   multiplies = λ place e.
       let at = p.multiplies place e in
       record { step = at.step; is = still-at b q.added c (length a + place) at.step q.is at.is; multiplies = at.multiplies };
@@ -94,7 +71,7 @@ spreads-after a b c p size q = record {
   added = p.added ++ q.added;
   is = q.is ∙ ap (λ (xs : List Step). xs ++ q.added) p.is ∙ append_assoc a p.added q.added;
   sound = sound-trans a b q.added c q.is p.sound q.sound;
-  inner = each-trans a b q.added c (λ k step. IsPlain step.op) (λ k step. IsInner step.op) q.is (λ k step less plain. plain-inner step.op plain) p.plain q.inner;
+  inner = each-trans a b q.added c (λ k step. IsPlain step.op) (λ k step. IsInner step.op) q.is (λ k step less plain. inl plain) p.plain q.inner;
   multiplies = λ place e.
       let one : place ≡ 1 = sym (same_Some 1 place e) in
       let at = q.multiplies 0 refl in

@@ -3,7 +3,7 @@ ghost use Rattle.std.specs.Prelude.{◌≡◌, ◌≤ℤ◌, ◌<◌, ◌≤◌,
 ghost use Rattle.fx_num.specs.Word.{IsWord, IsWrapped};
 ghost use Rattle.fx_type.specs.FxType.{IsType, frac_of, aligned as aligned_of};
 ghost use Rattle.hw_lower.specs.inner.Planned.{IsAt, IsMade, word_of};
-ghost use Rattle.hw_lower.specs.inner.Spread.{argument_of};
+ghost use Rattle.hw_lower.specs.inner.Spread.{argument_of, side_of};
 
 use crate::plan::{Operand, Plan, Word, word_of};
 use crate::settling::shifted;
@@ -26,6 +26,19 @@ pub fn argument_of(types: &[FxType], input: usize) -> Operand
     Operand {
         place: input as u32,
         word: word_of(types[input]),
+    }
+}
+
+/// The same with its type.
+pub fn side_of(types: &[FxType], input: usize) -> Side
+    requires inside { input < length types.now }
+    requires few { length types.now ≤ 32 }
+    ensures { result ≡ side_of types.now input }
+{
+    let from = argument_of(types, input);
+    Side {
+        kind: types[input],
+        from,
     }
 }
 

@@ -1,9 +1,10 @@
 //! Comparisons and criteria.
-ghost use Rattle.std.specs.Prelude.{◌≡◌, int_lt, int_le, not, IfOk};
-ghost use Rattle.std.specs.Ordering.{int_eq};
+ghost use Rattle.std.specs.Prelude.{◌≡◌, Bool, not, IfOk};
 ghost use Rattle.fx_num.specs.Word.{InWord};
 ghost use Rattle.dg_model.specs.Operation.{compares, meets, stored_truth};
-ghost use Rattle.hw_lower.specs.inner.Planned.{IsAt, IsMade, IsSwitched, bit_word};
+ghost use Rattle.hw_net.specs.Operation.{given_by, truth};
+ghost use Rattle.hw_lower.specs.inner.Planned.{IsAt, IsMade, IsPlain, CanRead, IsSwitched};
+ghost use Rattle.hw_lower.specs.inner.Planned.{bit_word, no_inputs, three};
 
 use crate::bits::{bit_word, inverse};
 use crate::plan::{Operand, Plan, binary, choose, constant};
@@ -11,49 +12,23 @@ use dg_model::{Criterion, Relation};
 use fx_io::OutOfMemory;
 use hw_net::NetOp;
 
-/// Whether the first number is below the second.
-fn less(plan: &mut Plan, one: Operand, other: Operand) -> Result<Operand, OutOfMemory>
+/// The opposite of what an operation on two steps tells in one bit.
+fn opposite(
+    plan: &mut Plan,
+    op: NetOp,
+    one: Operand,
+    other: Operand,
+) -> Result<Operand, OutOfMemory>
+    requires plain { IsPlain op }
+    requires parts { CanRead op one.word.width }
     requires one { IsAt plan.old one }
     requires other { IsAt plan.old other }
-    ensures { IfOk result (λ made. IsMade plan.old plan.new bit_word (λ numbers.
-        numbers made.place ≡ stored_truth (int_lt (numbers one.place) (numbers other.place)))
-        made) }
+    ensures { IfOk result (λ made. IsMade plan.old plan.new bit_word (λ numbers. (told : Bool)
+        → given_by op no_inputs (three numbers one other other) ≡ truth told
+        → numbers made.place ≡ stored_truth (not told)) made) }
 {
-    binary(plan, NetOp::Less, one, other, bit_word())
-}
-
-/// Whether both are one number.
-fn equal(plan: &mut Plan, one: Operand, other: Operand) -> Result<Operand, OutOfMemory>
-    requires one { IsAt plan.old one }
-    requires other { IsAt plan.old other }
-    ensures { IfOk result (λ made. IsMade plan.old plan.new bit_word (λ numbers.
-        numbers made.place ≡ stored_truth (int_eq (numbers one.place) (numbers other.place)))
-        made) }
-{
-    binary(plan, NetOp::Equal, one, other, bit_word())
-}
-
-/// Whether the first number is not below the second.
-fn at_least(plan: &mut Plan, one: Operand, other: Operand) -> Result<Operand, OutOfMemory>
-    requires one { IsAt plan.old one }
-    requires other { IsAt plan.old other }
-    ensures { IfOk result (λ made. IsMade plan.old plan.new bit_word (λ numbers.
-        numbers made.place ≡ stored_truth (int_le (numbers other.place) (numbers one.place)))
-        made) }
-{
-    let below = less(plan, one, other)?;
-    inverse(plan, below)
-}
-
-/// Whether the numbers differ.
-fn differs(plan: &mut Plan, one: Operand, other: Operand) -> Result<Operand, OutOfMemory>
-    requires one { IsAt plan.old one }
-    requires other { IsAt plan.old other }
-    ensures { IfOk result (λ made. IsMade plan.old plan.new bit_word (λ numbers. numbers made.place
-        ≡ stored_truth (not (int_eq (numbers one.place) (numbers other.place)))) made) }
-{
-    let same = equal(plan, one, other)?;
-    inverse(plan, same)
+    let bit = binary(plan, op, one, other, bit_word())?;
+    inverse(plan, bit)
 }
 
 /// Whether two numbers in one unit are so related.
@@ -69,12 +44,12 @@ pub fn related(
         ≡ stored_truth (compares operator (numbers one.place) (numbers other.place))) made) }
 {
     match operator {
-        Relation::Eq => equal(plan, one, other),
-        Relation::Ne => differs(plan, one, other),
-        Relation::Lt => less(plan, one, other),
-        Relation::Le => at_least(plan, other, one),
-        Relation::Ge => at_least(plan, one, other),
-        Relation::Gt => less(plan, other, one),
+        Relation::Eq => binary(plan, NetOp::Equal, one, other, bit_word()),
+        Relation::Ne => opposite(plan, NetOp::Equal, one, other),
+        Relation::Lt => binary(plan, NetOp::Less, one, other, bit_word()),
+        Relation::Le => opposite(plan, NetOp::Less, other, one),
+        Relation::Ge => opposite(plan, NetOp::Less, one, other),
+        Relation::Gt => binary(plan, NetOp::Less, other, one, bit_word()),
     }
 }
 

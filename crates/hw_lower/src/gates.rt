@@ -1,12 +1,12 @@
 //! Gates over the truth of the arguments.
-ghost use Rattle.std.specs.Prelude.{◌≡◌, ◌≤◌, pos, ◌-ℤ◌, not, length, IfOk};
+ghost use Rattle.std.specs.Prelude.{◌≡◌, ◌≤◌, not, length, IfOk};
 ghost use Rattle.dg_model.specs.Operation.{gate_of, stored_truth};
-ghost use Rattle.hw_lower.specs.inner.Planned.{IsAt, IsMade, IsChosen, bit_word};
+ghost use Rattle.hw_lower.specs.inner.Planned.{IsAt, IsMade, bit_word};
 ghost use Rattle.hw_lower.specs.inner.Spread.{HasArguments, OfArguments, IsJoined, truth_of};
 
 use crate::aligning::argument_of;
 use crate::bits::{bit_word, both, inverse, truth};
-use crate::plan::{Operand, Plan, choose, constant};
+use crate::plan::{Operand, Plan, choose};
 use dg_model::Gate;
 use fx_io::OutOfMemory;
 use fx_type::FxType;
@@ -20,31 +20,6 @@ pub enum Joining {
     Any,
     /// Whether an odd count is other than 0.
     Odd,
-}
-
-/// 1 where the number isn't 0, else the bit.
-fn either(plan: &mut Plan, test: Operand, bit: Operand) -> Result<Operand, OutOfMemory>
-    requires test { IsAt plan.old test }
-    requires bit { IsAt plan.old bit }
-    requires word { bit.word ≡ bit_word }
-    ensures { IfOk result (λ made. IsMade plan.old plan.new bit_word (λ numbers.
-        IsChosen (numbers test.place) (pos 1) (numbers bit.place) (numbers made.place)) made) }
-{
-    let one = truth(plan, test)?;
-    choose(plan, test, one, bit, bit_word())
-}
-
-/// The other bit where the number isn't 0, else the bit.
-fn differing(plan: &mut Plan, test: Operand, bit: Operand) -> Result<Operand, OutOfMemory>
-    requires test { IsAt plan.old test }
-    requires bit { IsAt plan.old bit }
-    requires word { bit.word ≡ bit_word }
-    ensures { IfOk result (λ made. IsMade plan.old plan.new bit_word (λ numbers. IsChosen
-        (numbers test.place) (pos 1 -ℤ numbers bit.place) (numbers bit.place)
-        (numbers made.place)) made) }
-{
-    let other = inverse(plan, bit)?;
-    choose(plan, test, other, bit, bit_word())
 }
 
 /// One number more.
@@ -62,8 +37,14 @@ fn joined(
 {
     match joining {
         Joining::Every => both(plan, test, bit),
-        Joining::Any => either(plan, test, bit),
-        Joining::Odd => differing(plan, test, bit),
+        Joining::Any => {
+            let one = truth(plan, test)?;
+            choose(plan, test, one, bit, bit_word())
+        }
+        Joining::Odd => {
+            let other = inverse(plan, bit)?;
+            choose(plan, test, other, bit, bit_word())
+        }
     }
 }
 

@@ -12,7 +12,7 @@ ghost use Rattle.hw_lower.specs.inner.Planned.{IsAt, IsMade, word_of};
 ghost use Rattle.hw_lower.specs.inner.Spread.{HasArguments, OfArguments, IsPlanned, IsScaled};
 ghost use Rattle.hw_lower.specs.Lowered.{multiply_of};
 
-use crate::aligning::{Side, argument_of};
+use crate::aligning::{Side, argument_of, side_of};
 use crate::comparing::switched;
 use crate::gates::gate;
 use crate::plan::{Operand, Plan, Word, multiply, put_alone, word_of};
@@ -128,11 +128,7 @@ fn planned_gain(
         (value_of values 0) coefficient (numbers made.place))) made) }
 {
     let from = put_alone(plan, NetOp::Const(coefficient), word_of(param))?;
-    let first = argument_of(call.types, 0);
-    let one = Side {
-        kind: call.types[0],
-        from: first,
-    };
+    let one = side_of(call.types, 0);
     scaled(plan, call, one, Side { kind: param, from })
 }
 
@@ -151,16 +147,8 @@ fn planned_product(plan: &mut Plan, call: &OpCall) -> Result<Operand, OutOfMemor
         (type_of call.now.types.now 1) (value_of values 0) (value_of values 1)
         (numbers made.place))) made) }
 {
-    let first = argument_of(call.types, 0);
-    let second = argument_of(call.types, 1);
-    let one = Side {
-        kind: call.types[0],
-        from: first,
-    };
-    let other = Side {
-        kind: call.types[1],
-        from: second,
-    };
+    let one = side_of(call.types, 0);
+    let other = side_of(call.types, 1);
     scaled(plan, call, one, other)
 }
 
@@ -237,20 +225,6 @@ fn planned_conversion(plan: &mut Plan, call: &OpCall, stored: bool) -> Result<Op
     argument_settled(plan, call, 0)
 }
 
-/// The argument itself.
-fn planned_pass(plan: &mut Plan, call: &OpCall) -> Result<Operand, OutOfMemory>
-    requires arguments { HasArguments plan.old call.now.types.now }
-    requires single { length call.now.types.now ≡ 1 }
-    ensures { IfOk result (λ made.
-        IsMade plan.old plan.new (word_of (type_of call.now.types.now 0)) (λ numbers.
-        OfArguments call.now.types.now numbers (λ values.
-        numbers made.place ≡ value_of values 0)) made) }
-{
-    let _ = plan;
-    let made = argument_of(call.types, 0);
-    Ok(made)
-}
-
 /// The steps of an operation behind its arguments, and the one that has its result.
 pub fn planned(plan: &mut Plan, call: &OpCall) -> Result<Operand, OutOfMemory>
     requires arguments { HasArguments plan.old call.now.types.now }
@@ -270,6 +244,6 @@ pub fn planned(plan: &mut Plan, call: &OpCall) -> Result<Operand, OutOfMemory>
         Op::Relational { operator } => compared(plan, operator, call.types),
         Op::Logic { operator } => gate(plan, operator, call.types),
         Op::Convert { stored } => planned_conversion(plan, call, stored),
-        Op::Pass => planned_pass(plan, call),
+        Op::Pass => Ok(argument_of(call.types, 0)),
     }
 }

@@ -7,7 +7,7 @@ ghost use Rattle.dg_model.specs.Operation.{compares_values, stored_truth, type_o
 ghost use Rattle.hw_lower.specs.inner.Planned.{IsAt, IsMade, bit_word, word_of};
 ghost use Rattle.hw_lower.specs.inner.Spread.{HasArguments, OfArguments};
 
-use crate::aligning::{Side, aligned, argument_of};
+use crate::aligning::{Side, aligned, side_of};
 use crate::comparing::related;
 use crate::plan::{Operand, Plan, word_of};
 use dg_model::Relation;
@@ -28,16 +28,6 @@ fn held(plan: &mut Plan, side: Side, holder: FxType) -> Result<Operand, OutOfMem
     aligned(plan, side, holder.frac(), word_of(holder))
 }
 
-/// The union of two types that have one.
-fn union_of(one: FxType, other: FxType) -> FxType
-    requires one { IsType one }
-    requires other { IsType other }
-    requires union { (both : FxType) × IsUnion one other both }
-    ensures { IsUnion one other result }
-{
-    union(one, other).unwrap()
-}
-
 /// Whether the real values of two arguments are so related, compared in the union of their types.
 pub fn compared(
     plan: &mut Plan,
@@ -53,17 +43,9 @@ pub fn compared(
         ≡ stored_truth (compares_values operator (type_of types.now 0) (type_of types.now 1)
         (value_of values 0) (value_of values 1)))) made) }
 {
-    let both = union_of(types[0], types[1]);
-    let first = argument_of(types, 0);
-    let second = argument_of(types, 1);
-    let one = Side {
-        kind: types[0],
-        from: first,
-    };
-    let other = Side {
-        kind: types[1],
-        from: second,
-    };
+    let both = union(types[0], types[1]).unwrap();
+    let one = side_of(types, 0);
+    let other = side_of(types, 1);
     let left = held(plan, one, both)?;
     let right = held(plan, other, both)?;
     related(plan, operator, left, right)

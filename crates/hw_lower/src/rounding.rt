@@ -1,11 +1,10 @@
 //! A number divided by a power of two and rounded, in its own word: the quotient rounded down, and
 //! a carry of one bit.
-ghost use Rattle.std.specs.Prelude.{◌≡◌, ◌≤◌, ◌-◌, ◌^◌, ◌+ℤ◌, IfOk};
-ghost use Rattle.fx_type.specs.Conversion.{Rounds};
+ghost use Rattle.std.specs.Prelude.{◌≡◌, ◌≤◌, ◌-◌, ◌+ℤ◌, IfOk};
 ghost use Rattle.fx_type.specs.declared.rounding.Rounding.TheVariants.{Ceiling, Zero, Round};
 ghost use Rattle.fx_type.specs.declared.rounding.Rounding.TheVariants.{Nearest, Convergent};
 ghost use Rattle.hw_net.specs.Operation.{shifted_down, low_bits};
-ghost use Rattle.hw_lower.specs.inner.Planned.{IsAt, IsMade, IsPastTie, bit_word};
+ghost use Rattle.hw_lower.specs.inner.Planned.{IsAt, IsMade, IsPastTie, IsRounded, bit_word};
 
 use crate::bits::{bit, bit_word, both, lowest, truth};
 use crate::plan::{Operand, Plan, binary, choose, constant, unary};
@@ -22,8 +21,7 @@ pub fn rounded(
 ) -> Result<Operand, OutOfMemory>
     requires at { IsAt plan.old from }
     requires some { 1 ≤ by }
-    ensures { IfOk result (λ made. IsMade plan.old plan.new from.word (λ numbers.
-        Rounds mode (numbers from.place) (2 ^ by) (numbers made.place)) made) }
+    ensures { IfOk result (IsRounded mode plan.old plan.new from by) }
 {
     match mode {
         Rounding::Floor => down(plan, from, by),
@@ -61,8 +59,7 @@ fn raised(plan: &mut Plan, from: Operand, by: u8, carry: Operand) -> Result<Oper
 fn up(plan: &mut Plan, from: Operand, by: u8) -> Result<Operand, OutOfMemory>
     requires at { IsAt plan.old from }
     requires some { 1 ≤ by }
-    ensures { IfOk result (λ made. IsMade plan.old plan.new from.word (λ numbers.
-        Rounds Ceiling (numbers from.place) (2 ^ by) (numbers made.place)) made) }
+    ensures { IfOk result (IsRounded Ceiling plan.old plan.new from by) }
 {
     let low = lowest(plan, from, by)?;
     let carry = truth(plan, low)?;
@@ -73,8 +70,7 @@ fn up(plan: &mut Plan, from: Operand, by: u8) -> Result<Operand, OutOfMemory>
 fn to_zero(plan: &mut Plan, from: Operand, by: u8) -> Result<Operand, OutOfMemory>
     requires at { IsAt plan.old from }
     requires some { 1 ≤ by }
-    ensures { IfOk result (λ made. IsMade plan.old plan.new from.word (λ numbers.
-        Rounds Zero (numbers from.place) (2 ^ by) (numbers made.place)) made) }
+    ensures { IfOk result (IsRounded Zero plan.old plan.new from by) }
 {
     if from.word.signed {
         let low = lowest(plan, from, by)?;
@@ -89,8 +85,7 @@ fn to_zero(plan: &mut Plan, from: Operand, by: u8) -> Result<Operand, OutOfMemor
 fn to_nearest(plan: &mut Plan, from: Operand, by: u8) -> Result<Operand, OutOfMemory>
     requires at { IsAt plan.old from }
     requires some { 1 ≤ by }
-    ensures { IfOk result (λ made. IsMade plan.old plan.new from.word (λ numbers.
-        Rounds Nearest (numbers from.place) (2 ^ by) (numbers made.place)) made) }
+    ensures { IfOk result (IsRounded Nearest plan.old plan.new from by) }
 {
     let half = bit(plan, from, by - 1)?;
     raised(plan, from, by, half)
@@ -101,8 +96,7 @@ fn to_nearest(plan: &mut Plan, from: Operand, by: u8) -> Result<Operand, OutOfMe
 fn from_zero(plan: &mut Plan, from: Operand, by: u8) -> Result<Operand, OutOfMemory>
     requires at { IsAt plan.old from }
     requires some { 1 ≤ by }
-    ensures { IfOk result (λ made. IsMade plan.old plan.new from.word (λ numbers.
-        Rounds Round (numbers from.place) (2 ^ by) (numbers made.place)) made) }
+    ensures { IfOk result (IsRounded Round plan.old plan.new from by) }
 {
     if from.word.signed {
         let half = bit(plan, from, by - 1)?;
@@ -120,8 +114,7 @@ fn from_zero(plan: &mut Plan, from: Operand, by: u8) -> Result<Operand, OutOfMem
 fn to_even(plan: &mut Plan, from: Operand, by: u8) -> Result<Operand, OutOfMemory>
     requires at { IsAt plan.old from }
     requires some { 1 ≤ by }
-    ensures { IfOk result (λ made. IsMade plan.old plan.new from.word (λ numbers.
-        Rounds Convergent (numbers from.place) (2 ^ by) (numbers made.place)) made) }
+    ensures { IfOk result (IsRounded Convergent plan.old plan.new from by) }
 {
     let half = bit(plan, from, by - 1)?;
     let odd = bit(plan, from, by)?;

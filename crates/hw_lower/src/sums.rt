@@ -7,7 +7,7 @@ ghost use Rattle.dg_model.specs.Operation.{signed_sum as signed_sum_of};
 ghost use Rattle.hw_lower.specs.inner.Planned.{IsAt, IsMade, word_of};
 ghost use Rattle.hw_lower.specs.inner.Spread.{HasArguments, OfArguments};
 
-use crate::aligning::{Side, aligned, argument_of};
+use crate::aligning::{Side, aligned, side_of};
 use crate::plan::{Operand, Plan, Word, binary, unary, word_of};
 use fx_io::OutOfMemory;
 use fx_type::FxType;
@@ -63,9 +63,8 @@ pub fn summed(
     let first = term_begun(plan, signs, types, frac, word)?;
     let mut total = first;
     for input in 1..types.len() {
-        let from = argument_of(types, input);
-        let kind = types[input];
-        total = added(plan, total, signs[input], Side { kind, from }, frac, word)?;
+        let side = side_of(types, input);
+        total = added(plan, total, signs[input], side, frac, word)?;
     }
     Ok(total)
 }
@@ -91,11 +90,9 @@ fn term_begun(
         (signed_sum_of frac (take 1 (zip signs.now types.now)) (take 1 values))
         word.width word.signed (numbers made.place))) made) }
 {
-    let from = argument_of(types, 0);
-    let kind = types[0];
-    let negative = signs[0];
-    let value = aligned(plan, Side { kind, from }, frac, word)?;
-    if negative {
+    let side = side_of(types, 0);
+    let value = aligned(plan, side, frac, word)?;
+    if signs[0] {
         return unary(plan, NetOp::Negate, value, word);
     }
     Ok(value)

@@ -1,10 +1,12 @@
 -- Steps of a plan: what their numbers are, and how a plan grows.
-use Rattle.std.specs.Prelude.{◌≡◌, ℕ, ◌<◌, ◌≤◌, ℤ, List, [], ◌∷◌, ◌++◌, take, length, All}
+use Rattle.std.specs.Prelude.{◌≡◌, ℕ, ◌<◌, ◌≤◌, ◌^◌, ℤ, List, [], ◌∷◌, ◌++◌, take, length, All}
 use Rattle.std.specs.Prelude.{slice_get, Some, ⊤, false}
 use Rattle.std.specs.Prelude.{◌≢◌, ◌≤ℤ◌, ◌<ℤ◌, Bool, true, pos}
 use Rattle.fx_num.specs.Word.{IsWord, IsWrapped, word_lowest, word_highest}
 use Rattle.fx_type.specs.declared.kind.FxType.{FxType}
+use Rattle.fx_type.specs.declared.rounding.Rounding.{Rounding}
 use Rattle.fx_type.specs.FxType.{is_signed, width_of}
+use Rattle.fx_type.specs.Conversion.{Rounds}
 use Rattle.hw_net.specs.declared.netlist.NetOp.{NetOp}
 use Rattle.hw_net.specs.declared.netlist.NetOp.TheVariants.{Input, Const, Resize, ShiftUp}
 use Rattle.hw_net.specs.declared.netlist.NetOp.TheVariants.{ShiftDown, Add, Subtract, Negate}
@@ -185,3 +187,9 @@ pub record IsHeldAbove (word : Word) (exact value result : ℤ) : Type 0 where
 pub record IsSwitched (test : Bool) (first other result : ℤ) : Type 0 where
   pub holds : test ≡ true → result ≡ first
   pub fails : test ≡ false → result ≡ other
+
+-- the operand is one of the plan that has grown: the given one by a power of two, rounded
+abbrev pub IsRounded : Rounding → List Step → List Step → Operand → ℕ → Operand → Type 0
+IsRounded mode old new from by made =
+    IsMade old new from.word (λ numbers.
+    Rounds mode (numbers from.place) (2 ^ by) (numbers made.place)) made

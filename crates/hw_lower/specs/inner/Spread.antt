@@ -1,25 +1,27 @@
 -- Plans of whole operations: their arguments, their one Multiply, and what they give.
 use Rattle.std.specs.Prelude.{◌≡◌, ℕ, ◌+◌, ◌<◌, ◌≤◌, ℤ, List, ◌++◌, length, slice_get, Option}
-use Rattle.std.specs.Prelude.{Some, ⊤, count_by, ◌%◌, ◌==◌, ◌*ℤ◌, ◌-ℤ◌, pos, Bool}
+use Rattle.std.specs.Prelude.{◌⊎◌, Some, count_by, ◌%◌, ◌==◌, ◌*ℤ◌, ◌-ℤ◌, pos, Bool}
 use Rattle.std.specs.List.{list_all, list_any}
 use Rattle.fx_type.specs.declared.kind.FxType.{FxType}
 use Rattle.fx_type.specs.FullType.{IsFullProduct}
 use Rattle.dg_model.specs.Operation.{Operation, AreInRange, IsConverted, is_true, type_of, value_of}
 use Rattle.hw_net.specs.declared.netlist.NetOp.{NetOp}
-use Rattle.hw_net.specs.declared.netlist.NetOp.TheVariants.{Input, Const, Resize, ShiftUp}
-use Rattle.hw_net.specs.declared.netlist.NetOp.TheVariants.{ShiftDown, Add, Subtract, Negate}
-use Rattle.hw_net.specs.declared.netlist.NetOp.TheVariants.{Multiply, And, Or, Xor, Not, Less}
-use Rattle.hw_net.specs.declared.netlist.NetOp.TheVariants.{Equal, Choose, Slice}
+use Rattle.hw_net.specs.declared.netlist.NetOp.TheVariants.{Input, Multiply}
+use Rattle.hw_lower.specs.declared.aligning.Side.{Side}
 use Rattle.hw_lower.specs.declared.gates.Joining.{Joining}
 use Rattle.hw_lower.specs.declared.gates.Joining.TheVariants.{Every, Any, Odd}
 use Rattle.hw_lower.specs.declared.plan.Word.{Word}
 use Rattle.hw_lower.specs.declared.plan.Step.{Step}
 use Rattle.hw_lower.specs.declared.plan.Operand.{Operand}
-use Rattle.hw_lower.specs.inner.Planned.{Numbers, IsAt, IsSound, Gives, IsChosen, word_of, step_of}
+use Rattle.hw_lower.specs.inner.Planned.{Numbers, IsAt, IsPlain, IsSound, Gives, IsChosen, word_of, step_of}
 
 -- argument k of an operation, as a step of its plan
 abbrev pub argument_of : List FxType → ℕ → Operand
 argument_of types input = record { place = input; word = word_of (type_of types input) }
+
+-- the same with its type
+abbrev pub side_of : List FxType → ℕ → Side
+side_of types input = record { kind = type_of types input; from = argument_of types input }
 
 -- the plan begins with the arguments
 pub record HasArguments (plan : List Step) (types : List FxType) : Type 0 where
@@ -42,23 +44,7 @@ OfArguments types numbers Q = (values : List ℤ) → AreArguments types numbers
 
 -- an operation of steps, the Multiply too
 abbrev pub IsInner : NetOp → Type 0
-IsInner (Input number) = ⊥
-IsInner (Const value) = ⊤
-IsInner Resize = ⊤
-IsInner (ShiftUp places) = ⊤
-IsInner (ShiftDown places) = ⊤
-IsInner Add = ⊤
-IsInner Subtract = ⊤
-IsInner Negate = ⊤
-IsInner Multiply = ⊤
-IsInner And = ⊤
-IsInner Or = ⊤
-IsInner Xor = ⊤
-IsInner Not = ⊤
-IsInner Less = ⊤
-IsInner Equal = ⊤
-IsInner Choose = ⊤
-IsInner (Slice high low) = ⊤
+IsInner op = IsPlain op ⊎ (op ≡ Multiply)
 
 -- step k is a Multiply
 pub record IsMultiplyAt (plan : List Step) (k : ℕ) : Type 0 where

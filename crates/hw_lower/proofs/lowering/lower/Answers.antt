@@ -6,6 +6,15 @@ use Rattle.hw_lower.specs.inner.Placed.{number_of}
 use Rattle.hw_lower.proofs.Arguments.{inputs-there, few-inputs}
 use Rattle.hw_lower.proofs.Shown.{IsPutDown, can-put, lowered, lowers}
 use Rattle.hw_lower.proofs.lowering.lower.Goals as goal
+use Rattle.hw_lower.proofs.lowering.lower.Goals.{After-index}
+
+put_down : (c : After-index) → IsPutDown c.args.net.now c.put_nets.new.net c.args.call.now.types.now c.args.args.now c.in_ok-plan.plan c.planned.new.plan (multiply_of c.args.call.now.op)
+put_down c = record {
+  are_args = c.requires.args;
+  inputs = c.in_ok-plan.ensures;
+  spreads = c.in_ok-result.ensures.spreads;
+  nets = rw c.as_slice.ensures at c.in_ok-numbers.ensures.nets;
+}
 
 pub inputs_of-requires : goal.inputs_of-requires
 inputs_of-requires c = few-inputs c.args.call.now.op (length c.args.call.now.types.now) c.requires.can.arity
@@ -25,26 +34,14 @@ index-requires c =
 
 pub returns-clause-lowers : goal.returns-clause-lowers
 returns-clause-lowers c =
-    let down : IsPutDown c.args.net.now c.put_nets.new.net c.args.call.now.types.now c.args.args.now c.in_ok-plan.plan c.planned.new.plan (multiply_of c.args.call.now.op) = record {
-      are_args = c.requires.args;
-      inputs = c.in_ok-plan.ensures;
-      spreads = c.in_ok-result.ensures.spreads;
-      nets = rw c.as_slice.ensures at c.in_ok-numbers.ensures.nets;
-    } in
-    lowers c.args.net.now c.put_nets.new.net c.args.args.now c.in_ok-plan.plan c.planned.new.plan (operation_of c.args.call.now) c.in_ok-result.result down c.in_ok-result.ensures.at
+    lowers c.args.net.now c.put_nets.new.net c.args.args.now c.in_ok-plan.plan c.planned.new.plan (operation_of c.args.call.now) c.in_ok-result.result (put_down (goal.at.returns-clause-lowers c).After-index) c.in_ok-result.ensures.at
 
 pub returns-clause-lowered : goal.returns-clause-lowered
 returns-clause-lowered c =
     let at = c.in_ok-result.ensures.at in
     let base : ℕ = length c.args.net.now.nets in
-    let down : IsPutDown c.args.net.now c.put_nets.new.net c.args.call.now.types.now c.args.args.now c.in_ok-plan.plan c.planned.new.plan (multiply_of c.args.call.now.op) = record {
-      are_args = c.requires.args;
-      inputs = c.in_ok-plan.ensures;
-      spreads = c.in_ok-result.ensures.spreads;
-      nets = rw c.as_slice.ensures at c.in_ok-numbers.ensures.nets;
-    } in
     let are = rw c.as_slice.ensures at c.in_ok-numbers.ensures.numbers in
     let inside = slice_get_within c.planned.new.plan c.in_ok-result.result.place at.step at.is in
     let value = get_or_from_slice_get c.in_ok-numbers.numbers.items c.in_ok-result.result.place (number_of c.args.args.now base c.in_ok-result.result.place) c.index.result.now (are.each c.in_ok-result.result.place inside) in
     let own = c.index.ensures ∙ value in
-    subst (λ (n : ℕ). IsLowered c.args.net.now c.put_nets.new.net (operation_of c.args.call.now) c.args.args.now n) (sym own) (lowered c.args.net.now c.put_nets.new.net c.args.args.now c.in_ok-plan.plan c.planned.new.plan (operation_of c.args.call.now) c.in_ok-result.result down at c.in_ok-result.ensures.has_word c.in_ok-result.ensures.gives)
+    subst (λ (n : ℕ). IsLowered c.args.net.now c.put_nets.new.net (operation_of c.args.call.now) c.args.args.now n) (sym own) (lowered c.args.net.now c.put_nets.new.net c.args.args.now c.in_ok-plan.plan c.planned.new.plan (operation_of c.args.call.now) c.in_ok-result.result (put_down (goal.at.returns-clause-lowered c).After-index) at c.in_ok-result.ensures.has_word c.in_ok-result.ensures.gives)

@@ -6,22 +6,27 @@ use Rattle.fx_type.proofs.Ranges.{frac_bounds}
 use Rattle.dg_model.specs.Operation.{operation_of, IsConverted, type_of}
 use Rattle.hw_lower.proofs.Chained.{if-map}
 use Rattle.hw_lower.proofs.planning.argument_settled.Goals as goal
+use Rattle.hw_lower.proofs.planning.argument_settled.Goals.{After-frac-frac}
+
+-- the frac as 16 bits have it
+frac_is : (c : After-frac-frac) → to_z w16 (of_z w16 c.frac-frac.result) ≡ frac_of (type_of c.args.call.now.types.now c.args.input)
+frac_is c = to_z-of_z w16 c.frac-frac.result (record { sfits = c.frac-frac.type_inv }) ∙ c.frac-frac.ensures
 
 pub settled-requires-clause-at : goal.settled-requires-clause-at
 settled-requires-clause-at c = rw c.argument_of-from.ensures (c.requires.arguments.each c.args.input c.requires.inside)
 
 pub settled-requires-clause-low : goal.settled-requires-clause-low
 settled-requires-clause-low c =
-    let f : to_z w16 (of_z w16 c.frac-frac.result) ≡ frac_of (type_of c.args.call.now.types.now c.args.input) = to_z-of_z w16 c.frac-frac.result (record { sfits = c.frac-frac.type_inv }) ∙ c.frac-frac.ensures in
+    let f = frac_is (goal.at.settled-requires-clause-low c).After-frac-frac in
     rw f (frac_bounds (type_of c.args.call.now.types.now c.args.input) (c.requires.types c.args.input _ c.requires.inside)).0
 
 pub settled-requires-clause-high : goal.settled-requires-clause-high
 settled-requires-clause-high c =
-    let f : to_z w16 (of_z w16 c.frac-frac.result) ≡ frac_of (type_of c.args.call.now.types.now c.args.input) = to_z-of_z w16 c.frac-frac.result (record { sfits = c.frac-frac.type_inv }) ∙ c.frac-frac.ensures in
+    let f = frac_is (goal.at.settled-requires-clause-high c).After-frac-frac in
     rw f (frac_bounds (type_of c.args.call.now.types.now c.args.input) (c.requires.types c.args.input _ c.requires.inside)).1
 
 pub returns : goal.returns
 returns c =
-    let f : to_z w16 (of_z w16 c.frac-frac.result) ≡ frac_of (type_of c.args.call.now.types.now c.args.input) = to_z-of_z w16 c.frac-frac.result (record { sfits = c.frac-frac.type_inv }) ∙ c.frac-frac.ensures in
+    let f = frac_is (goal.at.returns c).After-frac-frac in
     if-map _ _ _ _ (λ made numbers. IsConverted (operation_of c.args.call.now) (numbers c.args.input) (type_of c.args.call.now.types.now c.args.input) (numbers made.place)) _ (rw (c.argument_of-from.ensures, f) at c.settled.ensures)
     (λ made numbers has p. p (type_of c.args.call.now.types.now c.args.input) refl)

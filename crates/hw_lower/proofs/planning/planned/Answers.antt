@@ -1,14 +1,20 @@
-use Rattle.std.proofs.Common.{◌≡◌, ◌*ℤ◌, ℤ, rules, length, subst, to_z, of_z}
+use Rattle.std.proofs.Common.{◌≡◌, ◌*ℤ◌, ℕ, ℤ, Ok, rules, length, subst, to_z, of_z, arith}
+use Rattle.std.specs.Prelude.{⊤}
 use Rattle.std.specs.Int.{w128}
 use Rattle.std.proofs.lemmas.Int.{to_z-of_z}
 use Rattle.fx_type.specs.declared.kind.FxType.TheVariants.{Logical as LogicalType}
 use Rattle.dg_model.specs.declared.op.Op.{Op}
 use Rattle.dg_model.specs.declared.op.Op.TheVariants.{Sum, Gain, Product, Switch, Relational, Logic, Convert, Pass}
 use Rattle.dg_model.specs.Operation.{operation_of, Gives, HasArity, HasResultType, IsConverted, type_of, value_of}
-use Rattle.hw_lower.specs.inner.Spread.{OfArguments}
+use Rattle.hw_lower.specs.inner.Spread.{OfArguments, argument_of}
 use Rattle.hw_lower.proofs.Arguments.{plan-of, plan-typed, few-inputs, gate-inputs}
+use Rattle.hw_lower.proofs.Chained.{made-self}
 use Rattle.hw_lower.proofs.Spreading.{if-plain, if-planned}
 use Rattle.hw_lower.proofs.planning.planned.Goals as goal
+
+-- Pass has one input
+one-passed : (op : Op) (n : ℕ) → op ≡ Pass → HasArity op n → n ≡ 1
+one-passed op n is has = subst (λ (o : Op). HasArity o n) is has
 
 pub returns-in-Sum : goal.returns-in-Sum
 returns-in-Sum c =
@@ -53,11 +59,22 @@ returns-in-Logic c =
     plan-typed _ _ (operation_of c.args.call.now) (Logic c.in-Logic.operator) LogicalType _ c.in-Logic.is type
     (if-plain _ _ _ _ (λ made numbers. OfArguments c.args.call.now.types.now numbers (λ values. Gives (Logic c.in-Logic.operator) (operation_of c.args.call.now) c.args.call.now.types.now values (numbers made.place))) _ c.gate.ensures (λ made numbers has p. p))
 
+pub argument_of-requires-clause-inside : goal.argument_of-requires-clause-inside
+argument_of-requires-clause-inside c =
+    let one = one-passed c.args.call.now.op (length c.args.call.now.types.now) c.in-Pass.is c.requires.can.arity in
+    omega (arith, one)
+
+pub argument_of-requires-clause-few : goal.argument_of-requires-clause-few
+argument_of-requires-clause-few c = few-inputs c.args.call.now.op (length c.args.call.now.types.now) c.requires.can.arity
+
 pub returns-in-Pass : goal.returns-in-Pass
 returns-in-Pass c =
+    let one = one-passed c.args.call.now.op (length c.args.call.now.types.now) c.in-Pass.is c.requires.can.arity in
     let type : c.args.call.now.result ≡ (type_of c.args.call.now.types.now 0) = subst (λ (op : Op). HasResultType op c.args.call.now.types.now c.args.call.now.result) c.in-Pass.is c.requires.can.result_type in
-    plan-typed _ _ (operation_of c.args.call.now) Pass (type_of c.args.call.now.types.now 0) _ c.in-Pass.is type
-    (if-plain _ _ _ _ (λ made numbers. OfArguments c.args.call.now.types.now numbers (λ values. Gives Pass (operation_of c.args.call.now) c.args.call.now.types.now values (numbers made.place))) _ c.planned_pass.ensures (λ made numbers has p. p))
+    rw c.argument_of.ensures
+    (plan-typed {E = ⊤} _ _ (operation_of c.args.call.now) Pass (type_of c.args.call.now.types.now 0) (Ok (argument_of c.args.call.now.types.now 0)) c.in-Pass.is type
+    (if-plain {E = ⊤} _ _ _ _ (λ made numbers. OfArguments c.args.call.now.types.now numbers (λ values. Gives Pass (operation_of c.args.call.now) c.args.call.now.types.now values (numbers made.place))) (Ok (argument_of c.args.call.now.types.now 0))
+    (made-self (λ numbers. OfArguments c.args.call.now.types.now numbers (λ values. numbers 0 ≡ value_of values 0)) (c.requires.arguments.each 0 (omega (arith, one))) (λ numbers has values are. are.each 0 (omega (arith, one)))) (λ made numbers has p. p)))
 
 pub gate-requires-clause-some : goal.gate-requires-clause-some
 gate-requires-clause-some c = gate-inputs c.in-Logic.operator (length c.args.call.now.types.now) (subst (λ (op : Op). HasArity op (length c.args.call.now.types.now)) c.in-Logic.is c.requires.can.arity)

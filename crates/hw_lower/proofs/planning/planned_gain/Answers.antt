@@ -16,13 +16,19 @@ scaled-requires-clause-one c =
     let own = to_z-of_z w128 c.args.coefficient c.ranges.coefficient in
     let put = rw (own, c.word_of.ensures) at c.in_ok-from.ensures in
     let made = constant-made _ _ c.args.coefficient (word_of c.args.param) c.in_ok-from.from (type-word c.args.param c.requires.param) (range-word c.args.param c.args.coefficient c.requires.coefficient) put in
-    rw c.argument_of-first.ensures (at-later _ _ (argument_of c.args.call.now.types.now 0) made.grows (c.requires.arguments.each 0 (omega (arith, c.requires.single))))
+    rw c.side_of-one.ensures (at-later _ _ (argument_of c.args.call.now.types.now 0) made.grows (c.requires.arguments.each 0 (omega (arith, c.requires.single))))
 
 pub scaled-requires-clause-other : goal.scaled-requires-clause-other
 scaled-requires-clause-other c =
     let own = to_z-of_z w128 c.args.coefficient c.ranges.coefficient in
     let put = rw (own, c.word_of.ensures) at c.in_ok-from.ensures in
     (constant-made _ _ c.args.coefficient (word_of c.args.param) c.in_ok-from.from (type-word c.args.param c.requires.param) (range-word c.args.param c.args.coefficient c.requires.coefficient) put).at
+
+pub scaled-requires-clause-left : goal.scaled-requires-clause-left
+scaled-requires-clause-left c = rw c.side_of-one.ensures (c.requires.types 0 _ (omega (arith, c.requires.single)))
+
+pub scaled-requires-clause-full : goal.scaled-requires-clause-full
+scaled-requires-clause-full c = rw c.side_of-one.ensures c.requires.full
 
 pub returns : goal.returns
 returns c =
@@ -31,7 +37,7 @@ returns c =
     let made = constant-made _ _ c.args.coefficient (word_of c.args.param) c.in_ok-from.from (type-word c.args.param c.requires.param) (range-word c.args.param c.args.coefficient c.requires.coefficient) put in
     if-behind _ _ _ _ _ _ _ _
     (λ made numbers. OfArguments c.args.call.now.types.now numbers (λ values. IsScaled (operation_of c.args.call.now) (type_of c.args.call.now.types.now 0) c.args.param (value_of values 0) c.args.coefficient (numbers made.place))) _
-    made (one-longer _ _ _ put.is) (rw c.argument_of-first.ensures at c.scaled.ensures)
+    made (one-longer _ _ _ put.is) (rw c.side_of-one.ensures at c.scaled.ensures)
     (λ made numbers has p q values are.
     let one : numbers 0 ≡ value_of values 0 = are.each 0 (omega (arith, c.requires.single)) in
     let range : InRange c.args.param (numbers c.in_ok-from.from.place) = subst (InRange c.args.param) (sym p) c.requires.coefficient in

@@ -10,20 +10,25 @@ use Rattle.dg_model.specs.Operation.{operation_of, IsConverted, signed_sum}
 use Rattle.hw_lower.specs.inner.Spread.{OfArguments}
 use Rattle.hw_lower.proofs.Chained.{if-then}
 use Rattle.hw_lower.proofs.planning.planned_sum.Goals as goal
+use Rattle.hw_lower.proofs.planning.planned_sum.Goals.{After-frac}
+
+-- the frac as 16 bits have it
+frac_is : (c : After-frac) → to_z w16 (of_z w16 c.frac.result) ≡ frac_of c.sum_type-full.result
+frac_is c = to_z-of_z w16 c.frac.result (record { sfits = c.frac.type_inv }) ∙ c.frac.ensures
 
 pub settled-requires-clause-low : goal.settled-requires-clause-low
 settled-requires-clause-low c =
-    let f : to_z w16 (of_z w16 c.frac.result) ≡ frac_of c.sum_type-full.result = to_z-of_z w16 c.frac.result (record { sfits = c.frac.type_inv }) ∙ c.frac.ensures in
+    let f = frac_is (goal.at.settled-requires-clause-low c).After-frac in
     rw f (frac_bounds c.sum_type-full.result c.sum_type-full.ensures.valid).0
 
 pub settled-requires-clause-high : goal.settled-requires-clause-high
 settled-requires-clause-high c =
-    let f : to_z w16 (of_z w16 c.frac.result) ≡ frac_of c.sum_type-full.result = to_z-of_z w16 c.frac.result (record { sfits = c.frac.type_inv }) ∙ c.frac.ensures in
+    let f = frac_is (goal.at.settled-requires-clause-high c).After-frac in
     rw f (frac_bounds c.sum_type-full.result c.sum_type-full.ensures.valid).1
 
 pub returns : goal.returns
 returns c =
-    let f : to_z w16 (of_z w16 c.frac.result) ≡ frac_of c.sum_type-full.result = to_z-of_z w16 c.frac.result (record { sfits = c.frac.type_inv }) ∙ c.frac.ensures in
+    let f = frac_is (goal.at.returns c).After-frac in
     if-then _ _ _ _ _ _ _ (λ made numbers. OfArguments c.args.call.now.types.now numbers (λ values. (full : FxType) × IsFullSum (zip c.args.call.now.signs.now c.args.call.now.types.now) full × IsConverted (operation_of c.args.call.now) (signed_sum (frac_of full) (zip c.args.call.now.signs.now c.args.call.now.types.now) values) full (numbers made.place))) _ _
     c.in_ok-exact.ensures (rw f at c.settled.ensures)
     (λ made numbers has later p q values are. (

@@ -6,15 +6,20 @@ use Rattle.fx_type.proofs.Ranges.{frac_bounds, type-word}
 use Rattle.hw_lower.proofs.Chained.{if-map}
 use Rattle.hw_lower.proofs.Related.{held-is}
 use Rattle.hw_lower.proofs.relating.held.Goals as goal
+use Rattle.hw_lower.proofs.relating.held.Goals.{After-frac}
+
+-- the frac as 16 bits have it
+frac_is : (c : After-frac) → to_z w16 (of_z w16 c.frac.result) ≡ frac_of c.args.holder
+frac_is c = to_z-of_z w16 c.frac.result (record { sfits = c.frac.type_inv }) ∙ c.frac.ensures
 
 pub aligned-requires-clause-above : goal.aligned-requires-clause-above
 aligned-requires-clause-above c =
-    let f : to_z w16 (of_z w16 c.frac.result) ≡ frac_of c.args.holder = to_z-of_z w16 c.frac.result (record { sfits = c.frac.type_inv }) ∙ c.frac.ensures in
+    let f = frac_is (goal.at.aligned-requires-clause-above c).After-frac in
     rw f c.requires.above
 
 pub aligned-requires-clause-high : goal.aligned-requires-clause-high
 aligned-requires-clause-high c =
-    let f : to_z w16 (of_z w16 c.frac.result) ≡ frac_of c.args.holder = to_z-of_z w16 c.frac.result (record { sfits = c.frac.type_inv }) ∙ c.frac.ensures in
+    let f = frac_is (goal.at.aligned-requires-clause-high c).After-frac in
     rw f (frac_bounds c.args.holder c.requires.holder).1
 
 pub aligned-requires-clause-word : goal.aligned-requires-clause-word
@@ -22,6 +27,6 @@ aligned-requires-clause-word c = rw c.word_of.ensures (type-word c.args.holder c
 
 pub returns : goal.returns
 returns c =
-    let f : to_z w16 (of_z w16 c.frac.result) ≡ frac_of c.args.holder = to_z-of_z w16 c.frac.result (record { sfits = c.frac.type_inv }) ∙ c.frac.ensures in
+    let f = frac_is (goal.at.returns c).After-frac in
     if-map _ _ _ _ (λ made numbers. InRange c.args.side.kind (numbers c.args.side.from.place) → numbers made.place ≡ aligned (frac_of c.args.holder) c.args.side.kind (numbers c.args.side.from.place)) _ (rw (c.word_of.ensures, f) at c.aligned.ensures)
     (λ made numbers has p range. held-is c.args.holder c.args.side.kind (numbers c.args.side.from.place) (numbers made.place) c.requires.holder c.requires.holds p range)

@@ -3,7 +3,7 @@ use Rattle.std.specs.Int.{w16}
 use Rattle.std.proofs.lemmas.Int.{ints}
 use Rattle.fx_type.specs.declared.kind.FxType.{FxType}
 use Rattle.fx_type.specs.declared.kind.FxType.TheVariants.{Num}
-use Rattle.fx_type.specs.FxType.{IsType, frac_of}
+use Rattle.fx_type.specs.FxType.{frac_of}
 use Rattle.fx_type.specs.Conversion.{Converts}
 use Rattle.fx_type.proofs.Ranges.{gap_is, gap_none}
 use Rattle.hw_lower.proofs.Chained.{if-map}
@@ -12,7 +12,7 @@ use Rattle.hw_lower.proofs.settling.converted.Goals as goal
 
 pub returns-then-behind-frac : goal.returns-then-behind-frac
 returns-then-behind-frac c =
-    let to_type : IsType (Num c.in-Num.signed c.in-Num.width c.in-Num.behind) = rw c.in-Num.is at c.requires.to in
+    let to_type = rw c.in-Num.is at c.requires.to in
     let x = to_z w16 (of_z w16 (to_z w16 (of_z w16 c.in-Num.behind) -ℤ to_z w16 (of_z w16 c.args.frac))) in
     let difference : x ≡ c.in-Num.behind -ℤ c.args.frac = omega (arith, ints, to_type.1, to_type.2, c.requires.low, c.requires.high) in
     let order : c.args.frac ≤ℤ c.in-Num.behind = omega (arith, ints, to_type.1, to_type.2, c.requires.low, c.requires.high, c.if-behind-frac.true) in
@@ -24,7 +24,7 @@ returns-then-behind-frac c =
 
 pub returns : goal.returns
 returns c =
-    let to_type : IsType (Num c.in-Num.signed c.in-Num.width c.in-Num.behind) = rw c.in-Num.is at c.requires.to in
+    let to_type = rw c.in-Num.is at c.requires.to in
     let x = to_z w16 (of_z w16 (to_z w16 (of_z w16 c.args.frac) -ℤ to_z w16 (of_z w16 c.in-Num.behind))) in
     let difference : x ≡ c.args.frac -ℤ c.in-Num.behind = omega (arith, ints, to_type.1, to_type.2, c.requires.low, c.requires.high) in
     let order : c.in-Num.behind ≤ℤ c.args.frac = omega (arith, ints, to_type.1, to_type.2, c.requires.low, c.requires.high, c.if-behind-frac.false) in
@@ -38,34 +38,30 @@ pub settled-requires-clause-at : goal.settled-requires-clause-at
 settled-requires-clause-at c = c.requires.at
 
 pub settled-requires-clause-word : goal.settled-requires-clause-word
-settled-requires-clause-word c =
-    let to_type : IsType (Num c.in-Num.signed c.in-Num.width c.in-Num.behind) = rw c.in-Num.is at c.requires.to in
-    to_type.0
+settled-requires-clause-word c = (rw c.in-Num.is at c.requires.to).0
 
 pub lowered-requires-clause-at : goal.lowered-requires-clause-at
 lowered-requires-clause-at c = c.requires.at
 
 pub lowered-requires-clause-word : goal.lowered-requires-clause-word
-lowered-requires-clause-word c =
-    let to_type : IsType (Num c.in-Num.signed c.in-Num.width c.in-Num.behind) = rw c.in-Num.is at c.requires.to in
-    to_type.0
+lowered-requires-clause-word c = (rw c.in-Num.is at c.requires.to).0
 
 pub overflow_sub-behind : goal.overflow_sub-behind
 overflow_sub-behind c =
-    let to_type : IsType (Num c.in-Num.signed c.in-Num.width c.in-Num.behind) = rw c.in-Num.is at c.requires.to in
+    let to_type = rw c.in-Num.is at c.requires.to in
     omega (arith, ints, to_type.1, to_type.2, c.requires.low, c.requires.high)
 
 pub overflow_sub-frac : goal.overflow_sub-frac
 overflow_sub-frac c =
-    let to_type : IsType (Num c.in-Num.signed c.in-Num.width c.in-Num.behind) = rw c.in-Num.is at c.requires.to in
+    let to_type = rw c.in-Num.is at c.requires.to in
     omega (arith, ints, to_type.1, to_type.2, c.requires.low, c.requires.high)
 
 pub overflow_cast-behind : goal.overflow_cast-behind
 overflow_cast-behind c =
-    let to_type : IsType (Num c.in-Num.signed c.in-Num.width c.in-Num.behind) = rw c.in-Num.is at c.requires.to in
+    let to_type = rw c.in-Num.is at c.requires.to in
     omega (arith, ints, to_type.1, to_type.2, c.requires.low, c.requires.high, c.if-behind-frac.true)
 
 pub overflow_cast-frac : goal.overflow_cast-frac
 overflow_cast-frac c =
-    let to_type : IsType (Num c.in-Num.signed c.in-Num.width c.in-Num.behind) = rw c.in-Num.is at c.requires.to in
+    let to_type = rw c.in-Num.is at c.requires.to in
     omega (arith, ints, to_type.1, to_type.2, c.requires.low, c.requires.high, c.if-behind-frac.false)

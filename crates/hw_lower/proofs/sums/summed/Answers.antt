@@ -11,15 +11,20 @@ use Rattle.hw_lower.proofs.Chained.{made-map, made-both}
 use Rattle.fx_type.proofs.Fracs.{bound_at}
 use Rattle.hw_lower.proofs.Summed.{IsTotal, total-more, total-is}
 use Rattle.hw_lower.proofs.sums.summed.Goals as goal
+use Rattle.hw_lower.proofs.sums.summed.Goals.{After-frac-frac}
+
+-- the frac of the full type, as 16 bits have it
+own_frac : (c : After-frac-frac) → to_z w16 (of_z w16 c.frac-frac.result) ≡ frac_of c.args.full
+own_frac c = to_z-of_z w16 c.frac-frac.result (record { sfits = c.frac-frac.type_inv }) ∙ c.frac-frac.ensures
 
 pub term_begun-requires-clause-above : goal.term_begun-requires-clause-above
 term_begun-requires-clause-above c =
-    let f : to_z w16 (of_z w16 c.frac-frac.result) ≡ frac_of c.args.full = to_z-of_z w16 c.frac-frac.result (record { sfits = c.frac-frac.type_inv }) ∙ c.frac-frac.ensures in
+    let f = own_frac (goal.at.term_begun-requires-clause-above c).After-frac-frac in
     rw f (λ k d h. bound_at (frac_of c.args.full) c.args.signs.now c.args.types.now c.requires.full.frac.bound c.requires.signs k d h)
 
 pub term_begun-requires-clause-high : goal.term_begun-requires-clause-high
 term_begun-requires-clause-high c =
-    let f : to_z w16 (of_z w16 c.frac-frac.result) ≡ frac_of c.args.full = to_z-of_z w16 c.frac-frac.result (record { sfits = c.frac-frac.type_inv }) ∙ c.frac-frac.ensures in
+    let f = own_frac (goal.at.term_begun-requires-clause-high c).After-frac-frac in
     rw f (frac_bounds c.args.full c.requires.full.valid).1
 
 pub term_begun-requires-clause-word : goal.term_begun-requires-clause-word
@@ -27,23 +32,23 @@ term_begun-requires-clause-word c = rw c.word_of-word.ensures (type-word c.args.
 
 pub loop-input-init : goal.loop-input-init
 loop-input-init c =
-    let f : to_z w16 (of_z w16 c.frac-frac.result) ≡ frac_of c.args.full = to_z-of_z w16 c.frac-frac.result (record { sfits = c.frac-frac.type_inv }) ∙ c.frac-frac.ensures in
+    let f = own_frac (goal.at.loop-input-init c).After-frac-frac in
     rw (c.word_of-word.ensures, f) at c.in_ok-first.ensures
 
 pub added-requires-clause-at : goal.added-requires-clause-at
 added-requires-clause-at c =
     let inside : c.loop-input.input < length c.args.types.now = omega (arith, c.loop-input-test.true) in
-    rw c.argument_of-from.ensures (at-later _ _ (argument_of c.args.types.now c.loop-input.input) c.loop-input.invariant.grows (c.requires.arguments.each c.loop-input.input inside))
+    rw c.side_of-side.ensures (at-later _ _ (argument_of c.args.types.now c.loop-input.input) c.loop-input.invariant.grows (c.requires.arguments.each c.loop-input.input inside))
 
 pub added-requires-clause-above : goal.added-requires-clause-above
 added-requires-clause-above c =
-    let f : to_z w16 (of_z w16 c.frac-frac.result) ≡ frac_of c.args.full = to_z-of_z w16 c.frac-frac.result (record { sfits = c.frac-frac.type_inv }) ∙ c.frac-frac.ensures in
+    let f = own_frac (goal.at.added-requires-clause-above c).After-frac-frac in
     let inside : c.loop-input.input < length c.args.types.now = omega (arith, c.loop-input-test.true) in
-    rw f (bound_at (frac_of c.args.full) c.args.signs.now c.args.types.now c.requires.full.frac.bound c.requires.signs c.loop-input.input _ inside)
+    rw (c.side_of-side.ensures, f) (bound_at (frac_of c.args.full) c.args.signs.now c.args.types.now c.requires.full.frac.bound c.requires.signs c.loop-input.input _ inside)
 
 pub added-requires-clause-high : goal.added-requires-clause-high
 added-requires-clause-high c =
-    let f : to_z w16 (of_z w16 c.frac-frac.result) ≡ frac_of c.args.full = to_z-of_z w16 c.frac-frac.result (record { sfits = c.frac-frac.type_inv }) ∙ c.frac-frac.ensures in
+    let f = own_frac (goal.at.added-requires-clause-high c).After-frac-frac in
     rw f (frac_bounds c.args.full c.requires.full.valid).1
 
 pub added-requires-clause-word : goal.added-requires-clause-word
@@ -51,10 +56,10 @@ added-requires-clause-word c = rw c.word_of-word.ensures (type-word c.args.full 
 
 pub loop-input-preserved : goal.loop-input-preserved
 loop-input-preserved c =
-    let f : to_z w16 (of_z w16 c.frac-frac.result) ≡ frac_of c.args.full = to_z-of_z w16 c.frac-frac.result (record { sfits = c.frac-frac.type_inv }) ∙ c.frac-frac.ensures in
+    let f = own_frac (goal.at.loop-input-preserved c).After-frac-frac in
     let i : ℕ = c.loop-input.input in
     let inside : i < length c.args.types.now = omega (arith, c.loop-input-test.true) in
-    made-map (λ numbers. IsTotal (frac_of c.args.full) c.args.signs.now c.args.types.now (width_of c.args.full) (is_signed c.args.full) numbers (i + 1) (numbers c.in_ok-total.total.place)) (made-both c.loop-input.invariant (rw (c.argument_of-from.ensures, c.word_of-word.ensures, f) at c.in_ok-total.ensures))
+    made-map (λ numbers. IsTotal (frac_of c.args.full) c.args.signs.now c.args.types.now (width_of c.args.full) (is_signed c.args.full) numbers (i + 1) (numbers c.in_ok-total.total.place)) (made-both c.loop-input.invariant (rw (c.side_of-side.ensures, c.word_of-word.ensures, f) at c.in_ok-total.ensures))
     (λ numbers has p. total-more (frac_of c.args.full) c.args.signs.now c.args.types.now (width_of c.args.full) (is_signed c.args.full) numbers c.requires.signs i (numbers c.loop-input.total.place) (numbers c.in_ok-total.total.place) inside p.0 p.1)
 
 pub returns : goal.returns
