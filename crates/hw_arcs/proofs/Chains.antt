@@ -9,7 +9,7 @@ use Rattle.hw_arcs.specs.declared.arc.Arc.{Arc}
 use Rattle.hw_arcs.specs.Latencies.{latency_at, IsCountedArc}
 use Rattle.hw_arcs.specs.Found.{AreKnown, most_gain}
 use Rattle.hw_arcs.specs.inner.State.{AreLabels}
-use Rattle.hw_arcs.specs.inner.Walk.{IsChain, of_arc, of_number, gain_into, slack_into, gains_of, slacks_of}
+use Rattle.hw_arcs.specs.inner.Walk.{IsChain, IsStepBack, of_arc, of_number, gain_into, slack_into, gains_of, slacks_of}
 use Rattle.fx_io.proofs.Places.{all_cons}
 
 -- ---- joining and cutting
@@ -35,6 +35,19 @@ value_is : (value : Arc → ℕ) (arcs : List Arc) (tight : List (Option ℕ)) (
 value_is value arcs tight block number arc given at =
     ap (of_number value arcs) (get_or_from_slice_get tight block (Some number) None given) ∙ ap (of_arc value) at
 
+-- what the arc that gave a block its latency has
+record IsAsked (arcs : List Arc) (tight : List (Option ℕ)) (block next : ℕ) (arc : Arc) : Type 0 where
+  from : arc.from ≡ next
+  gain : gain_into arcs tight block ≡ arc.gain
+  slack : slack_into arcs tight block ≡ arc.slack
+
+pulled_by : (arcs : List Arc) (tight : List (Option ℕ)) (block next : ℕ) (step : IsStepBack arcs tight block next) (arc : Arc) → slice_get arcs step.number ≡ Some arc → IsAsked arcs tight block next arc
+pulled_by arcs tight block next step arc at = record {
+  from = ap (λ (a : Arc). a.from) (same_Some arc step.arc (sym at ∙ step.at)) ∙ step.from;
+  gain = value_is (λ a. a.gain) arcs tight block step.number arc step.given at;
+  slack = value_is (λ a. a.slack) arcs tight block step.number arc step.given at;
+}
+
 pub record IsGained (lat time : ℕ → ℕ) (first end gains slacks steps : ℕ) : Type 0 where
   pub weak : lat first + slacks ≤ lat end + gains
   pub tied : lat end + gains ≤ lat first + slacks → time end + steps ≤ time first
@@ -48,21 +61,18 @@ chain_gains arcs lat tight labels first end [] chain = record {
 chain_gains arcs lat tight labels first end (x ∷ xs) chain =
     let step = chain.2 in
     let pulled = labels.some x step.number step.given in
-    let same : pulled.arc ≡ step.arc = same_Some pulled.arc step.arc (sym pulled.at ∙ step.at) in
-    let from : pulled.arc.from ≡ chain.0 = ap (λ (a : Arc). a.from) same ∙ step.from in
-    let gain : gain_into arcs tight x ≡ pulled.arc.gain = value_is (λ a. a.gain) arcs tight x step.number pulled.arc step.given pulled.at in
-    let slack : slack_into arcs tight x ≡ pulled.arc.slack = value_is (λ a. a.slack) arcs tight x step.number pulled.arc step.given pulled.at in
+    let asks = pulled_by arcs tight x chain.0 step pulled.arc pulled.at in
     let gains : gains_of arcs tight (x ∷ xs) ≡ gain_into arcs tight x + gains_of arcs tight xs = sum_by-cons (gain_into arcs tight) x xs in
     let slacks : slacks_of arcs tight (x ∷ xs) ≡ slack_into arcs tight x + slacks_of arcs tight xs = sum_by-cons (slack_into arcs tight) x xs in
     let begins : latency_at lat first ≡ latency_at lat x = ap (latency_at lat) chain.1 in
     let began : labels.time first ≡ labels.time x = ap labels.time chain.1 in
-    let next : latency_at lat pulled.arc.from ≡ latency_at lat chain.0 = ap (latency_at lat) from in
-    let nexts : labels.time pulled.arc.from ≡ labels.time chain.0 = ap labels.time from in
+    let next : latency_at lat pulled.arc.from ≡ latency_at lat chain.0 = ap (latency_at lat) asks.from in
+    let nexts : labels.time pulled.arc.from ≡ labels.time chain.0 = ap labels.time asks.from in
     let more = chain_gains arcs lat tight labels chain.0 end xs chain.3 in
     let both = gained_more (latency_at lat first) (latency_at lat x) (latency_at lat pulled.arc.from) (latency_at lat chain.0) (latency_at lat end)
     (labels.time first) (labels.time x) (labels.time pulled.arc.from) (labels.time chain.0) (labels.time end)
     pulled.arc.gain pulled.arc.slack (gain_into arcs tight x) (slack_into arcs tight x) (gains_of arcs tight xs) (slacks_of arcs tight xs) (gains_of arcs tight (x ∷ xs)) (slacks_of arcs tight (x ∷ xs)) (length xs)
-    gain slack gains slacks begins began next nexts pulled.weak pulled.strict more.weak more.tied in
+    asks.gain asks.slack gains slacks begins began next nexts pulled.weak pulled.strict more.weak more.tied in
     record { weak = both.0; tied = both.1 }
   where
     gained_more : (lf lx lp ln le tf tx tp tn te gain slack gi si gs ss ga sa n : ℕ) → gi ≡ gain → si ≡ slack → ga ≡ gi + gs → sa ≡ si + ss → lf ≡ lx → tf ≡ tx → lp ≡ ln → tp ≡ tn
@@ -120,16 +130,13 @@ chain_arcs arcs lat tight labels first end [] chain = record {
 chain_arcs arcs lat tight labels first end (x ∷ xs) chain =
     let step = chain.2 in
     let pulled = labels.some x step.number step.given in
-    let same : pulled.arc ≡ step.arc = same_Some pulled.arc step.arc (sym pulled.at ∙ step.at) in
-    let from : pulled.arc.from ≡ chain.0 = ap (λ (a : Arc). a.from) same ∙ step.from in
-    let gain : gain_into arcs tight x ≡ pulled.arc.gain = value_is (λ a. a.gain) arcs tight x step.number pulled.arc step.given pulled.at in
-    let slack : slack_into arcs tight x ≡ pulled.arc.slack = value_is (λ a. a.slack) arcs tight x step.number pulled.arc step.given pulled.at in
+    let asks = pulled_by arcs tight x chain.0 step pulled.arc pulled.at in
     let more = chain_arcs arcs lat tight labels chain.0 end xs chain.3 in
     record {
       edges = pulled.arc ∷ more.edges;
       are = all_cons (IsCountedArc arcs) pulled.arc more.edges (record { number = step.number; at = pulled.at; counts = pulled.counts }) more.are;
       to = ap (λ b. b ∷ map (λ (arc : Arc). arc.to) more.edges) pulled.ends ∙ ap (λ bs. x ∷ bs) more.to;
-      from = ap (λ b. b ∷ (pulled.arc.from ∷ map (λ (arc : Arc). arc.from) more.edges)) chain.1 ∙ ap (λ b. x ∷ (b ∷ map (λ (arc : Arc). arc.from) more.edges)) from ∙ ap (λ bs. x ∷ bs) more.from;
-      gains = sum_by-cons (λ (arc : Arc). arc.gain) pulled.arc more.edges ∙ ap (λ n. n + sum_by (λ (arc : Arc). arc.gain) more.edges) (sym gain) ∙ ap (λ n. gain_into arcs tight x + n) more.gains ∙ sym (sum_by-cons (gain_into arcs tight) x xs);
-      slacks = sum_by-cons (λ (arc : Arc). arc.slack) pulled.arc more.edges ∙ ap (λ n. n + sum_by (λ (arc : Arc). arc.slack) more.edges) (sym slack) ∙ ap (λ n. slack_into arcs tight x + n) more.slacks ∙ sym (sum_by-cons (slack_into arcs tight) x xs);
+      from = ap (λ b. b ∷ (pulled.arc.from ∷ map (λ (arc : Arc). arc.from) more.edges)) chain.1 ∙ ap (λ b. x ∷ (b ∷ map (λ (arc : Arc). arc.from) more.edges)) asks.from ∙ ap (λ bs. x ∷ bs) more.from;
+      gains = sum_by-cons (λ (arc : Arc). arc.gain) pulled.arc more.edges ∙ ap (λ n. n + sum_by (λ (arc : Arc). arc.gain) more.edges) (sym asks.gain) ∙ ap (λ n. gain_into arcs tight x + n) more.gains ∙ sym (sum_by-cons (gain_into arcs tight) x xs);
+      slacks = sum_by-cons (λ (arc : Arc). arc.slack) pulled.arc more.edges ∙ ap (λ n. n + sum_by (λ (arc : Arc). arc.slack) more.edges) (sym asks.slack) ∙ ap (λ n. slack_into arcs tight x + n) more.slacks ∙ sym (sum_by-cons (slack_into arcs tight) x xs);
     }

@@ -1,9 +1,9 @@
-ghost use Rattle.std.specs.Prelude.{◌≡◌, ◌*◌, ◌<◌, ◌≤◌, ◌^◌, [], IfNone, IfOk, IfSome};
+ghost use Rattle.std.specs.Prelude.{◌≡◌, ◌*◌, ◌≤◌, ◌^◌, [], IfNone, IfOk, IfSome};
 ghost use Rattle.std.specs.Prelude.{MatchOption, OnOk, length};
 ghost use Rattle.hw_arcs.specs.Latencies.{IsFeasible, latency_at};
 ghost use Rattle.hw_arcs.specs.Found.{AreKnown, IsFound, IsGaining, IsWhole, most_gain};
 ghost use Rattle.hw_arcs.specs.declared.found.Found.TheVariants.{Gains, Least};
-ghost use Rattle.hw_arcs.specs.inner.State.{AreRows, AreSettled, AreWithin, IsState, seen};
+ghost use Rattle.hw_arcs.specs.inner.State.{AreRows, AreSettled, AreWithin, CanGoBack, IsState, seen};
 
 use crate::arc::Arc;
 use crate::found::{Found, Gaining};
@@ -39,10 +39,7 @@ fn cycle_behind(
     state: &Relaxing,
     first: u32,
 ) -> Result<Option<Gaining>, OutOfMemory>
-    requires known { AreKnown arcs.now (length state.now.lat.items) }
-    requires few { length state.now.lat.items ≤ 20000 }
-    requires state { IsState arcs.now (length state.now.lat.items) (seen state.now) }
-    requires there { first < length state.now.lat.items }
+    requires { CanGoBack arcs.now (seen state.now) first }
     ensures gaining { IfOk result (λ found. IfSome found (IsGaining arcs.now)) }
     ensures none { IfOk result (λ found. IfNone found
         (latency_at state.now.lat.items first ≤ length state.now.lat.items * most_gain)) }

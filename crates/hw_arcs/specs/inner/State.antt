@@ -5,7 +5,7 @@ use Rattle.fx_io.specs.Rows.{row_at}
 use Rattle.hw_arcs.specs.declared.arc.Arc.{Arc}
 use Rattle.hw_arcs.specs.declared.relaxing.Relaxing.{Relaxing}
 use Rattle.hw_arcs.specs.Latencies.{latency_at, IsFeasible}
-use Rattle.hw_arcs.specs.Found.{IsIn}
+use Rattle.hw_arcs.specs.Found.{IsIn, AreKnown}
 use Rattle.hw_arcs.specs.declared.relaxing.Step.{Step}
 use Rattle.hw_arcs.specs.declared.relaxing.Step.TheVariants.{Done, Settled, Above}
 
@@ -125,6 +125,20 @@ abbrev pub IsStepEnd : List Arc → ℕ → ℕ → State → State → Step →
 IsStepEnd arcs count limit s after Done = IsFeasible arcs after.lat
 IsStepEnd arcs count limit s after (Settled block) = IsStepOn arcs count limit s after block
 IsStepEnd arcs count limit s after (Above block) = IsAbove limit after block count
+
+-- what the loop over steps keeps
+pub record IsRelaxing (arcs : List Arc) (count limit : ℕ) (s : State) : Type 0 where
+  pub size : length s.lat ≡ count
+  pub state : IsState arcs count s
+  pub within : AreWithin limit s
+  pub settled : AreSettled arcs s []
+
+-- from the block a way back along the arcs that gave the latencies can be walked
+pub record CanGoBack (arcs : List Arc) (s : State) (block : ℕ) : Type 0 where
+  pub known : AreKnown arcs (length s.lat)
+  pub few : length s.lat ≤ 20000
+  pub state : IsState arcs (length s.lat) s
+  pub there : block < length s.lat
 
 -- ---- rows
 

@@ -6,6 +6,9 @@ use Rattle.hw_arcs.specs.inner.State.{AreSettled, seen}
 use Rattle.hw_arcs.proofs.Stepping.{row_looked}
 use Rattle.hw_arcs.proofs.relaxing.Relaxing.settle.Goals as goal
 
+abbrev no_arc : Arc
+no_arc = record { from = 0; to = 0; counts = false; gain = 0; slack = 0 }
+
 pub bounds-arcs-number : goal.bounds-arcs-number
 bounds-arcs-number c =
     let number = get_or c.args.row.now c.loop-number.number-index 0 in
@@ -15,10 +18,9 @@ bounds-arcs-number c =
 pub relax-requires : goal.relax-requires
 relax-requires c =
     let number = get_or c.args.row.now c.loop-number.number-index 0 in
-    let none : Arc = record { from = 0; to = 0; counts = false; gain = 0; slack = 0 } in
     let here = c.requires.row.counted c.loop-number.number-index number (slice_get-get_or c.args.row.now c.loop-number.number-index 0 c.loop-number-test.true) in
-    let arc = get_or c.args.arcs.now number none in
-    let at = slice_get-get_or c.args.arcs.now number none (slice_get_within c.args.arcs.now number here.0 here.1) in
+    let arc = get_or c.args.arcs.now number no_arc in
+    let at = slice_get-get_or c.args.arcs.now number no_arc (slice_get_within c.args.arcs.now number here.0 here.1) in
     let from = c.requires.known.from number arc at in
     let to = c.requires.known.to number arc at in
     let gain = c.requires.known.gain number arc at in
@@ -37,7 +39,7 @@ relax-requires c =
 
 pub index-requires : goal.index-requires
 index-requires c =
-    let looked = row_looked c.args.arcs.now (length c.args.self.now.lat.items) c.args.limit (seen c.args.self.now) (seen c.loop-number.self) (seen c.relax.new.self) c.args.row.now c.loop-number.number-index (record { from = 0; to = 0; counts = false; gain = 0; slack = 0 })
+    let looked = row_looked c.args.arcs.now (length c.args.self.now.lat.items) c.args.limit (seen c.args.self.now) (seen c.loop-number.self) (seen c.relax.new.self) c.args.row.now c.loop-number.number-index no_arc
     c.requires.known c.requires.row c.loop-number-test.true c.in_ok-relax.ensures c.loop-number.invariant in
     let there = looked.there in
     let size = looked.size in
@@ -46,13 +48,13 @@ index-requires c =
 
 pub returns-then-limit-index-clause-state : goal.returns-then-limit-index-clause-state
 returns-then-limit-index-clause-state c =
-    (row_looked c.args.arcs.now (length c.args.self.now.lat.items) c.args.limit (seen c.args.self.now) (seen c.loop-number.self) (seen c.relax.new.self) c.args.row.now c.loop-number.number-index (record { from = 0; to = 0; counts = false; gain = 0; slack = 0 })
+    (row_looked c.args.arcs.now (length c.args.self.now.lat.items) c.args.limit (seen c.args.self.now) (seen c.loop-number.self) (seen c.relax.new.self) c.args.row.now c.loop-number.number-index no_arc
     c.requires.known c.requires.row c.loop-number-test.true c.in_ok-relax.ensures c.loop-number.invariant).state
 
 pub returns-then-limit-index-clause-end : goal.returns-then-limit-index-clause-end
 returns-then-limit-index-clause-end c =
-    let arc = get_or c.args.arcs.now (get_or c.args.row.now c.loop-number.number-index 0) (record { from = 0; to = 0; counts = false; gain = 0; slack = 0 }) in
-    let looked = row_looked c.args.arcs.now (length c.args.self.now.lat.items) c.args.limit (seen c.args.self.now) (seen c.loop-number.self) (seen c.relax.new.self) c.args.row.now c.loop-number.number-index (record { from = 0; to = 0; counts = false; gain = 0; slack = 0 })
+    let arc = get_or c.args.arcs.now (get_or c.args.row.now c.loop-number.number-index 0) no_arc in
+    let looked = row_looked c.args.arcs.now (length c.args.self.now.lat.items) c.args.limit (seen c.args.self.now) (seen c.loop-number.self) (seen c.relax.new.self) c.args.row.now c.loop-number.number-index no_arc
     c.requires.known c.requires.row c.loop-number-test.true c.in_ok-relax.ensures c.loop-number.invariant in
     let there = looked.there in
     let size = looked.size in
@@ -62,8 +64,8 @@ returns-then-limit-index-clause-end c =
 
 pub loop-number-preserved : goal.loop-number-preserved
 loop-number-preserved c =
-    let arc = get_or c.args.arcs.now (get_or c.args.row.now c.loop-number.number-index 0) (record { from = 0; to = 0; counts = false; gain = 0; slack = 0 }) in
-    let looked = row_looked c.args.arcs.now (length c.args.self.now.lat.items) c.args.limit (seen c.args.self.now) (seen c.loop-number.self) (seen c.relax.new.self) c.args.row.now c.loop-number.number-index (record { from = 0; to = 0; counts = false; gain = 0; slack = 0 })
+    let arc = get_or c.args.arcs.now (get_or c.args.row.now c.loop-number.number-index 0) no_arc in
+    let looked = row_looked c.args.arcs.now (length c.args.self.now.lat.items) c.args.limit (seen c.args.self.now) (seen c.loop-number.self) (seen c.relax.new.self) c.args.row.now c.loop-number.number-index no_arc
     c.requires.known c.requires.row c.loop-number-test.true c.in_ok-relax.ensures c.loop-number.invariant in
     let there = looked.there in
     let size = looked.size in
