@@ -1,9 +1,9 @@
 -- Sums of widths and of multipliers, level by level and kind by kind.
-use Rattle.std.proofs.Common.{◌≡◌, ℕ, zero, suc, ◌+◌, ◌-◌, ◌/◌, ◌%◌, ◌<◌, ◌≤◌, Bool, true, false, cond, min, List, [], ◌∷◌, ◌++◌, length, map, refl, sym, ap, subst, ◌∙◌, inl, inr, arith}
+use Rattle.std.proofs.Common.{◌≡◌, ℕ, zero, suc, ◌+◌, ◌-◌, ◌/◌, ◌%◌, ◌<◌, ◌≤◌, Bool, true, false, cond, min, List, [], ◌∷◌, ◌++◌, length, map, get_or, refl, sym, ap, subst, ◌∙◌, inl, inr, arith}
 use Rattle.std.specs.Prelude.{slice_get, Some, ◌&&◌, ◌==◌}
 use Rattle.std.specs.List.{sum}
 use Rattle.std.proofs.lemmas.Bool.{cond-true, cond-false, cases_lt, eqb-true, eq-eqb, ne_eqb, and_parts, and_from, and_left, and_right}
-use Rattle.std.proofs.lemmas.Option.{same_Some, slice_get_within}
+use Rattle.std.proofs.lemmas.Option.{same_Some, slice_get_within, slice_get-get_or}
 use Rattle.dg_waves.specs.Rounds.{numbers_from}
 use Rattle.dg_model.specs.Widths.{greatest}
 use Rattle.hw_slots.specs.declared.bases.Bases.{Bases}
@@ -193,6 +193,19 @@ firsts_end operations multipliers kinds most tally many made = record {
 
 -- ---- the operations
 
+abbrev none : Operation
+none = record { kind = 0; period = 0; level = 0 }
+
+operation_at : (operations : List Operation) (i : ℕ) → i < length operations → slice_get operations i ≡ Some (get_or operations i none)
+operation_at operations i inside = slice_get-get_or operations i none inside
+
+turned_at : (operations : List Operation) (turns : List ℕ) (i : ℕ) → i < length operations → AreTurns operations (length operations) turns → get_or turns i 0 ≡ turn_of operations i (get_or operations i none)
+turned_at operations turns i inside turned =
+    let o : Operation = get_or operations i none in
+    let size = turned.size in
+    let placed = slice_get-get_or turns i 0 (omega (arith, inside, size)) in
+    same_Some (get_or turns i 0) (turn_of operations i o) (sym placed ∙ turned.are i o inside (operation_at operations i inside))
+
 pub starts_none : (operations : List Operation) (multipliers : ℕ) (periods : List Span) (starts : List ℕ) → starts ≡ [] → AreStarts operations multipliers periods 0 starts
 starts_none operations multipliers periods starts none = subst (AreStarts operations multipliers periods 0) (sym none) (record { size = refl; are = λ number o span below at is. absurd (omega (arith, below)) })
 
@@ -202,31 +215,35 @@ level_below operations i o at =
     let e : level_after o.period o ≡ o.level + 1 = cond-true (o.period == o.period) (o.level + 1) 0 (eq-eqb o.period o.period refl) in
     omega (arith, most, e)
 
-pub starts_more : (operations : List Operation) (multipliers : ℕ) (periods : List Span) (bases : List (Rung × ℕ)) (turns starts : List ℕ) (i : ℕ) (o : Operation) (turn base start : ℕ) → slice_get operations i ≡ Some o → slice_get turns i ≡ Some turn → base ≡ tally_at bases o.period o.level → start ≡ base + turn / multipliers
+pub starts_more : (operations : List Operation) (multipliers : ℕ) (periods : List Span) (bases : List (Rung × ℕ)) (turns starts : List ℕ) (i base start : ℕ) → i < length operations
+    → base ≡ tally_at bases (get_or operations i none).period (get_or operations i none).level → start ≡ base + get_or turns i 0 / multipliers
     → AreTurns operations (length operations) turns → AreLaid operations multipliers periods (length periods) bases → AreStarts operations multipliers periods i starts → AreStarts operations multipliers periods (i + 1) (starts ++ start ∷ [])
-starts_more operations multipliers periods bases turns starts i o turn base start at placed is sum turned laid before = record {
-  size = grown_size starts start i before.size;
-  are = λ number q span below there has. grown (λ n p r. (s : Span) → slice_get periods p.period ≡ Some s → r ≡ Some (slot_of operations multipliers s.start n p)) operations i o start starts at before.size (λ n p less here s known. before.are n p s less here known)
-      (λ s known.
-      let t : turn ≡ turn_of operations i o = same_Some turn (turn_of operations i o) (sym placed ∙ turned.are i o (slice_get_within operations i o at) at) in
-      let b : base ≡ base_slot operations multipliers s.start o.period o.level = is ∙ (laid.bases o.period s (slice_get_within periods o.period s known) known).are o.level (let low = level_below operations i o at in omega (arith, low)) in
-      let d : turn / multipliers ≡ turn_of operations i o / multipliers = ap (λ (n : ℕ). n / multipliers) t in
-      ap Some (sum ∙ ap (λ (n : ℕ). n + turn / multipliers) b ∙ ap (λ (n : ℕ). base_slot operations multipliers s.start o.period o.level + n) d))
-      number q below there span has;
-}
+starts_more operations multipliers periods bases turns starts i base start inside is sum turned laid before =
+    let o : Operation = get_or operations i none in
+    let at : slice_get operations i ≡ Some o = operation_at operations i inside in
+    record {
+      size = grown_size starts start i before.size;
+      are = λ number q span below there has. grown (λ n p r. (s : Span) → slice_get periods p.period ≡ Some s → r ≡ Some (slot_of operations multipliers s.start n p)) operations i o start starts at before.size (λ n p less here s known. before.are n p s less here known)
+          (λ s known.
+          let b : base ≡ base_slot operations multipliers s.start o.period o.level = is ∙ (laid.bases o.period s (slice_get_within periods o.period s known) known).are o.level (let low = level_below operations i o at in omega (arith, low)) in
+          let d : get_or turns i 0 / multipliers ≡ turn_of operations i o / multipliers = ap (λ (n : ℕ). n / multipliers) (turned_at operations turns i inside turned) in
+          ap Some (sum ∙ ap (λ (n : ℕ). n + get_or turns i 0 / multipliers) b ∙ ap (λ (n : ℕ). base_slot operations multipliers s.start o.period o.level + n) d))
+          number q below there span has;
+    }
 
 pub units_none : (operations : List Operation) (multipliers kinds : ℕ) (units : List ℕ) → units ≡ [] → AreUnits operations multipliers kinds 0 units
 units_none operations multipliers kinds units none = subst (AreUnits operations multipliers kinds 0) (sym none) (record { size = refl; are = λ number o below at is. absurd (omega (arith, below)) })
 
-pub units_more : (operations : List Operation) (multipliers kinds : ℕ) (firsts : List (Rung × ℕ)) (turns units : List ℕ) (i : ℕ) (o : Operation) (turn first unit : ℕ) → slice_get operations i ≡ Some o → slice_get turns i ≡ Some turn → first ≡ tally_at firsts o.kind 0 → unit ≡ first + turn % multipliers
+pub units_more : (operations : List Operation) (multipliers kinds : ℕ) (firsts : List (Rung × ℕ)) (turns units : List ℕ) (i first unit : ℕ) → i < length operations → first ≡ tally_at firsts (get_or operations i none).kind 0 → unit ≡ first + get_or turns i 0 % multipliers
     → AreTurns operations (length operations) turns → AreFirst operations multipliers kinds firsts → AreUnits operations multipliers kinds i units → AreUnits operations multipliers kinds (i + 1) (units ++ unit ∷ [])
-units_more operations multipliers kinds firsts turns units i o turn first unit at placed is sum turned begun before = record {
-  size = grown_size units unit i before.size;
-  are = λ number q below there has. grown (λ n p r. p.kind < kinds → r ≡ Some (unit_of operations multipliers n p)) operations i o unit units at before.size (λ n p less here low. before.are n p less here low)
-      (λ low.
-      let t : turn ≡ turn_of operations i o = same_Some turn (turn_of operations i o) (sym placed ∙ turned.are i o (slice_get_within operations i o at) at) in
-      let b : first ≡ first_unit operations multipliers o.kind = is ∙ begun.are o.kind low in
-      let d : turn % multipliers ≡ turn_of operations i o % multipliers = ap (λ (n : ℕ). n % multipliers) t in
-      ap Some (sum ∙ ap (λ (n : ℕ). n + turn % multipliers) b ∙ ap (λ (n : ℕ). first_unit operations multipliers o.kind + n) d))
-      number q below there has;
-}
+units_more operations multipliers kinds firsts turns units i first unit inside is sum turned begun before =
+    let o : Operation = get_or operations i none in
+    record {
+      size = grown_size units unit i before.size;
+      are = λ number q below there has. grown (λ n p r. p.kind < kinds → r ≡ Some (unit_of operations multipliers n p)) operations i o unit units (operation_at operations i inside) before.size (λ n p less here low. before.are n p less here low)
+          (λ low.
+          let b : first ≡ first_unit operations multipliers o.kind = is ∙ begun.are o.kind low in
+          let d : get_or turns i 0 % multipliers ≡ turn_of operations i o % multipliers = ap (λ (n : ℕ). n % multipliers) (turned_at operations turns i inside turned) in
+          ap Some (sum ∙ ap (λ (n : ℕ). n + get_or turns i 0 % multipliers) b ∙ ap (λ (n : ℕ). first_unit operations multipliers o.kind + n) d))
+          number q below there has;
+    }

@@ -1,23 +1,14 @@
 use Rattle.std.proofs.Common.{arith, ◌≡◌, ℕ, length, subst}
-use Rattle.std.proofs.lemmas.Option.{slice_get-get_or}
-use Rattle.hw_slots.specs.declared.operation.Operation.{Operation}
 use Rattle.hw_slots.proofs.Totals.{units_none, units_more}
 use Rattle.hw_slots.specs.Answer.{AreUnits}
 use Rattle.hw_slots.proofs.placing.units_of.Goals as goal
-
-abbrev none : Operation
-none = record { kind = 0; period = 0; level = 0 }
 
 pub loop-place-init : goal.loop-place-init
 loop-place-init c = units_none c.args.operations.now c.args.multipliers c.args.kinds c.new-units.result c.new-units.ensures
 
 pub loop-place-preserved : goal.loop-place-preserved
 loop-place-preserved c =
-    let test = c.loop-place-test.true in
-    let at = slice_get-get_or c.args.operations.now c.loop-place.place none test in
-    let size = c.requires.turns.size in
-    let placed = slice_get-get_or c.args.turns.now c.loop-place.place 0 (omega (arith, test, size)) in
-    rw c.in_ok-push.ensures.appended (units_more c.args.operations.now c.args.multipliers c.args.kinds c.args.firsts.now c.args.turns.now c.loop-place.units c.loop-place.place _ _ c.get-first.result _ at placed c.get-first.ensures c.in_ok-unit.ensures c.requires.turns c.requires.firsts c.loop-place.invariant)
+    rw c.in_ok-push.ensures.appended (units_more c.args.operations.now c.args.multipliers c.args.kinds c.args.firsts.now c.args.turns.now c.loop-place.units c.loop-place.place c.get-first.result _ c.loop-place-test.true c.get-first.ensures c.in_ok-unit.ensures c.requires.turns c.requires.firsts c.loop-place.invariant)
 
 pub returns : goal.returns
 returns c =
