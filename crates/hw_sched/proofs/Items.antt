@@ -1,5 +1,5 @@
 -- What the code of depths reads: items of slices, lines and controls.
-use Rattle.std.proofs.Common.{◌≡◌, ℕ, zero, suc, ◌+◌, ◌-◌, ◌^◌, ◌<◌, max, Bool, true, false, List, [], ◌∷◌, length, take, drop, get_or, refl, sym, ap, subst, ◌∙◌, inl, inr, arith}
+use Rattle.std.proofs.Common.{◌≡◌, ℕ, zero, suc, ◌+◌, ◌-◌, ◌^◌, ◌<◌, ◌≤◌, max, Bool, true, false, List, [], ◌∷◌, length, take, drop, get_or, refl, sym, ap, subst, ◌∙◌, inl, inr, arith}
 use Rattle.std.specs.Prelude.{slice_get, Option, Some}
 use Rattle.std.proofs.lemmas.Bool.{false≢true}
 use Rattle.std.proofs.lemmas.Option.{same_Some, slice_get-get_or}
@@ -27,8 +27,15 @@ drop_length (suc n) [] = omega arith
 drop_length (suc n) (x ∷ xs) = let more = drop_length n xs in omega (arith, more)
 
 -- the rest of a list from a place on
-pub rest_length : {A : Type 0} (first : ℕ) (xs : List A) → length (take (length xs - first) (drop first xs)) ≡ length xs - first
+rest_length : {A : Type 0} (first : ℕ) (xs : List A) → length (take (length xs - first) (drop first xs)) ≡ length xs - first
 rest_length first xs = let size = drop_length first xs in take_length (length xs - first) (drop first xs) (omega (arith, size))
+
+-- past the last of those from one on nothing is left
+pub rest_past : {A : Type 0} (all xs : List A) (first index : ℕ) → xs ≡ all → first ≤ length xs → length (take (length xs - first) (drop first xs)) ≤ index → length all ≤ first + index
+rest_past {A} all xs first index same within past =
+    let size = rest_length first xs in
+    let many = ap (λ (ys : List A). length ys) same in
+    omega (arith, past, size, within, many)
 
 pub rest_read : {A : Type 0} (all xs : List A) (first index : ℕ) (d : A) → xs ≡ all → index < length (take (length xs - first) (drop first xs)) → slice_get all (first + index) ≡ Some (get_or (take (length xs - first) (drop first xs)) index d)
 rest_read {A} all xs first index d same within =

@@ -1,11 +1,10 @@
 //! Shared operations as `hw_slots` takes them.
-ghost use Rattle.std.specs.Prelude.{◌≡◌, ◌<◌, ◌++◌, ◌∷◌, true, IfOk, List, OnOk, length};
+ghost use Rattle.std.specs.Prelude.{◌≡◌, ◌<◌, ◌++◌, ◌∷◌, IfOk, List, OnOk, length};
 ghost use Rattle.dg_model.specs.declared.diagram.Diagram.{Diagram};
 ghost use Rattle.dg_model.specs.declared.resolved.Resolved.{Resolved};
 ghost use Rattle.dg_model.specs.Attributes.{attributes_of};
-ghost use Rattle.hw_latency.specs.Shared.{is_shared as is_shared_of};
 ghost use Rattle.dg_model.specs.PlanOf.{IsPlanOf};
-ghost use Rattle.hw_sched.specs.Slots.{Timing, Operation as Shared, operations_of, shared_operations};
+ghost use Rattle.hw_sched.specs.Slots.{Timing, Operation as Shared, shared_operations};
 ghost use Rattle.hw_sched.specs.Answer.{timing_of};
 ghost use Rattle.hw_sched.specs.inner.Cells.{AreCells, AreCellsBut, IsSort, shared_at};
 
@@ -89,34 +88,6 @@ impl Cells {
     }
 }
 
-/// Numbers the operations of a shared block.
-fn put_shared(
-    checked: &Checked,
-    plan: &Resolved,
-    latencies: &Latencies,
-    depths: &[u64],
-    cells: &mut Cells,
-    place: u32,
-) -> Result<(), OutOfMemory>
-    requires lat { length latencies.now.lat ≡ length checked.now.diagram.blocks }
-    requires depths { length depths.now ≡ length checked.now.diagram.blocks }
-    requires there { place < length checked.now.diagram.blocks }
-    requires shared { is_shared_of checked.now.diagram (attributes_of checked.now.diagram)
-        plan.now place ≡ true }
-    ensures { OnOk result ((rest : List Shared)
-        → AreCellsBut checked.now.diagram plan.now (timing_of latencies.now depths.now)
-        (operations_of (attributes_of checked.now.diagram) place ++ rest) cells.old
-        → AreCellsBut checked.now.diagram plan.now (timing_of latencies.now depths.now)
-        rest cells.new) }
-{
-    let sort = sort_of(checked, latencies, depths, place);
-    let width = own_width(checked, place);
-    for _element in 0..width {
-        cells.put(sort)?;
-    }
-    Ok(())
-}
-
 /// Numbers the operations of a block, if they are shared.
 fn put_block(
     checked: &Checked,
@@ -139,7 +110,12 @@ fn put_block(
     if !is_shared(checked, plan, place) {
         return Ok(());
     }
-    put_shared(checked, plan, latencies, depths, cells, place)
+    let sort = sort_of(checked, latencies, depths, place);
+    let width = own_width(checked, place);
+    for _element in 0..width {
+        cells.put(sort)?;
+    }
+    Ok(())
 }
 
 /// The shared operations by the numbers of their kinds, in order of their blocks and elements.

@@ -1,7 +1,7 @@
-use Rattle.std.proofs.Common.{◌+◌, ap, sym, ◌∙◌, length, List, arith}
+use Rattle.std.proofs.Common.{◌+◌, ap, sym, ◌∙◌, arith}
 use Rattle.dg_model.specs.declared.diagram.Diagram.{Diagram}
 use Rattle.dg_model.specs.declared.diagram.Edge.{Edge}
-use Rattle.hw_sched.proofs.Items.{rest_length, rest_read, first_as}
+use Rattle.hw_sched.proofs.Items.{rest_past, rest_read, first_as}
 use Rattle.hw_sched.proofs.Entering.{enters_none, enters_more, enters_at, enters_end, enters_stop}
 use Rattle.hw_sched.proofs.drivers.driver.Goals as goal
 
@@ -37,9 +37,5 @@ loop-edge-preserved c =
 pub returns : goal.returns
 returns c =
     let es = c.as_slice-edges.ensures ∙ ap (λ (d : Diagram). d.edges) c.diagram.ensures in
-    let test = c.loop-edge-test.false in
-    let size = rest_length c.first_into-first.result c.as_slice-edges.result.now in
-    let within = c.first_into-first.ensures.within in
-    let many = ap (λ (xs : List Edge). length xs) es in
-    let found = enters_end c.args.checked.now.diagram.edges (c.first_into-first.result + c.loop-edge.edge-index) c.args.place c.args.port (omega (arith, test, size, within, many)) c.loop-edge.invariant in
-    sym found
+    let past = rest_past c.args.checked.now.diagram.edges c.as_slice-edges.result.now c.first_into-first.result c.loop-edge.edge-index es c.first_into-first.ensures.within (omega (arith, c.loop-edge-test.false)) in
+    sym (enters_end c.args.checked.now.diagram.edges (c.first_into-first.result + c.loop-edge.edge-index) c.args.place c.args.port past c.loop-edge.invariant)

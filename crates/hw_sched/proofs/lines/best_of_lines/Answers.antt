@@ -1,10 +1,10 @@
-use Rattle.std.proofs.Common.{◌≡◌, ◌+◌, ℕ, AllPairs, List, length, true, false, sym, ap, subst, ◌∙◌, arith}
+use Rattle.std.proofs.Common.{◌≡◌, ◌+◌, ℕ, AllPairs, List, true, false, sym, ap, subst, ◌∙◌, arith}
 use Rattle.dg_model.specs.declared.diagram.Diagram.{Diagram}
 use Rattle.dg_model.specs.declared.diagram.Edge.{Edge}
 use Rattle.dg_model.specs.Attributes.{attributes_of}
 use Rattle.dg_model.specs.Wired.{StandsBefore}
 use Rattle.hw_sched.specs.inner.Greatest.{IsGreatest, IsLineFrom}
-use Rattle.hw_sched.proofs.Items.{rest_length, rest_read, tested, next_counts, next_skips, first_as}
+use Rattle.hw_sched.proofs.Items.{rest_past, rest_read, tested, next_counts, next_skips, first_as}
 use Rattle.hw_sched.proofs.Reading.{lines_begin, lines_stop, lines_end, from_there}
 use Rattle.hw_sched.proofs.lines.best_of_lines.Goals.{then-is_same_period, else-is_same_period}
 use Rattle.hw_sched.proofs.lines.best_of_lines.Goals as goal
@@ -55,11 +55,8 @@ loop-edge-preserved c =
 pub returns : goal.returns
 returns c =
     let es = c.as_slice-edges.ensures ∙ ap (λ (d : Diagram). d.edges) c.diagram.ensures in
-    let test = c.loop-edge-test.false in
-    let size = rest_length c.first_into-first.result c.as_slice-edges.result.now in
-    let within = c.first_into-first.ensures.within in
-    let many = ap length es in
-    lines_end c.args.checked.now.diagram c.args.place c.args.depths.now (c.first_into-first.result + c.loop-edge.edge-index) c.loop-edge.best (omega (arith, test, size, within, many)) c.loop-edge.invariant
+    let past = rest_past c.args.checked.now.diagram.edges c.as_slice-edges.result.now c.first_into-first.result c.loop-edge.edge-index es c.first_into-first.ensures.within (omega (arith, c.loop-edge-test.false)) in
+    lines_end c.args.checked.now.diagram c.args.place c.args.depths.now (c.first_into-first.result + c.loop-edge.edge-index) c.loop-edge.best past c.loop-edge.invariant
 
 pub period-own-requires : goal.period-own-requires
 period-own-requires c = c.requires.there
