@@ -1,13 +1,12 @@
 //! Numbers of several types in one unit.
-ghost use Rattle.std.specs.Prelude.{◌≡◌, ◌≤ℤ◌, ◌<◌, ◌≤◌, length, pos, IfOk};
-ghost use Rattle.fx_num.specs.Word.{IsWord, IsWrapped};
-ghost use Rattle.fx_type.specs.FxType.{IsType, frac_of, aligned as aligned_of};
-ghost use Rattle.hw_lower.specs.inner.Planned.{IsAt, IsMade, word_of};
-ghost use Rattle.hw_lower.specs.inner.Spread.{argument_of, side_of};
+ghost use Rattle.std.specs.Prelude.{◌≡◌, ◌<◌, ◌≤◌, length, IfOk};
+ghost use Rattle.fx_num.specs.Word.{IsWrapped};
+ghost use Rattle.fx_type.specs.FxType.{aligned as aligned_of};
+ghost use Rattle.hw_lower.specs.inner.Planned.{IsMade, word_of};
+ghost use Rattle.hw_lower.specs.inner.Spread.{CanAlign, argument_of, side_of};
 
-use crate::plan::{Operand, Plan, Word, word_of};
+use crate::plan::{Made, Operand, Plan, Word, word_of};
 use crate::settling::shifted;
-use fx_io::OutOfMemory;
 use fx_type::FxType;
 
 /// A step with its type.
@@ -44,12 +43,8 @@ pub fn side_of(types: &[FxType], input: usize) -> Side
 
 /// A number of a type with `frac` bits behind the point, of which there are no fewer, cut to a
 /// word.
-pub fn aligned(plan: &mut Plan, side: Side, frac: i16, word: Word) -> Result<Operand, OutOfMemory>
-    requires at { IsAt plan.old side.from }
-    requires kind { IsType side.kind }
-    requires above { frac_of side.kind ≤ℤ frac }
-    requires high { frac ≤ℤ pos 128 }
-    requires word { IsWord word.width word.signed }
+pub fn aligned(plan: &mut Plan, side: Side, frac: i16, word: Word) -> Made
+    requires { CanAlign plan.old side frac word }
     ensures { IfOk result (λ made. IsMade plan.old plan.new word (λ numbers.
         IsWrapped (aligned_of frac side.kind (numbers side.from.place)) word.width word.signed
         (numbers made.place)) made) }

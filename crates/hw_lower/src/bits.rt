@@ -4,8 +4,7 @@ ghost use Rattle.fx_type.specs.Conversion.{IsTruthOf};
 ghost use Rattle.hw_net.specs.Operation.{low_bits};
 ghost use Rattle.hw_lower.specs.inner.Planned.{IsAt, IsMade, IsChosen, bit_word, bit_of};
 
-use crate::plan::{Operand, Plan, Word, choose, constant, slice, unary};
-use fx_io::OutOfMemory;
+use crate::plan::{Made, Operand, Plan, Word, choose, constant, slice, unary};
 use hw_net::NetOp;
 
 /// One bit, unsigned.
@@ -19,7 +18,7 @@ pub fn bit_word() -> Word
 }
 
 /// The bit of a place in the word.
-fn bit_within(plan: &mut Plan, from: Operand, place: u8) -> Result<Operand, OutOfMemory>
+fn bit_within(plan: &mut Plan, from: Operand, place: u8) -> Made
     requires at { IsAt plan.old from }
     requires within { place < from.word.width }
     ensures { IfOk result (λ made. IsMade plan.old plan.new bit_word
@@ -29,7 +28,7 @@ fn bit_within(plan: &mut Plan, from: Operand, place: u8) -> Result<Operand, OutO
 }
 
 /// The bit of a place, from 0. Past the word it is the sign, which an unsigned number has not.
-pub fn bit(plan: &mut Plan, from: Operand, place: u8) -> Result<Operand, OutOfMemory>
+pub fn bit(plan: &mut Plan, from: Operand, place: u8) -> Made
     requires { IsAt plan.old from }
     ensures { IfOk result (λ made. IsMade plan.old plan.new bit_word
         (λ numbers. numbers made.place ≡ pos (bit_of (numbers from.place) place)) made) }
@@ -44,7 +43,7 @@ pub fn bit(plan: &mut Plan, from: Operand, place: u8) -> Result<Operand, OutOfMe
 }
 
 /// The lowest bits, of which there are some: a number that is 0 exactly where they are.
-pub fn lowest(plan: &mut Plan, from: Operand, count: u8) -> Result<Operand, OutOfMemory>
+pub fn lowest(plan: &mut Plan, from: Operand, count: u8) -> Made
     requires at { IsAt plan.old from }
     requires some { 1 ≤ count }
     ensures { IfOk result (λ made. IsMade plan.old plan.new made.word (λ numbers.
@@ -61,7 +60,7 @@ pub fn lowest(plan: &mut Plan, from: Operand, count: u8) -> Result<Operand, OutO
 }
 
 /// The bit where the test isn't 0, else 0.
-pub fn both(plan: &mut Plan, test: Operand, bit: Operand) -> Result<Operand, OutOfMemory>
+pub fn both(plan: &mut Plan, test: Operand, bit: Operand) -> Made
     requires test { IsAt plan.old test }
     requires bit { IsAt plan.old bit }
     requires word { bit.word ≡ bit_word }
@@ -72,7 +71,7 @@ pub fn both(plan: &mut Plan, test: Operand, bit: Operand) -> Result<Operand, Out
 }
 
 /// 1 where the number isn't 0, else 0.
-pub fn truth(plan: &mut Plan, from: Operand) -> Result<Operand, OutOfMemory>
+pub fn truth(plan: &mut Plan, from: Operand) -> Made
     requires { IsAt plan.old from }
     ensures { IfOk result (λ made. IsMade plan.old plan.new bit_word
         (λ numbers. IsTruthOf (numbers from.place) (numbers made.place)) made) }
@@ -85,7 +84,7 @@ pub fn truth(plan: &mut Plan, from: Operand) -> Result<Operand, OutOfMemory>
 }
 
 /// 0 where the bit is 1, and 1 where it is 0.
-pub fn inverse(plan: &mut Plan, bit: Operand) -> Result<Operand, OutOfMemory>
+pub fn inverse(plan: &mut Plan, bit: Operand) -> Made
     requires at { IsAt plan.old bit }
     requires word { bit.word ≡ bit_word }
     ensures { IfOk result (λ made. IsMade plan.old plan.new bit_word

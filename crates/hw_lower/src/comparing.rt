@@ -1,24 +1,26 @@
 //! Comparisons and criteria.
 ghost use Rattle.std.specs.Prelude.{◌≡◌, Bool, not, IfOk};
-ghost use Rattle.fx_num.specs.Word.{InWord};
 ghost use Rattle.dg_model.specs.Operation.{compares, meets, stored_truth};
 ghost use Rattle.hw_net.specs.Operation.{given_by, truth};
 ghost use Rattle.hw_lower.specs.inner.Planned.{IsAt, IsMade, IsPlain, CanRead, IsSwitched};
 ghost use Rattle.hw_lower.specs.inner.Planned.{bit_word, no_inputs, three};
+ghost use Rattle.hw_lower.specs.inner.Spread.{CanSwitch};
 
 use crate::bits::{bit_word, inverse};
-use crate::plan::{Operand, Plan, binary, choose, constant};
+use crate::plan::{Made, Operand, Plan, binary, choose, constant};
 use dg_model::{Criterion, Relation};
-use fx_io::OutOfMemory;
 use hw_net::NetOp;
 
+/// A control, and the two numbers of one word between which it chooses.
+#[derive(Clone, Copy)]
+pub struct Branches {
+    pub control: Operand,
+    pub first: Operand,
+    pub other: Operand,
+}
+
 /// The opposite of what an operation on two steps tells in one bit.
-fn opposite(
-    plan: &mut Plan,
-    op: NetOp,
-    one: Operand,
-    other: Operand,
-) -> Result<Operand, OutOfMemory>
+fn opposite(plan: &mut Plan, op: NetOp, one: Operand, other: Operand) -> Made
     requires plain { IsPlain op }
     requires parts { CanRead op one.word.width }
     requires one { IsAt plan.old one }
@@ -32,12 +34,7 @@ fn opposite(
 }
 
 /// Whether two numbers in one unit are so related.
-pub fn related(
-    plan: &mut Plan,
-    operator: Relation,
-    one: Operand,
-    other: Operand,
-) -> Result<Operand, OutOfMemory>
+pub fn related(plan: &mut Plan, operator: Relation, one: Operand, other: Operand) -> Made
     requires one { IsAt plan.old one }
     requires other { IsAt plan.old other }
     ensures { IfOk result (λ made. IsMade plan.old plan.new bit_word (λ numbers. numbers made.place
@@ -54,49 +51,27 @@ pub fn related(
 }
 
 /// The first number where the criterion holds of the control, else the other.
-pub fn switched(
-    plan: &mut Plan,
-    criterion: Criterion,
-    threshold: i128,
-    control: Operand,
-    first: Operand,
-    other: Operand,
-) -> Result<Operand, OutOfMemory>
-    requires control { IsAt plan.old control }
-    requires first { IsAt plan.old first }
-    requires other { IsAt plan.old other }
-    requires word { first.word ≡ other.word }
-    requires threshold { InWord control.word.width control.word.signed threshold }
-    ensures { IfOk result (λ made. IsMade plan.old plan.new first.word (λ numbers.
-        IsSwitched (meets criterion threshold (numbers control.place)) (numbers first.place)
-        (numbers other.place) (numbers made.place)) made) }
+pub fn switched(plan: &mut Plan, criterion: Criterion, threshold: i128, of: Branches) -> Made
+    requires { CanSwitch plan.old of threshold }
+    ensures { IfOk result (λ made. IsMade plan.old plan.new of.first.word (λ numbers.
+        IsSwitched (meets criterion threshold (numbers of.control.place)) (numbers of.first.place)
+        (numbers of.other.place) (numbers made.place)) made) }
 {
     match criterion {
-        Criterion::AtLeast => against(plan, Relation::Ge, threshold, control, first, other),
-        Criterion::Above => against(plan, Relation::Gt, threshold, control, first, other),
-        Criterion::NotZero => choose(plan, control, first, other, first.word),
+        Criterion::AtLeast => against(plan, Relation::Ge, threshold, of),
+        Criterion::Above => against(plan, Relation::Gt, threshold, of),
+        Criterion::NotZero => choose(plan, of.control, of.first, of.other, of.first.word),
     }
 }
 
 /// The first number where the control is so related to the threshold, else the other.
-fn against(
-    plan: &mut Plan,
-    operator: Relation,
-    threshold: i128,
-    control: Operand,
-    first: Operand,
-    other: Operand,
-) -> Result<Operand, OutOfMemory>
-    requires control { IsAt plan.old control }
-    requires first { IsAt plan.old first }
-    requires other { IsAt plan.old other }
-    requires word { first.word ≡ other.word }
-    requires threshold { InWord control.word.width control.word.signed threshold }
-    ensures { IfOk result (λ made. IsMade plan.old plan.new first.word (λ numbers.
-        IsSwitched (compares operator (numbers control.place) threshold) (numbers first.place)
-        (numbers other.place) (numbers made.place)) made) }
+fn against(plan: &mut Plan, operator: Relation, threshold: i128, of: Branches) -> Made
+    requires { CanSwitch plan.old of threshold }
+    ensures { IfOk result (λ made. IsMade plan.old plan.new of.first.word (λ numbers.
+        IsSwitched (compares operator (numbers of.control.place) threshold)
+        (numbers of.first.place) (numbers of.other.place) (numbers made.place)) made) }
 {
-    let bound = constant(plan, threshold, control.word)?;
-    let test = related(plan, operator, control, bound)?;
-    choose(plan, test, first, other, first.word)
+    let bound = constant(plan, threshold, of.control.word)?;
+    let test = related(plan, operator, of.control, bound)?;
+    choose(plan, test, of.first, of.other, of.first.word)
 }

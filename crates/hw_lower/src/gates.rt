@@ -6,9 +6,8 @@ ghost use Rattle.hw_lower.specs.inner.Spread.{HasArguments, OfArguments, IsJoine
 
 use crate::aligning::argument_of;
 use crate::bits::{bit_word, both, inverse, truth};
-use crate::plan::{Operand, Plan, choose};
+use crate::plan::{Made, Operand, Plan, choose};
 use dg_model::Gate;
-use fx_io::OutOfMemory;
 use fx_type::FxType;
 
 /// How the truths of arguments are joined (own).
@@ -23,12 +22,7 @@ pub enum Joining {
 }
 
 /// One number more.
-fn joined(
-    plan: &mut Plan,
-    joining: Joining,
-    test: Operand,
-    bit: Operand,
-) -> Result<Operand, OutOfMemory>
+fn joined(plan: &mut Plan, joining: Joining, test: Operand, bit: Operand) -> Made
     requires test { IsAt plan.old test }
     requires bit { IsAt plan.old bit }
     requires word { bit.word ≡ bit_word }
@@ -49,7 +43,7 @@ fn joined(
 }
 
 /// The truths of all arguments, joined.
-fn joined_all(plan: &mut Plan, joining: Joining, types: &[FxType]) -> Result<Operand, OutOfMemory>
+fn joined_all(plan: &mut Plan, joining: Joining, types: &[FxType]) -> Made
     requires arguments { HasArguments plan.old types.now }
     requires some { 1 ≤ length types.now }
     requires few { length types.now ≤ 32 }
@@ -68,7 +62,7 @@ fn joined_all(plan: &mut Plan, joining: Joining, types: &[FxType]) -> Result<Ope
 }
 
 /// The inverse of the same.
-fn joined_not(plan: &mut Plan, joining: Joining, types: &[FxType]) -> Result<Operand, OutOfMemory>
+fn joined_not(plan: &mut Plan, joining: Joining, types: &[FxType]) -> Made
     requires arguments { HasArguments plan.old types.now }
     requires some { 1 ≤ length types.now }
     requires few { length types.now ≤ 32 }
@@ -81,7 +75,7 @@ fn joined_not(plan: &mut Plan, joining: Joining, types: &[FxType]) -> Result<Ope
 }
 
 /// The gate over the truth of the arguments, of which there is one.
-pub fn gate(plan: &mut Plan, operator: Gate, types: &[FxType]) -> Result<Operand, OutOfMemory>
+pub fn gate(plan: &mut Plan, operator: Gate, types: &[FxType]) -> Made
     requires arguments { HasArguments plan.old types.now }
     requires some { 1 ≤ length types.now }
     requires few { length types.now ≤ 32 }

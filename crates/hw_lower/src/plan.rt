@@ -39,6 +39,9 @@ pub struct Operand {
     pub word: Word,
 }
 
+/// A step that the plan has for others to read, or want of memory.
+pub type Made = Result<Operand, OutOfMemory>;
+
 /// The word of a type.
 pub fn word_of(kind: FxType) -> Word
     ensures { result ≡ word_of kind }
@@ -50,7 +53,7 @@ pub fn word_of(kind: FxType) -> Word
 }
 
 /// Puts a step behind the others.
-fn put(plan: &mut Plan, step: Step) -> Result<Operand, OutOfMemory>
+fn put(plan: &mut Plan, step: Step) -> Made
     ensures { IfOk result (λ made. IsPut plan.old plan.new step made) }
 {
     let Ok(place) = u32::try_from(plan.as_slice().len()) else {
@@ -63,7 +66,7 @@ fn put(plan: &mut Plan, step: Step) -> Result<Operand, OutOfMemory>
 }
 
 /// An operation that reads none: an argument of the plan, or a number of a word.
-pub fn put_alone(plan: &mut Plan, op: NetOp, word: Word) -> Result<Operand, OutOfMemory>
+pub fn put_alone(plan: &mut Plan, op: NetOp, word: Word) -> Made
     ensures { IfOk result (λ made. IsPut plan.old plan.new (step_of op 0 0 0 word) made) }
 {
     put(
@@ -79,12 +82,7 @@ pub fn put_alone(plan: &mut Plan, op: NetOp, word: Word) -> Result<Operand, OutO
 }
 
 /// The product of two steps, cut to a word: the one Multiply of a Product or a Gain.
-pub fn multiply(
-    plan: &mut Plan,
-    one: Operand,
-    other: Operand,
-    word: Word,
-) -> Result<Operand, OutOfMemory>
+pub fn multiply(plan: &mut Plan, one: Operand, other: Operand, word: Word) -> Made
     ensures { IfOk result (λ made. IsPut plan.old plan.new
         (step_of Multiply one.place other.place other.place word) made) }
 {
@@ -101,7 +99,7 @@ pub fn multiply(
 }
 
 /// A number of a word.
-pub fn constant(plan: &mut Plan, value: i128, word: Word) -> Result<Operand, OutOfMemory>
+pub fn constant(plan: &mut Plan, value: i128, word: Word) -> Made
     requires word { IsWord word.width word.signed }
     requires value { InWord word.width word.signed value }
     ensures { IfOk result (λ made.
@@ -118,7 +116,7 @@ pub fn operation(
     second: Operand,
     third: Operand,
     word: Word,
-) -> Result<Operand, OutOfMemory>
+) -> Made
     requires plain { IsPlain op }
     requires parts { CanRead op first.word.width }
     requires first { IsAt plan.old first }
@@ -142,7 +140,7 @@ pub fn operation(
 }
 
 /// An operation on one step.
-pub fn unary(plan: &mut Plan, op: NetOp, one: Operand, word: Word) -> Result<Operand, OutOfMemory>
+pub fn unary(plan: &mut Plan, op: NetOp, one: Operand, word: Word) -> Made
     requires plain { IsPlain op }
     requires parts { CanRead op one.word.width }
     requires at { IsAt plan.old one }
@@ -155,13 +153,7 @@ pub fn unary(plan: &mut Plan, op: NetOp, one: Operand, word: Word) -> Result<Ope
 }
 
 /// An operation on two steps.
-pub fn binary(
-    plan: &mut Plan,
-    op: NetOp,
-    one: Operand,
-    other: Operand,
-    word: Word,
-) -> Result<Operand, OutOfMemory>
+pub fn binary(plan: &mut Plan, op: NetOp, one: Operand, other: Operand, word: Word) -> Made
     requires plain { IsPlain op }
     requires parts { CanRead op one.word.width }
     requires one { IsAt plan.old one }
@@ -175,13 +167,7 @@ pub fn binary(
 }
 
 /// Bits of a step, as an unsigned number.
-pub fn slice(
-    plan: &mut Plan,
-    from: Operand,
-    high: u8,
-    low: u8,
-    word: Word,
-) -> Result<Operand, OutOfMemory>
+pub fn slice(plan: &mut Plan, from: Operand, high: u8, low: u8, word: Word) -> Made
     requires at { IsAt plan.old from }
     requires order { low ≤ high }
     requires within { high < from.word.width }
@@ -195,13 +181,7 @@ pub fn slice(
 }
 
 /// The second step where the first isn't 0, else the third, all of them in the word.
-pub fn choose(
-    plan: &mut Plan,
-    test: Operand,
-    chosen: Operand,
-    other: Operand,
-    word: Word,
-) -> Result<Operand, OutOfMemory>
+pub fn choose(plan: &mut Plan, test: Operand, chosen: Operand, other: Operand, word: Word) -> Made
     requires test { IsAt plan.old test }
     requires chosen { IsAt plan.old chosen }
     requires other { IsAt plan.old other }

@@ -13,19 +13,18 @@ ghost use Rattle.hw_lower.specs.inner.Spread.{HasArguments, OfArguments, IsPlann
 ghost use Rattle.hw_lower.specs.Lowered.{multiply_of};
 
 use crate::aligning::{Side, argument_of, side_of};
-use crate::comparing::switched;
+use crate::comparing::{Branches, switched};
 use crate::gates::gate;
-use crate::plan::{Operand, Plan, Word, multiply, put_alone, word_of};
+use crate::plan::{Made, Operand, Plan, Word, multiply, put_alone, word_of};
 use crate::relating::compared;
 use crate::settling::converted;
 use crate::sums::summed;
 use dg_model::{Criterion, Op, OpCall, sum_type};
-use fx_io::OutOfMemory;
 use fx_type::FxType;
 use hw_net::NetOp;
 
 /// A number with `frac` bits behind the point, converted to the result type of the call.
-fn settled(plan: &mut Plan, call: &OpCall, from: Operand, frac: i16) -> Result<Operand, OutOfMemory>
+fn settled(plan: &mut Plan, call: &OpCall, from: Operand, frac: i16) -> Made
     requires at { IsAt plan.old from }
     requires low { negsuc 63 ≤ℤ frac }
     requires high { frac ≤ℤ pos 128 }
@@ -38,7 +37,7 @@ fn settled(plan: &mut Plan, call: &OpCall, from: Operand, frac: i16) -> Result<O
 }
 
 /// An argument converted to the result type of the call.
-fn argument_settled(plan: &mut Plan, call: &OpCall, input: usize) -> Result<Operand, OutOfMemory>
+fn argument_settled(plan: &mut Plan, call: &OpCall, input: usize) -> Made
     requires arguments { HasArguments plan.old call.now.types.now }
     requires inside { input < length call.now.types.now }
     requires few { length call.now.types.now ≤ 32 }
@@ -54,7 +53,7 @@ fn argument_settled(plan: &mut Plan, call: &OpCall, input: usize) -> Result<Oper
 }
 
 /// A Sum.
-fn planned_sum(plan: &mut Plan, call: &OpCall) -> Result<Operand, OutOfMemory>
+fn planned_sum(plan: &mut Plan, call: &OpCall) -> Made
     requires arguments { HasArguments plan.old call.now.types.now }
     requires signs { length call.now.signs.now ≡ length call.now.types.now }
     requires some { 1 ≤ length call.now.types.now }
@@ -89,7 +88,7 @@ fn product_word(one: FxType, other: FxType) -> Word
 }
 
 /// The product of two numbers, converted to the result type of the call.
-fn scaled(plan: &mut Plan, call: &OpCall, one: Side, other: Side) -> Result<Operand, OutOfMemory>
+fn scaled(plan: &mut Plan, call: &OpCall, one: Side, other: Side) -> Made
     requires one { IsAt plan.old one.from }
     requires other { IsAt plan.old other.from }
     requires left { IsType one.kind }
@@ -108,12 +107,7 @@ fn scaled(plan: &mut Plan, call: &OpCall, one: Side, other: Side) -> Result<Oper
 }
 
 /// A Gain.
-fn planned_gain(
-    plan: &mut Plan,
-    call: &OpCall,
-    coefficient: i128,
-    param: FxType,
-) -> Result<Operand, OutOfMemory>
+fn planned_gain(plan: &mut Plan, call: &OpCall, coefficient: i128, param: FxType) -> Made
     requires arguments { HasArguments plan.old call.now.types.now }
     requires single { length call.now.types.now ≡ 1 }
     requires types { All IsType call.now.types.now }
@@ -133,7 +127,7 @@ fn planned_gain(
 }
 
 /// A Product.
-fn planned_product(plan: &mut Plan, call: &OpCall) -> Result<Operand, OutOfMemory>
+fn planned_product(plan: &mut Plan, call: &OpCall) -> Made
     requires arguments { HasArguments plan.old call.now.types.now }
     requires two { length call.now.types.now ≡ 2 }
     requires types { All IsType call.now.types.now }
@@ -153,12 +147,7 @@ fn planned_product(plan: &mut Plan, call: &OpCall) -> Result<Operand, OutOfMemor
 }
 
 /// A Switch.
-fn planned_switch(
-    plan: &mut Plan,
-    call: &OpCall,
-    criterion: Criterion,
-    threshold: i128,
-) -> Result<Operand, OutOfMemory>
+fn planned_switch(plan: &mut Plan, call: &OpCall, criterion: Criterion, threshold: i128) -> Made
     requires arguments { HasArguments plan.old call.now.types.now }
     requires three { length call.now.types.now ≡ 3 }
     requires types { All IsType call.now.types.now }
@@ -175,7 +164,12 @@ fn planned_switch(
     let first = argument_settled(plan, call, 0)?;
     let other = argument_settled(plan, call, 2)?;
     let control = argument_of(call.types, 1);
-    switched(plan, criterion, threshold, control, first, other)
+    let of = Branches {
+        control,
+        first,
+        other,
+    };
+    switched(plan, criterion, threshold, of)
 }
 
 /// The type with the same stored integers and frac 0.
@@ -193,7 +187,7 @@ fn without_frac(kind: FxType) -> FxType
 }
 
 /// The stored integer of an argument converted, with both fracs taken as 0.
-fn planned_store(plan: &mut Plan, call: &OpCall) -> Result<Operand, OutOfMemory>
+fn planned_store(plan: &mut Plan, call: &OpCall) -> Made
     requires arguments { HasArguments plan.old call.now.types.now }
     requires single { length call.now.types.now ≡ 1 }
     requires types { All IsType call.now.types.now }
@@ -209,7 +203,7 @@ fn planned_store(plan: &mut Plan, call: &OpCall) -> Result<Operand, OutOfMemory>
 }
 
 /// A conversion, of the real value or of the stored integer.
-fn planned_conversion(plan: &mut Plan, call: &OpCall, stored: bool) -> Result<Operand, OutOfMemory>
+fn planned_conversion(plan: &mut Plan, call: &OpCall, stored: bool) -> Made
     requires arguments { HasArguments plan.old call.now.types.now }
     requires single { length call.now.types.now ≡ 1 }
     requires types { All IsType call.now.types.now }
@@ -226,7 +220,7 @@ fn planned_conversion(plan: &mut Plan, call: &OpCall, stored: bool) -> Result<Op
 }
 
 /// The steps of an operation behind its arguments, and the one that has its result.
-pub fn planned(plan: &mut Plan, call: &OpCall) -> Result<Operand, OutOfMemory>
+pub fn planned(plan: &mut Plan, call: &OpCall) -> Made
     requires arguments { HasArguments plan.old call.now.types.now }
     requires can { CanPrepare (operation_of call.now) }
     ensures { IfOk result (λ made. IsPlanned plan.old plan.new (multiply_of call.now.op)

@@ -9,13 +9,12 @@ ghost use Rattle.hw_lower.specs.inner.Spread.{HasArguments, OfArguments};
 
 use crate::aligning::{Side, aligned, side_of};
 use crate::comparing::related;
-use crate::plan::{Operand, Plan, word_of};
+use crate::plan::{Made, Operand, Plan, word_of};
 use dg_model::Relation;
-use fx_io::OutOfMemory;
 use fx_type::{FxType, union};
 
 /// A number in the word and the units of a type that has it.
-fn held(plan: &mut Plan, side: Side, holder: FxType) -> Result<Operand, OutOfMemory>
+fn held(plan: &mut Plan, side: Side, holder: FxType) -> Made
     requires at { IsAt plan.old side.from }
     requires kind { IsType side.kind }
     requires holder { IsType holder }
@@ -29,11 +28,7 @@ fn held(plan: &mut Plan, side: Side, holder: FxType) -> Result<Operand, OutOfMem
 }
 
 /// Whether the real values of two arguments are so related, compared in the union of their types.
-pub fn compared(
-    plan: &mut Plan,
-    operator: Relation,
-    types: &[FxType],
-) -> Result<Operand, OutOfMemory>
+pub fn compared(plan: &mut Plan, operator: Relation, types: &[FxType]) -> Made
     requires arguments { HasArguments plan.old types.now }
     requires two { length types.now ≡ 2 }
     requires types { All IsType types.now }

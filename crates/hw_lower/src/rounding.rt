@@ -4,21 +4,16 @@ ghost use Rattle.std.specs.Prelude.{◌≡◌, ◌≤◌, ◌-◌, ◌+ℤ◌, I
 ghost use Rattle.fx_type.specs.declared.rounding.Rounding.TheVariants.{Ceiling, Zero, Round};
 ghost use Rattle.fx_type.specs.declared.rounding.Rounding.TheVariants.{Nearest, Convergent};
 ghost use Rattle.hw_net.specs.Operation.{shifted_down, low_bits};
-ghost use Rattle.hw_lower.specs.inner.Planned.{IsAt, IsMade, IsPastTie, IsRounded, bit_word};
+ghost use Rattle.hw_lower.specs.inner.Planned.{IsAt, IsMade, IsPastTie, IsRounded, CanRaise, CanPassTie};
+ghost use Rattle.hw_lower.specs.inner.Planned.{bit_word};
 
 use crate::bits::{bit, bit_word, both, lowest, truth};
-use crate::plan::{Operand, Plan, binary, choose, constant, unary};
-use fx_io::OutOfMemory;
+use crate::plan::{Made, Operand, Plan, binary, choose, constant, unary};
 use fx_type::Rounding;
 use hw_net::NetOp;
 
 /// The number divided by 2 to the power `by`, rounded by the mode.
-pub fn rounded(
-    plan: &mut Plan,
-    from: Operand,
-    by: u8,
-    mode: Rounding,
-) -> Result<Operand, OutOfMemory>
+pub fn rounded(plan: &mut Plan, from: Operand, by: u8, mode: Rounding) -> Made
     requires at { IsAt plan.old from }
     requires some { 1 ≤ by }
     ensures { IfOk result (IsRounded mode plan.old plan.new from by) }
@@ -34,7 +29,7 @@ pub fn rounded(
 }
 
 /// Rounded down.
-fn down(plan: &mut Plan, from: Operand, by: u8) -> Result<Operand, OutOfMemory>
+fn down(plan: &mut Plan, from: Operand, by: u8) -> Made
     requires { IsAt plan.old from }
     ensures { IfOk result (λ made. IsMade plan.old plan.new from.word (λ numbers.
         numbers made.place ≡ shifted_down (numbers from.place) by) made) }
@@ -43,11 +38,8 @@ fn down(plan: &mut Plan, from: Operand, by: u8) -> Result<Operand, OutOfMemory>
 }
 
 /// Rounded down, and the carry added.
-fn raised(plan: &mut Plan, from: Operand, by: u8, carry: Operand) -> Result<Operand, OutOfMemory>
-    requires from { IsAt plan.old from }
-    requires carry { IsAt plan.old carry }
-    requires bit { carry.word ≡ bit_word }
-    requires some { 1 ≤ by }
+fn raised(plan: &mut Plan, from: Operand, by: u8, carry: Operand) -> Made
+    requires { CanRaise plan.old from by carry }
     ensures { IfOk result (λ made. IsMade plan.old plan.new from.word (λ numbers.
         numbers made.place ≡ shifted_down (numbers from.place) by +ℤ numbers carry.place) made) }
 {
@@ -56,7 +48,7 @@ fn raised(plan: &mut Plan, from: Operand, by: u8, carry: Operand) -> Result<Oper
 }
 
 /// Rounded up: where a bit is lost.
-fn up(plan: &mut Plan, from: Operand, by: u8) -> Result<Operand, OutOfMemory>
+fn up(plan: &mut Plan, from: Operand, by: u8) -> Made
     requires at { IsAt plan.old from }
     requires some { 1 ≤ by }
     ensures { IfOk result (IsRounded Ceiling plan.old plan.new from by) }
@@ -67,7 +59,7 @@ fn up(plan: &mut Plan, from: Operand, by: u8) -> Result<Operand, OutOfMemory>
 }
 
 /// Rounded to 0: up where the number is negative and bits are lost.
-fn to_zero(plan: &mut Plan, from: Operand, by: u8) -> Result<Operand, OutOfMemory>
+fn to_zero(plan: &mut Plan, from: Operand, by: u8) -> Made
     requires at { IsAt plan.old from }
     requires some { 1 ≤ by }
     ensures { IfOk result (IsRounded Zero plan.old plan.new from by) }
@@ -82,7 +74,7 @@ fn to_zero(plan: &mut Plan, from: Operand, by: u8) -> Result<Operand, OutOfMemor
 }
 
 /// Rounded to the nearest, ties up: where the highest lost bit is set.
-fn to_nearest(plan: &mut Plan, from: Operand, by: u8) -> Result<Operand, OutOfMemory>
+fn to_nearest(plan: &mut Plan, from: Operand, by: u8) -> Made
     requires at { IsAt plan.old from }
     requires some { 1 ≤ by }
     ensures { IfOk result (IsRounded Nearest plan.old plan.new from by) }
@@ -93,7 +85,7 @@ fn to_nearest(plan: &mut Plan, from: Operand, by: u8) -> Result<Operand, OutOfMe
 
 /// Rounded to the nearest, ties away from 0: up where the highest lost bit is set, but not from a
 /// tie of a negative number.
-fn from_zero(plan: &mut Plan, from: Operand, by: u8) -> Result<Operand, OutOfMemory>
+fn from_zero(plan: &mut Plan, from: Operand, by: u8) -> Made
     requires at { IsAt plan.old from }
     requires some { 1 ≤ by }
     ensures { IfOk result (IsRounded Round plan.old plan.new from by) }
@@ -111,7 +103,7 @@ fn from_zero(plan: &mut Plan, from: Operand, by: u8) -> Result<Operand, OutOfMem
 
 /// Rounded to the nearest, ties to even: up where the highest lost bit is set, but not from a tie
 /// above an even number.
-fn to_even(plan: &mut Plan, from: Operand, by: u8) -> Result<Operand, OutOfMemory>
+fn to_even(plan: &mut Plan, from: Operand, by: u8) -> Made
     requires at { IsAt plan.old from }
     requires some { 1 ≤ by }
     ensures { IfOk result (IsRounded Convergent plan.old plan.new from by) }
@@ -124,19 +116,8 @@ fn to_even(plan: &mut Plan, from: Operand, by: u8) -> Result<Operand, OutOfMemor
 }
 
 /// The highest lost bit where a lower one is set, and else what a tie gives.
-fn past_tie(
-    plan: &mut Plan,
-    from: Operand,
-    by: u8,
-    half: Operand,
-    tie: Operand,
-) -> Result<Operand, OutOfMemory>
-    requires from { IsAt plan.old from }
-    requires half { IsAt plan.old half }
-    requires half_bit { half.word ≡ bit_word }
-    requires tie { IsAt plan.old tie }
-    requires tie_bit { tie.word ≡ bit_word }
-    requires some { 1 ≤ by }
+fn past_tie(plan: &mut Plan, from: Operand, by: u8, half: Operand, tie: Operand) -> Made
+    requires { CanPassTie plan.old from by half tie }
     ensures { IfOk result (λ made. IsMade plan.old plan.new bit_word (λ numbers.
         IsPastTie (low_bits (by - 1) (numbers from.place)) (numbers half.place)
         (numbers tie.place) (numbers made.place)) made) }

@@ -9,15 +9,14 @@ ghost use Rattle.fx_type.specs.Conversion.{Settles, StoresQuotient, Converts};
 ghost use Rattle.hw_lower.specs.inner.Planned.{IsAt, IsMade, IsHeldBelow, IsHeldAbove, word_of};
 
 use crate::bits::{bit_word, truth};
-use crate::plan::{Operand, Plan, Word, binary, choose, constant, unary, word_of};
+use crate::plan::{Made, Operand, Plan, Word, binary, choose, constant, unary, word_of};
 use crate::rounding::rounded;
-use fx_io::OutOfMemory;
 use fx_num::{highest, lowest};
 use fx_type::{FxType, Rounding};
 use hw_net::NetOp;
 
 /// The number times 2 to the power `up`, cut to the word.
-pub fn shifted(plan: &mut Plan, from: Operand, up: u8, word: Word) -> Result<Operand, OutOfMemory>
+pub fn shifted(plan: &mut Plan, from: Operand, up: u8, word: Word) -> Made
     requires at { IsAt plan.old from }
     requires word { IsWord word.width word.signed }
     ensures { IfOk result (λ made. IsMade plan.old plan.new word (λ numbers.
@@ -62,12 +61,7 @@ fn least(up: u8, word: Word) -> i128
 }
 
 /// The greatest number of the word where the shifted number would pass it, else the given one.
-fn held_below(
-    plan: &mut Plan,
-    from: Operand,
-    up: u8,
-    value: Operand,
-) -> Result<Operand, OutOfMemory>
+fn held_below(plan: &mut Plan, from: Operand, up: u8, value: Operand) -> Made
     requires from { IsAt plan.old from }
     requires value { IsAt plan.old value }
     ensures { IfOk result (λ made. IsMade plan.old plan.new value.word (λ numbers.
@@ -86,12 +80,7 @@ fn held_below(
 }
 
 /// The least number of the word where the shifted number would pass it, else the given one.
-fn held_above(
-    plan: &mut Plan,
-    from: Operand,
-    up: u8,
-    value: Operand,
-) -> Result<Operand, OutOfMemory>
+fn held_above(plan: &mut Plan, from: Operand, up: u8, value: Operand) -> Made
     requires from { IsAt plan.old from }
     requires value { IsAt plan.old value }
     ensures { IfOk result (λ made. IsMade plan.old plan.new value.word (λ numbers.
@@ -111,13 +100,7 @@ fn held_above(
 
 /// The number times 2 to the power `up`, put into the word: with `saturate` the nearest number of
 /// it, else the congruent one. Bounds are compared before the shift.
-pub fn settled(
-    plan: &mut Plan,
-    from: Operand,
-    up: u8,
-    word: Word,
-    saturate: bool,
-) -> Result<Operand, OutOfMemory>
+pub fn settled(plan: &mut Plan, from: Operand, up: u8, word: Word, saturate: bool) -> Made
     requires at { IsAt plan.old from }
     requires word { IsWord word.width word.signed }
     ensures { IfOk result (λ made. IsMade plan.old plan.new word (λ numbers. (frac : ℤ)
@@ -140,7 +123,7 @@ fn lowered(
     word: Word,
     mode: Rounding,
     saturate: bool,
-) -> Result<Operand, OutOfMemory>
+) -> Made
     requires at { IsAt plan.old from }
     requires some { 1 ≤ by }
     requires word { IsWord word.width word.signed }
@@ -160,7 +143,7 @@ pub fn converted(
     to: FxType,
     mode: Rounding,
     saturate: bool,
-) -> Result<Operand, OutOfMemory>
+) -> Made
     requires at { IsAt plan.old from }
     requires low { negsuc 63 ≤ℤ frac }
     requires high { frac ≤ℤ pos 128 }

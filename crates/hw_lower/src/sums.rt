@@ -1,33 +1,21 @@
 //! Exact sums, in the word of their full type.
-ghost use Rattle.std.specs.Prelude.{◌≡◌, ◌≤ℤ◌, ◌≤◌, ◌+ℤ◌, length, take, zip, All, pos, IfOk};
+ghost use Rattle.std.specs.Prelude.{◌≡◌, ◌≤ℤ◌, ◌+ℤ◌, take, zip, All, pos, IfOk};
 ghost use Rattle.fx_num.specs.Word.{IsWord, IsWrapped};
-ghost use Rattle.fx_type.specs.FxType.{IsType, frac_of, aligned as aligned_of};
+ghost use Rattle.fx_type.specs.FxType.{frac_of, aligned as aligned_of};
 ghost use Rattle.fx_type.specs.FullType.{negated_if, IsFullSum};
 ghost use Rattle.dg_model.specs.Operation.{signed_sum as signed_sum_of};
 ghost use Rattle.hw_lower.specs.inner.Planned.{IsAt, IsMade, word_of};
-ghost use Rattle.hw_lower.specs.inner.Spread.{HasArguments, OfArguments};
+ghost use Rattle.hw_lower.specs.inner.Spread.{AreTerms, CanAlign, OfArguments};
 
 use crate::aligning::{Side, aligned, side_of};
-use crate::plan::{Operand, Plan, Word, binary, unary, word_of};
-use fx_io::OutOfMemory;
+use crate::plan::{Made, Operand, Plan, Word, binary, unary, word_of};
 use fx_type::FxType;
 use hw_net::NetOp;
 
 /// A sum with one more term.
-fn added(
-    plan: &mut Plan,
-    total: Operand,
-    negative: bool,
-    side: Side,
-    frac: i16,
-    word: Word,
-) -> Result<Operand, OutOfMemory>
+fn added(plan: &mut Plan, total: Operand, negative: bool, side: Side, frac: i16, word: Word) -> Made
     requires total { IsAt plan.old total }
-    requires at { IsAt plan.old side.from }
-    requires kind { IsType side.kind }
-    requires above { frac_of side.kind ≤ℤ frac }
-    requires high { frac ≤ℤ pos 128 }
-    requires word { IsWord word.width word.signed }
+    requires can { CanAlign plan.old side frac word }
     ensures { IfOk result (λ made. IsMade plan.old plan.new word (λ numbers. IsWrapped
         (numbers total.place +ℤ negated_if negative
         (aligned_of frac side.kind (numbers side.from.place))) word.width word.signed
@@ -42,17 +30,8 @@ fn added(
 
 /// The sum of the arguments with their signs, in the word and the units of its full type. Each step
 /// is cut to the word, which has the whole sum.
-pub fn summed(
-    plan: &mut Plan,
-    signs: &[bool],
-    types: &[FxType],
-    full: FxType,
-) -> Result<Operand, OutOfMemory>
-    requires arguments { HasArguments plan.old types.now }
-    requires signs { length signs.now ≡ length types.now }
-    requires some { 1 ≤ length types.now }
-    requires few { length types.now ≤ 32 }
-    requires types { All IsType types.now }
+pub fn summed(plan: &mut Plan, signs: &[bool], types: &[FxType], full: FxType) -> Made
+    requires terms { AreTerms plan.old signs.now types.now }
     requires full { IsFullSum (zip signs.now types.now) full }
     ensures { IfOk result (λ made. IsMade plan.old plan.new (word_of full) (λ numbers.
         OfArguments types.now numbers (λ values. numbers made.place
@@ -70,18 +49,8 @@ pub fn summed(
 }
 
 /// The first term of the arguments.
-fn term_begun(
-    plan: &mut Plan,
-    signs: &[bool],
-    types: &[FxType],
-    frac: i16,
-    word: Word,
-) -> Result<Operand, OutOfMemory>
-    requires arguments { HasArguments plan.old types.now }
-    requires signs { length signs.now ≡ length types.now }
-    requires some { 1 ≤ length types.now }
-    requires few { length types.now ≤ 32 }
-    requires types { All IsType types.now }
+fn term_begun(plan: &mut Plan, signs: &[bool], types: &[FxType], frac: i16, word: Word) -> Made
+    requires terms { AreTerms plan.old signs.now types.now }
     requires above { All (λ type. frac_of type ≤ℤ frac) types.now }
     requires high { frac ≤ℤ pos 128 }
     requires word { IsWord word.width word.signed }

@@ -193,3 +193,19 @@ abbrev pub IsRounded : Rounding → List Step → List Step → Operand → ℕ 
 IsRounded mode old new from by made =
     IsMade old new from.word (λ numbers.
     Rounds mode (numbers from.place) (2 ^ by) (numbers made.place)) made
+
+-- a carry of one bit can be added to the step without some of its bits
+pub record CanRaise (plan : List Step) (from : Operand) (by : ℕ) (carry : Operand) : Type 0 where
+  pub at : IsAt plan from
+  pub one : IsAt plan carry
+  pub bit : carry.word ≡ bit_word
+  pub some : 1 ≤ by
+
+-- the bits are there by which a step without some of its bits is rounded
+pub record CanPassTie (plan : List Step) (from : Operand) (by : ℕ) (half tie : Operand) : Type 0 where
+  pub at : IsAt plan from
+  pub first : IsAt plan half
+  pub half_bit : half.word ≡ bit_word
+  pub last : IsAt plan tie
+  pub tie_bit : tie.word ≡ bit_word
+  pub some : 1 ≤ by

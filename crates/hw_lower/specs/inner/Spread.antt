@@ -1,13 +1,16 @@
 -- Plans of whole operations: their arguments, their one Multiply, and what they give.
 use Rattle.std.specs.Prelude.{◌≡◌, ℕ, ◌+◌, ◌<◌, ◌≤◌, ℤ, List, ◌++◌, length, slice_get, Option}
-use Rattle.std.specs.Prelude.{◌⊎◌, Some, count_by, ◌%◌, ◌==◌, ◌*ℤ◌, ◌-ℤ◌, pos, Bool}
+use Rattle.std.specs.Prelude.{◌⊎◌, ◌≤ℤ◌, All, Some, count_by, ◌%◌, ◌==◌, ◌*ℤ◌, ◌-ℤ◌, pos, Bool}
 use Rattle.std.specs.List.{list_all, list_any}
+use Rattle.fx_num.specs.Word.{IsWord, InWord}
 use Rattle.fx_type.specs.declared.kind.FxType.{FxType}
+use Rattle.fx_type.specs.FxType.{IsType, frac_of}
 use Rattle.fx_type.specs.FullType.{IsFullProduct}
 use Rattle.dg_model.specs.Operation.{Operation, AreInRange, IsConverted, is_true, type_of, value_of}
 use Rattle.hw_net.specs.declared.netlist.NetOp.{NetOp}
 use Rattle.hw_net.specs.declared.netlist.NetOp.TheVariants.{Input, Multiply}
 use Rattle.hw_lower.specs.declared.aligning.Side.{Side}
+use Rattle.hw_lower.specs.declared.comparing.Branches.{Branches}
 use Rattle.hw_lower.specs.declared.gates.Joining.{Joining}
 use Rattle.hw_lower.specs.declared.gates.Joining.TheVariants.{Every, Any, Odd}
 use Rattle.hw_lower.specs.declared.plan.Word.{Word}
@@ -26,6 +29,30 @@ side_of types input = record { kind = type_of types input; from = argument_of ty
 -- the plan begins with the arguments
 pub record HasArguments (plan : List Step) (types : List FxType) : Type 0 where
   pub each : (input : ℕ) → input < length types → IsAt plan (argument_of types input)
+
+-- there are from 1 to 32 arguments with a sign each
+pub record AreTerms (plan : List Step) (signs : List Bool) (types : List FxType) : Type 0 where
+  pub arguments : HasArguments plan types
+  pub signed : length signs ≡ length types
+  pub some : 1 ≤ length types
+  pub few : length types ≤ 32
+  pub valid : All IsType types
+
+-- the number can be had with so many bits behind the point, cut to the word
+pub record CanAlign (plan : List Step) (side : Side) (frac : ℤ) (to : Word) : Type 0 where
+  pub at : IsAt plan side.from
+  pub kind : IsType side.kind
+  pub above : frac_of side.kind ≤ℤ frac
+  pub high : frac ≤ℤ pos 128
+  pub word : IsWord to.width to.signed
+
+-- the steps of a choice are there, and the threshold is of the word of the control
+pub record CanSwitch (plan : List Step) (of : Branches) (threshold : ℤ) : Type 0 where
+  pub control : IsAt plan of.control
+  pub first : IsAt plan of.first
+  pub other : IsAt plan of.other
+  pub word : of.first.word ≡ of.other.word
+  pub bound : InWord of.control.word.width of.control.word.signed threshold
 
 -- the plan is the first arguments, as inputs
 pub record AreInputs (plan : List Step) (types : List FxType) (count : ℕ) : Type 0 where

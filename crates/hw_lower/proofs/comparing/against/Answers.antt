@@ -10,15 +10,15 @@ use Rattle.hw_lower.proofs.comparing.against.Goals as goal
 pub returns : goal.returns
 returns c =
     let own = to_z-of_z w128 c.args.threshold c.ranges.threshold in
-    if-then _ _ _ _ _ _ _ (λ made numbers. IsSwitched (compares c.args.operator (numbers c.args.control.place) c.args.threshold) (numbers c.args.first.place) (numbers c.args.other.place) (numbers made.place)) _ _
+    if-then _ _ _ _ _ _ _ (λ made numbers. IsSwitched (compares c.args.operator (numbers c.args.of.control.place) c.args.threshold) (numbers c.args.of.first.place) (numbers c.args.of.other.place) (numbers made.place)) _ _
     (made-both c.in_ok-bound.ensures c.in_ok-test.ensures) c.choose.ensures
-    (λ made numbers has later p q. switched-is (compares c.args.operator (numbers c.args.control.place) c.args.threshold) (numbers c.in_ok-test.test.place) (numbers c.args.first.place) (numbers c.args.other.place) (numbers made.place) (rw own at (rw p.0 at p.1)) q)
+    (λ made numbers has later p q. switched-is (compares c.args.operator (numbers c.args.of.control.place) c.args.threshold) (numbers c.in_ok-test.test.place) (numbers c.args.of.first.place) (numbers c.args.of.other.place) (numbers made.place) (rw own at (rw p.0 at p.1)) q)
 
 pub constant-requires-clause-word : goal.constant-requires-clause-word
 constant-requires-clause-word c = c.requires.control.valid
 
 pub related-requires-clause-one : goal.related-requires-clause-one
-related-requires-clause-one c = at-later _ _ c.args.control c.in_ok-bound.ensures.grows c.requires.control
+related-requires-clause-one c = at-later _ _ c.args.of.control c.in_ok-bound.ensures.grows c.requires.control
 
 pub related-requires-clause-other : goal.related-requires-clause-other
 related-requires-clause-other c = c.in_ok-bound.ensures.at
@@ -27,7 +27,7 @@ pub choose-requires-clause-test : goal.choose-requires-clause-test
 choose-requires-clause-test c = c.in_ok-test.ensures.at
 
 pub choose-requires-clause-chosen : goal.choose-requires-clause-chosen
-choose-requires-clause-chosen c = at-later _ _ c.args.first c.in_ok-test.ensures.grows (at-later _ _ c.args.first c.in_ok-bound.ensures.grows c.requires.first)
+choose-requires-clause-chosen c = at-later _ _ c.args.of.first c.in_ok-test.ensures.grows (at-later _ _ c.args.of.first c.in_ok-bound.ensures.grows c.requires.first)
 
 pub choose-requires-clause-other : goal.choose-requires-clause-other
-choose-requires-clause-other c = at-later _ _ c.args.other c.in_ok-test.ensures.grows (at-later _ _ c.args.other c.in_ok-bound.ensures.grows c.requires.other)
+choose-requires-clause-other c = at-later _ _ c.args.of.other c.in_ok-test.ensures.grows (at-later _ _ c.args.of.other c.in_ok-bound.ensures.grows c.requires.other)

@@ -20,5 +20,11 @@ returns-in-Above c =
 pub returns-in-NotZero : goal.returns-in-NotZero
 returns-in-NotZero c =
     rw c.in-NotZero.is
-    (if-map _ _ _ _ (λ made numbers. IsSwitched (not (int_eq (numbers c.args.control.place) (pos 0))) (numbers c.args.first.place) (numbers c.args.other.place) (numbers made.place)) _ c.choose.ensures
-    (λ made numbers has p. not-zero-is (numbers c.args.control.place) (numbers c.args.first.place) (numbers c.args.other.place) (numbers made.place) p))
+    (if-map _ _ _ _ (λ made numbers. IsSwitched (not (int_eq (numbers c.args.of.control.place) (pos 0))) (numbers c.args.of.first.place) (numbers c.args.of.other.place) (numbers made.place)) _ c.choose.ensures
+    (λ made numbers has p. not-zero-is (numbers c.args.of.control.place) (numbers c.args.of.first.place) (numbers c.args.of.other.place) (numbers made.place) p))
+
+pub against-requires : goal.against-requires
+against-requires c = rw (to_z-of_z w128 c.args.threshold c.ranges.threshold) c.requires
+
+pub against-requires-in-Above : goal.against-requires-in-Above
+against-requires-in-Above c = rw (to_z-of_z w128 c.args.threshold c.ranges.threshold) c.requires

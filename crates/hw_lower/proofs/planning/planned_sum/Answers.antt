@@ -36,3 +36,12 @@ returns c =
       c.sum_type-full.ensures,
       subst (λ (z : ℤ). IsConverted (operation_of c.args.call.now) z c.sum_type-full.result (numbers made.place)) (p values are) (q c.sum_type-full.result refl),
     ))
+
+pub summed-requires-clause-terms : goal.summed-requires-clause-terms
+summed-requires-clause-terms c = record {
+  arguments = c.requires.arguments;
+  signed = c.requires.signs;
+  some = c.requires.some;
+  few = c.requires.few;
+  valid = c.requires.types;
+}

@@ -34,23 +34,16 @@ argument_of-control-requires-clause-inside c = omega (arith, c.requires.three)
 pub argument_of-control-requires-clause-few : goal.argument_of-control-requires-clause-few
 argument_of-control-requires-clause-few c = omega (arith, c.requires.three)
 
-pub switched-requires-clause-other : goal.switched-requires-clause-other
-switched-requires-clause-other c = c.in_ok-other.ensures.at
-
-pub switched-requires-clause-control : goal.switched-requires-clause-control
-switched-requires-clause-control c =
-    rw c.argument_of-control.ensures (at-later _ _ (argument_of c.args.call.now.types.now 1) c.in_ok-other.ensures.grows (at-later _ _ (argument_of c.args.call.now.types.now 1) c.in_ok-first.ensures.grows (c.requires.arguments.each 1 (omega (arith, c.requires.three)))))
-
-pub switched-requires-clause-first : goal.switched-requires-clause-first
-switched-requires-clause-first c = at-later _ _ c.in_ok-first.first c.in_ok-other.ensures.grows c.in_ok-first.ensures.at
-
-pub switched-requires-clause-word : goal.switched-requires-clause-word
-switched-requires-clause-word c = c.in_ok-first.ensures.has_word ∙ sym c.in_ok-other.ensures.has_word
-
-pub switched-requires-clause-threshold : goal.switched-requires-clause-threshold
-switched-requires-clause-threshold c =
+pub switched-requires : goal.switched-requires
+switched-requires c =
     let own = to_z-of_z w128 c.args.threshold c.ranges.threshold in
-    rw (c.argument_of-control.ensures, own) (range-word (type_of c.args.call.now.types.now 1) c.args.threshold c.requires.threshold)
+    rw (c.argument_of-control.ensures, own) (record {
+      control = at-later _ _ (argument_of c.args.call.now.types.now 1) c.in_ok-other.ensures.grows (at-later _ _ (argument_of c.args.call.now.types.now 1) c.in_ok-first.ensures.grows (c.requires.arguments.each 1 (omega (arith, c.requires.three))));
+      first = at-later _ _ c.in_ok-first.first c.in_ok-other.ensures.grows c.in_ok-first.ensures.at;
+      other = c.in_ok-other.ensures.at;
+      word = c.in_ok-first.ensures.has_word ∙ sym c.in_ok-other.ensures.has_word;
+      bound = range-word (type_of c.args.call.now.types.now 1) c.args.threshold c.requires.threshold;
+    })
 
 pub returns : goal.returns
 returns c =

@@ -12,18 +12,15 @@ use Rattle.hw_lower.proofs.relating.held.Goals.{After-frac}
 frac_is : (c : After-frac) → to_z w16 (of_z w16 c.frac.result) ≡ frac_of c.args.holder
 frac_is c = to_z-of_z w16 c.frac.result (record { sfits = c.frac.type_inv }) ∙ c.frac.ensures
 
-pub aligned-requires-clause-above : goal.aligned-requires-clause-above
-aligned-requires-clause-above c =
-    let f = frac_is (goal.at.aligned-requires-clause-above c).After-frac in
-    rw f c.requires.above
-
-pub aligned-requires-clause-high : goal.aligned-requires-clause-high
-aligned-requires-clause-high c =
-    let f = frac_is (goal.at.aligned-requires-clause-high c).After-frac in
-    rw f (frac_bounds c.args.holder c.requires.holder).1
-
-pub aligned-requires-clause-word : goal.aligned-requires-clause-word
-aligned-requires-clause-word c = rw c.word_of.ensures (type-word c.args.holder c.requires.holder)
+pub aligned-requires : goal.aligned-requires
+aligned-requires c =
+    rw (c.word_of.ensures, frac_is (goal.at.aligned-requires c).After-frac) (record {
+      at = c.requires.at;
+      kind = c.requires.kind;
+      above = c.requires.above;
+      high = (frac_bounds c.args.holder c.requires.holder).1;
+      word = type-word c.args.holder c.requires.holder;
+    })
 
 pub returns : goal.returns
 returns c =

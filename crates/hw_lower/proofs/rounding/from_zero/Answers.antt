@@ -9,23 +9,29 @@ use Rattle.hw_lower.proofs.Chained.{if-map, if-then, made-both}
 use Rattle.hw_lower.proofs.Rounded.{nearest-round, round-rounds}
 use Rattle.hw_lower.proofs.rounding.from_zero.Goals as goal
 
+pub raised-requires : goal.raised-requires
+raised-requires c = record {
+  at = at-later _ _ c.args.from c.in_ok-carry.ensures.grows (at-later _ _ c.args.from c.in_ok-tie.ensures.grows (at-later _ _ c.args.from c.in_ok-zero.ensures.grows (at-later _ _ c.args.from c.in_ok-sign.ensures.grows (at-later _ _ c.args.from c.in_ok-half.ensures.grows c.requires.at))));
+  one = c.in_ok-carry.ensures.at;
+  bit = c.in_ok-carry.ensures.has_word;
+  some = c.requires.some;
+}
+
+pub past_tie-requires : goal.past_tie-requires
+past_tie-requires c = record {
+  at = at-later _ _ c.args.from c.in_ok-tie.ensures.grows (at-later _ _ c.args.from c.in_ok-zero.ensures.grows (at-later _ _ c.args.from c.in_ok-sign.ensures.grows (at-later _ _ c.args.from c.in_ok-half.ensures.grows c.requires.at)));
+  first = at-later _ _ c.in_ok-half.half c.in_ok-tie.ensures.grows (at-later _ _ c.in_ok-half.half c.in_ok-zero.ensures.grows (at-later _ _ c.in_ok-half.half c.in_ok-sign.ensures.grows c.in_ok-half.ensures.at));
+  half_bit = c.in_ok-half.ensures.has_word;
+  last = c.in_ok-tie.ensures.at;
+  tie_bit = c.in_ok-tie.ensures.has_word ∙ c.bit_word-then-from.ensures;
+  some = c.requires.some;
+}
+
 pub choose-requires-clause-test : goal.choose-requires-clause-test
 choose-requires-clause-test c = at-later _ _ c.in_ok-sign.sign c.in_ok-zero.ensures.grows c.in_ok-sign.ensures.at
 
 pub choose-requires-clause-other : goal.choose-requires-clause-other
 choose-requires-clause-other c = at-later _ _ c.in_ok-half.half c.in_ok-zero.ensures.grows (at-later _ _ c.in_ok-half.half c.in_ok-sign.ensures.grows c.in_ok-half.ensures.at)
-
-pub past_tie-requires-clause-from : goal.past_tie-requires-clause-from
-past_tie-requires-clause-from c =
-    at-later _ _ c.args.from c.in_ok-tie.ensures.grows (at-later _ _ c.args.from c.in_ok-zero.ensures.grows (at-later _ _ c.args.from c.in_ok-sign.ensures.grows (at-later _ _ c.args.from c.in_ok-half.ensures.grows c.requires.at)))
-
-pub past_tie-requires-clause-half : goal.past_tie-requires-clause-half
-past_tie-requires-clause-half c =
-    at-later _ _ c.in_ok-half.half c.in_ok-tie.ensures.grows (at-later _ _ c.in_ok-half.half c.in_ok-zero.ensures.grows (at-later _ _ c.in_ok-half.half c.in_ok-sign.ensures.grows c.in_ok-half.ensures.at))
-
-pub raised-requires-clause-from : goal.raised-requires-clause-from
-raised-requires-clause-from c =
-    at-later _ _ c.args.from c.in_ok-carry.ensures.grows (at-later _ _ c.args.from c.in_ok-tie.ensures.grows (at-later _ _ c.args.from c.in_ok-zero.ensures.grows (at-later _ _ c.args.from c.in_ok-sign.ensures.grows (at-later _ _ c.args.from c.in_ok-half.ensures.grows c.requires.at))))
 
 pub returns-then-from : goal.returns-then-from
 returns-then-from c =
@@ -48,21 +54,6 @@ choose-requires-clause-word c = c.in_ok-zero.ensures.has_word ∙ c.bit_word.ens
 
 pub choose-requires-clause-fits : goal.choose-requires-clause-fits
 choose-requires-clause-fits c = λ numbers zero own. subst (λ (w : Word). InWord w.width w.signed (numbers c.in_ok-half.half.place)) (c.in_ok-half.ensures.has_word ∙ sym c.bit_word-then-from.ensures) own
-
-pub past_tie-requires-clause-half_bit : goal.past_tie-requires-clause-half_bit
-past_tie-requires-clause-half_bit c = c.in_ok-half.ensures.has_word
-
-pub past_tie-requires-clause-tie : goal.past_tie-requires-clause-tie
-past_tie-requires-clause-tie c = c.in_ok-tie.ensures.at
-
-pub past_tie-requires-clause-tie_bit : goal.past_tie-requires-clause-tie_bit
-past_tie-requires-clause-tie_bit c = c.in_ok-tie.ensures.has_word ∙ c.bit_word-then-from.ensures
-
-pub raised-requires-clause-carry : goal.raised-requires-clause-carry
-raised-requires-clause-carry c = c.in_ok-carry.ensures.at
-
-pub raised-requires-clause-bit : goal.raised-requires-clause-bit
-raised-requires-clause-bit c = c.in_ok-carry.ensures.has_word
 
 pub returns : goal.returns
 returns c =

@@ -10,14 +10,14 @@ use Rattle.hw_lower.proofs.rounding.past_tie.Goals as goal
 pub returns-then-by-eq1 : goal.returns-then-by-eq1
 returns-then-by-eq1 c =
     subst (λ (w : Word). IsMade c.args.plan.now c.args.plan.now w (λ numbers. IsPastTie (low_bits (c.args.by - 1) (numbers c.args.from.place)) (numbers c.args.half.place) (numbers c.args.tie.place) (numbers c.args.tie.place)) c.args.tie) c.requires.tie_bit
-    (made-self (λ numbers. IsPastTie (low_bits (c.args.by - 1) (numbers c.args.from.place)) (numbers c.args.half.place) (numbers c.args.tie.place) (numbers c.args.tie.place)) c.requires.tie
+    (made-self (λ numbers. IsPastTie (low_bits (c.args.by - 1) (numbers c.args.from.place)) (numbers c.args.half.place) (numbers c.args.tie.place) (numbers c.args.tie.place)) c.requires.last
     (λ numbers has. no-rest (c.args.by - 1) (numbers c.args.from.place) (numbers c.args.half.place) (numbers c.args.tie.place) (omega (arith, c.if-by-eq1.true))))
 
 pub choose-requires-clause-chosen : goal.choose-requires-clause-chosen
-choose-requires-clause-chosen c = at-later _ _ c.args.half c.in_ok-rest.ensures.grows c.requires.half
+choose-requires-clause-chosen c = at-later _ _ c.args.half c.in_ok-rest.ensures.grows c.requires.first
 
 pub choose-requires-clause-other : goal.choose-requires-clause-other
-choose-requires-clause-other c = at-later _ _ c.args.tie c.in_ok-rest.ensures.grows c.requires.tie
+choose-requires-clause-other c = at-later _ _ c.args.tie c.in_ok-rest.ensures.grows c.requires.last
 
 pub returns : goal.returns
 returns c =

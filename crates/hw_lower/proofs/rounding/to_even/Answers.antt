@@ -6,9 +6,23 @@ use Rattle.hw_lower.proofs.Chained.{if-then, made-both}
 use Rattle.hw_lower.proofs.Rounded.{convergent-rounds}
 use Rattle.hw_lower.proofs.rounding.to_even.Goals as goal
 
-pub raised-requires-clause-from : goal.raised-requires-clause-from
-raised-requires-clause-from c =
-    at-later _ _ c.args.from c.in_ok-carry.ensures.grows (at-later _ _ c.args.from c.in_ok-tie.ensures.grows (at-later _ _ c.args.from c.in_ok-odd.ensures.grows (at-later _ _ c.args.from c.in_ok-half.ensures.grows c.requires.at)))
+pub raised-requires : goal.raised-requires
+raised-requires c = record {
+  at = at-later _ _ c.args.from c.in_ok-carry.ensures.grows (at-later _ _ c.args.from c.in_ok-tie.ensures.grows (at-later _ _ c.args.from c.in_ok-odd.ensures.grows (at-later _ _ c.args.from c.in_ok-half.ensures.grows c.requires.at)));
+  one = c.in_ok-carry.ensures.at;
+  bit = c.in_ok-carry.ensures.has_word;
+  some = c.requires.some;
+}
+
+pub past_tie-requires : goal.past_tie-requires
+past_tie-requires c = record {
+  at = at-later _ _ c.args.from c.in_ok-tie.ensures.grows (at-later _ _ c.args.from c.in_ok-odd.ensures.grows (at-later _ _ c.args.from c.in_ok-half.ensures.grows c.requires.at));
+  first = at-later _ _ c.in_ok-half.half c.in_ok-tie.ensures.grows (at-later _ _ c.in_ok-half.half c.in_ok-odd.ensures.grows c.in_ok-half.ensures.at);
+  half_bit = c.in_ok-half.ensures.has_word;
+  last = c.in_ok-tie.ensures.at;
+  tie_bit = c.in_ok-tie.ensures.has_word;
+  some = c.requires.some;
+}
 
 pub returns : goal.returns
 returns c =
@@ -28,24 +42,3 @@ both-requires-clause-bit c = c.in_ok-odd.ensures.at
 
 pub both-requires-clause-word : goal.both-requires-clause-word
 both-requires-clause-word c = c.in_ok-odd.ensures.has_word
-
-pub past_tie-requires-clause-from : goal.past_tie-requires-clause-from
-past_tie-requires-clause-from c = at-later _ _ c.args.from c.in_ok-tie.ensures.grows (at-later _ _ c.args.from c.in_ok-odd.ensures.grows (at-later _ _ c.args.from c.in_ok-half.ensures.grows c.requires.at))
-
-pub past_tie-requires-clause-half : goal.past_tie-requires-clause-half
-past_tie-requires-clause-half c = at-later _ _ c.in_ok-half.half c.in_ok-tie.ensures.grows (at-later _ _ c.in_ok-half.half c.in_ok-odd.ensures.grows c.in_ok-half.ensures.at)
-
-pub past_tie-requires-clause-half_bit : goal.past_tie-requires-clause-half_bit
-past_tie-requires-clause-half_bit c = c.in_ok-half.ensures.has_word
-
-pub past_tie-requires-clause-tie : goal.past_tie-requires-clause-tie
-past_tie-requires-clause-tie c = c.in_ok-tie.ensures.at
-
-pub past_tie-requires-clause-tie_bit : goal.past_tie-requires-clause-tie_bit
-past_tie-requires-clause-tie_bit c = c.in_ok-tie.ensures.has_word
-
-pub raised-requires-clause-carry : goal.raised-requires-clause-carry
-raised-requires-clause-carry c = c.in_ok-carry.ensures.at
-
-pub raised-requires-clause-bit : goal.raised-requires-clause-bit
-raised-requires-clause-bit c = c.in_ok-carry.ensures.has_word

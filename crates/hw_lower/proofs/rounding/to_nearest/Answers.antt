@@ -6,16 +6,15 @@ use Rattle.hw_lower.proofs.Rounded.{nearest-rounds}
 use Rattle.hw_lower.proofs.Made.{at-later}
 use Rattle.hw_lower.proofs.rounding.to_nearest.Goals as goal
 
+pub raised-requires : goal.raised-requires
+raised-requires c = record {
+  at = at-later _ _ c.args.from c.in_ok-half.ensures.grows c.requires.at;
+  one = c.in_ok-half.ensures.at;
+  bit = c.in_ok-half.ensures.has_word;
+  some = c.requires.some;
+}
+
 pub returns : goal.returns
 returns c =
     if-then _ _ _ _ _ _ _ (λ made numbers. Rounds Nearest (numbers c.args.from.place) (2 ^ c.args.by) (numbers made.place)) _ _ c.in_ok-half.ensures c.raised.ensures
     (λ made numbers has later p q. nearest-rounds (numbers c.args.from.place) c.args.by c.requires.some (numbers c.in_ok-half.half.place) (numbers made.place) p q)
-
-pub raised-requires-clause-from : goal.raised-requires-clause-from
-raised-requires-clause-from c = at-later _ _ c.args.from c.in_ok-half.ensures.grows c.requires.at
-
-pub raised-requires-clause-carry : goal.raised-requires-clause-carry
-raised-requires-clause-carry c = c.in_ok-half.ensures.at
-
-pub raised-requires-clause-bit : goal.raised-requires-clause-bit
-raised-requires-clause-bit c = c.in_ok-half.ensures.has_word

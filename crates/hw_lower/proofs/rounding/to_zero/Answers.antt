@@ -7,14 +7,19 @@ use Rattle.hw_lower.proofs.Chained.{if-map, if-then, made-both}
 use Rattle.hw_lower.proofs.Rounded.{zero-down, zero-rounds}
 use Rattle.hw_lower.proofs.rounding.to_zero.Goals as goal
 
+pub raised-requires : goal.raised-requires
+raised-requires c = record {
+  at = at-later _ _ c.args.from c.in_ok-carry.ensures.grows (at-later _ _ c.args.from c.in_ok-sign.ensures.grows (at-later _ _ c.args.from c.in_ok-low.ensures.grows c.requires.at));
+  one = c.in_ok-carry.ensures.at;
+  bit = c.in_ok-carry.ensures.has_word;
+  some = c.requires.some;
+}
+
 pub bit-requires : goal.bit-requires
 bit-requires c = at-later _ _ c.args.from c.in_ok-low.ensures.grows c.requires.at
 
 pub both-requires-clause-test : goal.both-requires-clause-test
 both-requires-clause-test c = at-later _ _ c.in_ok-low.low c.in_ok-sign.ensures.grows c.in_ok-low.ensures.at
-
-pub raised-requires-clause-from : goal.raised-requires-clause-from
-raised-requires-clause-from c = at-later _ _ c.args.from c.in_ok-carry.ensures.grows (at-later _ _ c.args.from c.in_ok-sign.ensures.grows (at-later _ _ c.args.from c.in_ok-low.ensures.grows c.requires.at))
 
 pub returns-then-from : goal.returns-then-from
 returns-then-from c =
@@ -29,12 +34,6 @@ both-requires-clause-bit c = c.in_ok-sign.ensures.at
 
 pub both-requires-clause-word : goal.both-requires-clause-word
 both-requires-clause-word c = c.in_ok-sign.ensures.has_word
-
-pub raised-requires-clause-carry : goal.raised-requires-clause-carry
-raised-requires-clause-carry c = c.in_ok-carry.ensures.at
-
-pub raised-requires-clause-bit : goal.raised-requires-clause-bit
-raised-requires-clause-bit c = c.in_ok-carry.ensures.has_word
 
 pub returns : goal.returns
 returns c =

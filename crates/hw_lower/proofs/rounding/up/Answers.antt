@@ -6,6 +6,14 @@ use Rattle.hw_lower.proofs.Rounded.{ceiling-rounds}
 use Rattle.hw_lower.proofs.Made.{at-later}
 use Rattle.hw_lower.proofs.rounding.up.Goals as goal
 
+pub raised-requires : goal.raised-requires
+raised-requires c = record {
+  at = at-later _ _ c.args.from c.in_ok-carry.ensures.grows (at-later _ _ c.args.from c.in_ok-low.ensures.grows c.requires.at);
+  one = c.in_ok-carry.ensures.at;
+  bit = c.in_ok-carry.ensures.has_word;
+  some = c.requires.some;
+}
+
 pub returns : goal.returns
 returns c =
     if-then _ _ _ _ _ _ _ (λ made numbers. Rounds Ceiling (numbers c.args.from.place) (2 ^ c.args.by) (numbers made.place)) _ _ (made-both c.in_ok-low.ensures c.in_ok-carry.ensures) c.raised.ensures
@@ -13,12 +21,3 @@ returns c =
 
 pub truth-requires : goal.truth-requires
 truth-requires c = c.in_ok-low.ensures.at
-
-pub raised-requires-clause-from : goal.raised-requires-clause-from
-raised-requires-clause-from c = at-later _ _ c.args.from c.in_ok-carry.ensures.grows (at-later _ _ c.args.from c.in_ok-low.ensures.grows c.requires.at)
-
-pub raised-requires-clause-carry : goal.raised-requires-clause-carry
-raised-requires-clause-carry c = c.in_ok-carry.ensures.at
-
-pub raised-requires-clause-bit : goal.raised-requires-clause-bit
-raised-requires-clause-bit c = c.in_ok-carry.ensures.has_word

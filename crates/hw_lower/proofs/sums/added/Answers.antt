@@ -34,3 +34,12 @@ binary-requires-2-clause-one c = at-later _ _ c.args.total c.in_ok-value.ensures
 
 pub binary-requires-2-clause-other : goal.binary-requires-2-clause-other
 binary-requires-2-clause-other c = c.in_ok-value.ensures.at
+
+pub aligned-requires : goal.aligned-requires
+aligned-requires c = rw (to_z-of_z w16 c.args.frac c.ranges.frac) c.requires.can
+
+pub binary-requires-clause-word : goal.binary-requires-clause-word
+binary-requires-clause-word c = c.requires.can.word
+
+pub binary-requires-2-clause-word : goal.binary-requires-2-clause-word
+binary-requires-2-clause-word c = c.requires.can.word

@@ -20,7 +20,7 @@ own_frac c = to_z-of_z w16 c.frac-frac.result (record { sfits = c.frac-frac.type
 pub term_begun-requires-clause-above : goal.term_begun-requires-clause-above
 term_begun-requires-clause-above c =
     let f = own_frac (goal.at.term_begun-requires-clause-above c).After-frac-frac in
-    rw f (λ k d h. bound_at (frac_of c.args.full) c.args.signs.now c.args.types.now c.requires.full.frac.bound c.requires.signs k d h)
+    rw f (λ k d h. bound_at (frac_of c.args.full) c.args.signs.now c.args.types.now c.requires.full.frac.bound c.requires.terms.signed k d h)
 
 pub term_begun-requires-clause-high : goal.term_begun-requires-clause-high
 term_begun-requires-clause-high c =
@@ -35,24 +35,16 @@ loop-input-init c =
     let f = own_frac (goal.at.loop-input-init c).After-frac-frac in
     rw (c.word_of-word.ensures, f) at c.in_ok-first.ensures
 
-pub added-requires-clause-at : goal.added-requires-clause-at
-added-requires-clause-at c =
+pub added-requires-clause-can : goal.added-requires-clause-can
+added-requires-clause-can c =
     let inside : c.loop-input.input < length c.args.types.now = omega (arith, c.loop-input-test.true) in
-    rw c.side_of-side.ensures (at-later _ _ (argument_of c.args.types.now c.loop-input.input) c.loop-input.invariant.grows (c.requires.arguments.each c.loop-input.input inside))
-
-pub added-requires-clause-above : goal.added-requires-clause-above
-added-requires-clause-above c =
-    let f = own_frac (goal.at.added-requires-clause-above c).After-frac-frac in
-    let inside : c.loop-input.input < length c.args.types.now = omega (arith, c.loop-input-test.true) in
-    rw (c.side_of-side.ensures, f) (bound_at (frac_of c.args.full) c.args.signs.now c.args.types.now c.requires.full.frac.bound c.requires.signs c.loop-input.input _ inside)
-
-pub added-requires-clause-high : goal.added-requires-clause-high
-added-requires-clause-high c =
-    let f = own_frac (goal.at.added-requires-clause-high c).After-frac-frac in
-    rw f (frac_bounds c.args.full c.requires.full.valid).1
-
-pub added-requires-clause-word : goal.added-requires-clause-word
-added-requires-clause-word c = rw c.word_of-word.ensures (type-word c.args.full c.requires.full.valid)
+    rw (c.side_of-side.ensures, c.word_of-word.ensures, own_frac (goal.at.added-requires-clause-can c).After-frac-frac) (record {
+      at = at-later _ _ (argument_of c.args.types.now c.loop-input.input) c.loop-input.invariant.grows (c.requires.terms.arguments.each c.loop-input.input inside);
+      kind = c.requires.terms.valid c.loop-input.input _ inside;
+      above = bound_at (frac_of c.args.full) c.args.signs.now c.args.types.now c.requires.full.frac.bound c.requires.terms.signed c.loop-input.input _ inside;
+      high = (frac_bounds c.args.full c.requires.full.valid).1;
+      word = type-word c.args.full c.requires.full.valid;
+    })
 
 pub loop-input-preserved : goal.loop-input-preserved
 loop-input-preserved c =
@@ -60,9 +52,9 @@ loop-input-preserved c =
     let i : ℕ = c.loop-input.input in
     let inside : i < length c.args.types.now = omega (arith, c.loop-input-test.true) in
     made-map (λ numbers. IsTotal (frac_of c.args.full) c.args.signs.now c.args.types.now (width_of c.args.full) (is_signed c.args.full) numbers (i + 1) (numbers c.in_ok-total.total.place)) (made-both c.loop-input.invariant (rw (c.side_of-side.ensures, c.word_of-word.ensures, f) at c.in_ok-total.ensures))
-    (λ numbers has p. total-more (frac_of c.args.full) c.args.signs.now c.args.types.now (width_of c.args.full) (is_signed c.args.full) numbers c.requires.signs i (numbers c.loop-input.total.place) (numbers c.in_ok-total.total.place) inside p.0 p.1)
+    (λ numbers has p. total-more (frac_of c.args.full) c.args.signs.now c.args.types.now (width_of c.args.full) (is_signed c.args.full) numbers c.requires.terms.signed i (numbers c.loop-input.total.place) (numbers c.in_ok-total.total.place) inside p.0 p.1)
 
 pub returns : goal.returns
 returns c =
     made-map (λ numbers. OfArguments c.args.types.now numbers (λ values. numbers c.loop-input.total.place ≡ signed_sum (frac_of c.args.full) (zip c.args.signs.now c.args.types.now) values)) c.loop-input.invariant
-    (λ numbers has p. total-is c.args.signs.now c.args.types.now c.args.full numbers c.loop-input.input (numbers c.loop-input.total.place) c.requires.signs c.requires.full (omega (arith, c.loop-input-test.false)) p)
+    (λ numbers has p. total-is c.args.signs.now c.args.types.now c.args.full numbers c.loop-input.input (numbers c.loop-input.total.place) c.requires.terms.signed c.requires.full (omega (arith, c.loop-input-test.false)) p)
