@@ -154,14 +154,19 @@ queue_length s arc number = by_pending (is_pending s.pending arc.to)
     by_pending true = omega arith
     by_pending false = simp length-append (omega arith)
 
-pub state_taken : (arcs : List Arc) (count : ℕ) (s : State) (number : ℕ) (arc : Arc) → AreKnown arcs count → slice_get arcs number ≡ Some arc → arc.counts ≡ true → latency_at s.lat arc.to < label_of s.lat arc → IsState arcs count s → IsState arcs count (taken s arc number)
-state_taken arcs count s number arc known at counts more state =
+-- the end of an arc has a latency and a mark
+end_inside : (arcs : List Arc) (count : ℕ) (s : State) (number : ℕ) (arc : Arc) → AreKnown arcs count → slice_get arcs number ≡ Some arc → IsState arcs count s → (arc.to < length s.lat) × (arc.to < length s.pending)
+end_inside arcs count s number arc known at state =
     let size = state.size in
     let pending = state.pending in
     let to = known.to number arc at in
-    let inside : arc.to < length s.lat = omega (arith, size, to) in
-    let held : arc.to < length s.pending = omega (arith, pending, to) in
-    let marks = set_moves s.pending arc.to true false held in
+    (omega (arith, size, to), omega (arith, pending, to))
+
+pub state_taken : (arcs : List Arc) (count : ℕ) (s : State) (number : ℕ) (arc : Arc) → AreKnown arcs count → slice_get arcs number ≡ Some arc → arc.counts ≡ true → latency_at s.lat arc.to < label_of s.lat arc → IsState arcs count s → IsState arcs count (taken s arc number)
+state_taken arcs count s number arc known at counts more state =
+    let held = end_inside arcs count s number arc known at state in
+    let inside = held.0 in
+    let marks = set_moves s.pending arc.to true false held.1 in
     record {
       size = length-set s.lat arc.to (label_of s.lat arc) ∙ state.size;
       pending = length-set s.pending arc.to true ∙ state.pending;
@@ -172,7 +177,7 @@ state_taken arcs count s number arc known at counts more state =
           (cases_eq arc.to block);
       inside = λ place block there. ⊎_elim
           (λ old. state.inside place block old)
-          (λ (e : arc.to ≡ block). subst (λ b. b < count) e to)
+          (λ (e : arc.to ≡ block). subst (λ b. b < count) e (known.to number arc at))
           (queue_cases s arc number place block there);
     }
 
@@ -188,12 +193,9 @@ Excused arcs s left number arc = (latency_at s.lat arc.from + arc.gain ≤ laten
 pub settled_taken : (arcs : List Arc) (count : ℕ) (s : State) (left rest : List ℕ) (number : ℕ) (arc : Arc) → AreKnown arcs count → IsState arcs count s → slice_get arcs number ≡ Some arc → latency_at s.lat arc.to < label_of s.lat arc
     → IsRest left rest number → AreSettled arcs s left → AreSettled arcs (taken s arc number) rest
 settled_taken arcs count s left rest number arc known state at more next settled =
-    let size = state.size in
-    let pending = state.pending in
-    let to = known.to number arc at in
-    let inside : arc.to < length s.lat = omega (arith, size, to) in
-    let held : arc.to < length s.pending = omega (arith, pending, to) in
-    let marks = set_moves s.pending arc.to true false held in
+    let held = end_inside arcs count s number arc known at state in
+    let inside = held.0 in
+    let marks = set_moves s.pending arc.to true false held.1 in
     let moved = set_moves s.lat arc.to (label_of s.lat arc) 0 inside in
     let sum = (given s.lat arc more).sum in
     record {

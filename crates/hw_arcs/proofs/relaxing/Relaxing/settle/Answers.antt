@@ -1,13 +1,25 @@
-use Rattle.std.proofs.Common.{List, ℕ, false, length, get_or, subst, arith}
+use Rattle.std.proofs.Common.{◌≡◌, ◌+◌, ◌<◌, List, ℕ, false, length, drop, get_or, subst, arith}
 use Rattle.std.proofs.lemmas.List.{drop_all, get_or_read}
 use Rattle.std.proofs.lemmas.Option.{slice_get_within, slice_get-get_or}
 use Rattle.hw_arcs.specs.declared.arc.Arc.{Arc}
+use Rattle.hw_arcs.specs.Latencies.{latency_at}
 use Rattle.hw_arcs.specs.inner.State.{AreSettled, seen}
-use Rattle.hw_arcs.proofs.Stepping.{row_looked}
+use Rattle.hw_arcs.proofs.Stepping.{IsLooked, row_looked}
 use Rattle.hw_arcs.proofs.relaxing.Relaxing.settle.Goals as goal
+use Rattle.hw_arcs.proofs.relaxing.Relaxing.settle.Goals.{In_ok-relax, After-index}
 
 abbrev no_arc : Arc
 no_arc = record { from = 0; to = 0; counts = false; gain = 0; slack = 0 }
+
+-- the arc was looked at
+looked : (c : In_ok-relax) → IsLooked c.args.arcs.now (length c.args.self.now.lat.items) c.args.limit (seen c.args.self.now) (seen c.loop-number.self) (seen c.relax.new.self) (drop (c.loop-number.number-index + 1) c.args.row.now) (get_or c.args.arcs.now (get_or c.args.row.now c.loop-number.number-index 0) no_arc)
+looked c =
+    row_looked c.args.arcs.now (length c.args.self.now.lat.items) c.args.limit (seen c.args.self.now) (seen c.loop-number.self) (seen c.relax.new.self) c.args.row.now c.loop-number.number-index no_arc
+    c.requires.known c.requires.row c.loop-number-test.true c.in_ok-relax.ensures c.loop-number.invariant
+
+end_read : (c : After-index) → (get_or c.args.arcs.now (get_or c.args.row.now c.loop-number.number-index 0) no_arc).to < length c.relax.new.self.lat.items
+    → c.index.result.now ≡ latency_at c.relax.new.self.lat.items (get_or c.args.arcs.now (get_or c.args.row.now c.loop-number.number-index 0) no_arc).to
+end_read c inside = get_or_read c.relax.new.self.lat.items (get_or c.args.arcs.now (get_or c.args.row.now c.loop-number.number-index 0) no_arc).to c.index.result.now inside c.index.ensures 0
 
 pub bounds-arcs-number : goal.bounds-arcs-number
 bounds-arcs-number c =
@@ -39,39 +51,24 @@ relax-requires c =
 
 pub index-requires : goal.index-requires
 index-requires c =
-    let looked = row_looked c.args.arcs.now (length c.args.self.now.lat.items) c.args.limit (seen c.args.self.now) (seen c.loop-number.self) (seen c.relax.new.self) c.args.row.now c.loop-number.number-index no_arc
-    c.requires.known c.requires.row c.loop-number-test.true c.in_ok-relax.ensures c.loop-number.invariant in
-    let there = looked.there in
-    let size = looked.size in
+    let looked = looked (goal.at.index-requires c).In_ok-relax in
     let len = c.relax.new.self.lat.ok.0 in
-    omega (arith, there, size, len)
+    omega (arith, looked.there, looked.size, len)
 
 pub returns-then-limit-index-clause-state : goal.returns-then-limit-index-clause-state
-returns-then-limit-index-clause-state c =
-    (row_looked c.args.arcs.now (length c.args.self.now.lat.items) c.args.limit (seen c.args.self.now) (seen c.loop-number.self) (seen c.relax.new.self) c.args.row.now c.loop-number.number-index no_arc
-    c.requires.known c.requires.row c.loop-number-test.true c.in_ok-relax.ensures c.loop-number.invariant).state
+returns-then-limit-index-clause-state c = (looked (goal.at.returns-then-limit-index-clause-state c).In_ok-relax).state
 
 pub returns-then-limit-index-clause-end : goal.returns-then-limit-index-clause-end
 returns-then-limit-index-clause-end c =
-    let arc = get_or c.args.arcs.now (get_or c.args.row.now c.loop-number.number-index 0) no_arc in
-    let looked = row_looked c.args.arcs.now (length c.args.self.now.lat.items) c.args.limit (seen c.args.self.now) (seen c.loop-number.self) (seen c.relax.new.self) c.args.row.now c.loop-number.number-index no_arc
-    c.requires.known c.requires.row c.loop-number-test.true c.in_ok-relax.ensures c.loop-number.invariant in
-    let there = looked.there in
-    let size = looked.size in
-    let read = get_or_read c.relax.new.self.lat.items arc.to c.index.result.now (omega (arith, there, size)) c.index.ensures 0 in
-    let more = c.if-limit-index.true in
-    record { there = there; above = omega (arith, read, more) }
+    let looked = looked (goal.at.returns-then-limit-index-clause-end c).In_ok-relax in
+    let read = end_read (goal.at.returns-then-limit-index-clause-end c).After-index (omega (arith, looked.there, looked.size)) in
+    record { there = looked.there; above = omega (arith, read, c.if-limit-index.true) }
 
 pub loop-number-preserved : goal.loop-number-preserved
 loop-number-preserved c =
-    let arc = get_or c.args.arcs.now (get_or c.args.row.now c.loop-number.number-index 0) no_arc in
-    let looked = row_looked c.args.arcs.now (length c.args.self.now.lat.items) c.args.limit (seen c.args.self.now) (seen c.loop-number.self) (seen c.relax.new.self) c.args.row.now c.loop-number.number-index no_arc
-    c.requires.known c.requires.row c.loop-number-test.true c.in_ok-relax.ensures c.loop-number.invariant in
-    let there = looked.there in
-    let size = looked.size in
-    let read = get_or_read c.relax.new.self.lat.items arc.to c.index.result.now (omega (arith, there, size)) c.index.ensures 0 in
-    let less = c.if-limit-index.false in
-    looked.on (omega (arith, read, less))
+    let looked = looked (goal.at.loop-number-preserved c).In_ok-relax in
+    let read = end_read (goal.at.loop-number-preserved c).After-index (omega (arith, looked.there, looked.size)) in
+    looked.on (omega (arith, read, c.if-limit-index.false))
 
 pub loop-number-init : goal.loop-number-init
 loop-number-init c = record {
