@@ -1,8 +1,8 @@
 //! Gates over the truth of the arguments.
-ghost use Rattle.std.specs.Prelude.{◌≡◌, ◌≤◌, not, length, IfOk};
+ghost use Rattle.std.specs.Prelude.{◌≡◌, not, IfOk};
 ghost use Rattle.dg_model.specs.Operation.{gate_of, stored_truth};
 ghost use Rattle.hw_lower.specs.inner.Planned.{IsAt, IsMade, bit_word};
-ghost use Rattle.hw_lower.specs.inner.Spread.{HasArguments, OfArguments, IsJoined, truth_of};
+ghost use Rattle.hw_lower.specs.inner.Spread.{HasSome, OfArguments, IsJoined, truth_of};
 
 use crate::aligning::argument_of;
 use crate::bits::{bit_word, both, inverse, truth};
@@ -44,9 +44,7 @@ fn joined(plan: &mut Plan, joining: Joining, test: Operand, bit: Operand) -> Mad
 
 /// The truths of all arguments, joined.
 fn joined_all(plan: &mut Plan, joining: Joining, types: &[FxType]) -> Made
-    requires arguments { HasArguments plan.old types.now }
-    requires some { 1 ≤ length types.now }
-    requires few { length types.now ≤ 32 }
+    requires { HasSome plan.old types.now }
     ensures { IfOk result (λ made. IsMade plan.old plan.new bit_word (λ numbers.
         OfArguments types.now numbers (λ values.
         numbers made.place ≡ stored_truth (truth_of joining values))) made) }
@@ -63,9 +61,7 @@ fn joined_all(plan: &mut Plan, joining: Joining, types: &[FxType]) -> Made
 
 /// The inverse of the same.
 fn joined_not(plan: &mut Plan, joining: Joining, types: &[FxType]) -> Made
-    requires arguments { HasArguments plan.old types.now }
-    requires some { 1 ≤ length types.now }
-    requires few { length types.now ≤ 32 }
+    requires { HasSome plan.old types.now }
     ensures { IfOk result (λ made. IsMade plan.old plan.new bit_word (λ numbers.
         OfArguments types.now numbers (λ values.
         numbers made.place ≡ stored_truth (not (truth_of joining values)))) made) }
@@ -76,9 +72,7 @@ fn joined_not(plan: &mut Plan, joining: Joining, types: &[FxType]) -> Made
 
 /// The gate over the truth of the arguments, of which there is one.
 pub fn gate(plan: &mut Plan, operator: Gate, types: &[FxType]) -> Made
-    requires arguments { HasArguments plan.old types.now }
-    requires some { 1 ≤ length types.now }
-    requires few { length types.now ≤ 32 }
+    requires { HasSome plan.old types.now }
     ensures { IfOk result (λ made. IsMade plan.old plan.new bit_word (λ numbers.
         OfArguments types.now numbers (λ values.
         numbers made.place ≡ stored_truth (gate_of operator values))) made) }

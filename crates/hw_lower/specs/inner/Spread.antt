@@ -30,7 +30,13 @@ side_of types input = record { kind = type_of types input; from = argument_of ty
 pub record HasArguments (plan : List Step) (types : List FxType) : Type 0 where
   pub each : (input : ℕ) → input < length types → IsAt plan (argument_of types input)
 
--- there are from 1 to 32 arguments with a sign each
+-- there are from 1 to 32 arguments
+pub record HasSome (plan : List Step) (types : List FxType) : Type 0 where
+  pub arguments : HasArguments plan types
+  pub some : 1 ≤ length types
+  pub few : length types ≤ 32
+
+-- the same with a sign each
 pub record AreTerms (plan : List Step) (signs : List Bool) (types : List FxType) : Type 0 where
   pub arguments : HasArguments plan types
   pub signed : length signs ≡ length types

@@ -76,8 +76,9 @@ returns-in-Pass c =
     (if-plain {E = ⊤} _ _ _ _ (λ made numbers. OfArguments c.args.call.now.types.now numbers (λ values. Gives Pass (operation_of c.args.call.now) c.args.call.now.types.now values (numbers made.place))) (Ok (argument_of c.args.call.now.types.now 0))
     (made-self (λ numbers. OfArguments c.args.call.now.types.now numbers (λ values. numbers 0 ≡ value_of values 0)) (c.requires.arguments.each 0 (omega (arith, one))) (λ numbers has values are. are.each 0 (omega (arith, one)))) (λ made numbers has p. p)))
 
-pub gate-requires-clause-some : goal.gate-requires-clause-some
-gate-requires-clause-some c = gate-inputs c.in-Logic.operator (length c.args.call.now.types.now) (subst (λ (op : Op). HasArity op (length c.args.call.now.types.now)) c.in-Logic.is c.requires.can.arity)
-
-pub gate-requires-clause-few : goal.gate-requires-clause-few
-gate-requires-clause-few c = few-inputs c.args.call.now.op (length c.args.call.now.types.now) c.requires.can.arity
+pub gate-requires : goal.gate-requires
+gate-requires c = record {
+  arguments = c.requires.arguments;
+  some = gate-inputs c.in-Logic.operator (length c.args.call.now.types.now) (subst (λ (op : Op). HasArity op (length c.args.call.now.types.now)) c.in-Logic.is c.requires.can.arity);
+  few = few-inputs c.args.call.now.op (length c.args.call.now.types.now) c.requires.can.arity;
+}
