@@ -67,8 +67,7 @@ impl Tally {
             else tally_at self.old other later)) }
     {
         let greater = self.get(owner, level).max(number);
-        self.put(owner, level, greater)?;
-        Ok(())
+        self.put(owner, level, greater)
     }
 }
 
