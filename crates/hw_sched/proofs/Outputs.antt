@@ -1,5 +1,5 @@
 -- When outputs are ready, block by block, and how wide blocks that multiply are.
-use Rattle.std.proofs.Common.{◌≡◌, ℕ, zero, suc, ◌+◌, ◌<◌, true, false, Some, List, [], ◌∷◌, ◌++◌, length, refl, sym, ap, subst, ◌∙◌, inl, inr, length-append, arith}
+use Rattle.std.proofs.Common.{◌≡◌, ℕ, ◌+◌, ◌<◌, true, false, Some, List, [], ◌∷◌, ◌++◌, length, sym, ap, subst, ◌∙◌, inl, inr, length-append, arith}
 use Rattle.std.specs.Prelude.{slice_get}
 use Rattle.std.proofs.lemmas.Bool.{cases_lt, cond-true, cond-false}
 use Rattle.dg_model.specs.declared.diagram.Diagram.{Diagram}
@@ -13,6 +13,7 @@ use Rattle.hw_sched.specs.Level.{depth_at}
 use Rattle.hw_sched.specs.Slots.{Timing, base_slot}
 use Rattle.hw_sched.specs.Ready.{AreReady, ready_of}
 use Rattle.hw_sched.specs.inner.Served.{AreBases}
+use Rattle.fx_io.proofs.Places.{get_front, last_at}
 
 module _ (diagram : Diagram) (plan : Resolved) (timing : Timing) where
   abbrev ready : ℕ → ℕ
@@ -34,24 +35,15 @@ module _ (diagram : Diagram) (plan : Resolved) (timing : Timing) where
   pub ready_none : (list : List ℕ) → list ≡ [] → AreReadyTo 0 list
   ready_none list none = record { size = ap (λ (xs : List ℕ). length xs) none; are = λ place below. absurd (omega (arith, below)) }
 
-  pushed_same : (xs : List ℕ) (x k : ℕ) → k < length xs → slice_get (xs ++ x ∷ []) k ≡ slice_get xs k
-  pushed_same [] x k below = absurd (omega (arith, below))
-  pushed_same (y ∷ xs) x zero below = refl
-  pushed_same (y ∷ xs) x (suc k) below = pushed_same xs x k (omega (arith, below))
-
-  pushed_last : (xs : List ℕ) (x : ℕ) → slice_get (xs ++ x ∷ []) (length xs) ≡ Some x
-  pushed_last [] x = refl
-  pushed_last (y ∷ xs) x = pushed_last xs x
-
   pub ready_more : (place number : ℕ) (list : List ℕ) → number ≡ ready place → AreReadyTo place list → AreReadyTo (place + 1) (list ++ number ∷ [])
   ready_more place number list is before = record {
     size = let push = length-append list (number ∷ []) in let was = before.size in omega (arith, push, was);
     are = λ other below. elim (cases_lt other place) [
-      | inl less ↦ pushed_same list number other (let was = before.size in omega (arith, less, was)) ∙ before.are other less
+      | inl less ↦ get_front list (number ∷ []) other (let was = before.size in omega (arith, less, was)) ∙ before.are other less
       | inr past ↦
           let e : place ≡ other = omega (arith, past, below) in
           subst (λ (n : ℕ). slice_get (list ++ number ∷ []) n ≡ Some (ready n)) e
-          (ap (slice_get (list ++ number ∷ [])) (sym before.size) ∙ pushed_last list number ∙ ap (λ (n : ℕ). Some n) is)
+          (ap (slice_get (list ++ number ∷ [])) (sym before.size) ∙ last_at list number ∙ ap (λ (n : ℕ). Some n) is)
     ];
   }
 

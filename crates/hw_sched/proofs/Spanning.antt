@@ -1,5 +1,5 @@
 -- The slots of periods, line by line and period by period.
-use Rattle.std.proofs.Common.{◌≡◌, ℕ, zero, suc, ◌+◌, ◌-◌, ◌*◌, ◌<◌, ◌≤◌, max, Bool, true, false, cond, Option, Some, None, List, [], ◌∷◌, ◌++◌, length, refl, sym, ap, subst, ◌∙◌, inl, inr, length-append, arith, mul-le-mul_right}
+use Rattle.std.proofs.Common.{◌≡◌, ℕ, ◌+◌, ◌-◌, ◌*◌, ◌<◌, ◌≤◌, max, Bool, true, false, cond, Option, Some, None, List, [], ◌∷◌, ◌++◌, length, refl, sym, ap, subst, ◌∙◌, inl, inr, length-append, arith, mul-le-mul_right}
 use Rattle.std.specs.Prelude.{slice_get, slice_index, nat_lt, ◌&&◌, ◌==◌}
 use Rattle.std.proofs.lemmas.Bool.{cases_lt, cases_eq, cond-true, cond-false, and_left, and_right, eqb-true, eq-eqb, ne_eqb, ltb-true}
 use Rattle.std.proofs.lemmas.List.{take_all, get_or_past}
@@ -20,6 +20,7 @@ use Rattle.hw_sched.specs.Slots.{shorter_into, start_of}
 use Rattle.hw_sched.specs.inner.Spans.{AreCounted, AreLongestTo, AreLongest, AreSpansTo, AreSpans, longest_of, span_of}
 use Rattle.hw_sched.proofs.Lists.{greatest_within}
 use Rattle.hw_sched.proofs.Periods.{periods_are_short}
+use Rattle.fx_io.proofs.Places.{get_front, last_at}
 
 -- ---- periods
 
@@ -180,27 +181,18 @@ module _ (diagram : Diagram) (plan : Resolved) where
       let one = mul-le-mul_right {m = period} {n = 4096} plan.cycles short in
       omega (arith, one, few)
 
-  pushed_same : (xs : List Span) (x : Span) (k : ℕ) → k < length xs → slice_get (xs ++ x ∷ []) k ≡ slice_get xs k
-  pushed_same [] x k below = absurd (omega (arith, below))
-  pushed_same (y ∷ xs) x zero below = refl
-  pushed_same (y ∷ xs) x (suc k) below = pushed_same xs x k (omega (arith, below))
-
-  pushed_last : (xs : List Span) (x : Span) → slice_get (xs ++ x ∷ []) (length xs) ≡ Some x
-  pushed_last [] x = refl
-  pushed_last (y ∷ xs) x = pushed_last xs x
-
   pub spans_more : (period : ℕ) (longest : List ℕ) (spans : List Span) (start have : ℕ) → AreLongest diagram longest → period < length longest → start ≡ slice_index longest period * plan.cycles → have ≡ period * plan.cycles - 1
       → AreSpansTo diagram plan period spans → AreSpansTo diagram plan (period + 1) (spans ++ span start have ∷ [])
   spans_more period longest spans start have known below starts haves before = record {
     size = let push = length-append spans (span start have ∷ []) in let was = before.size in omega (arith, push, was);
     are = λ other low. elim (cases_lt other period) [
-      | inl less ↦ pushed_same spans (span start have) other (let was = before.size in omega (arith, less, was)) ∙ before.are other less
+      | inl less ↦ get_front spans (span start have ∷ []) other (let was = before.size in omega (arith, less, was)) ∙ before.are other less
       | inr past ↦
           let e : period ≡ other = omega (arith, past, low) in
           let is : span start have ≡ span_of diagram plan period =
           ap (λ (n : ℕ). span n have) (starts ∙ ap (λ (n : ℕ). n * plan.cycles) (known.are period below)) ∙ ap (span (start_of diagram (attributes_of diagram) plan period)) haves in
           subst (λ (n : ℕ). slice_get (spans ++ span start have ∷ []) n ≡ Some (span_of diagram plan n)) e
-          (ap (slice_get (spans ++ span start have ∷ [])) (sym before.size) ∙ pushed_last spans (span start have) ∙ ap (λ (s : Span). Some s) is)
+          (ap (slice_get (spans ++ span start have ∷ [])) (sym before.size) ∙ last_at spans (span start have) ∙ ap (λ (s : Span). Some s) is)
     ];
   }
 
