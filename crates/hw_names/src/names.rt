@@ -1,5 +1,5 @@
 //! The names of ports.
-ghost use Rattle.std.specs.Prelude.{◌≡◌, [], ◌++◌, ◌∷◌, ◌↔◌, ℕ, List, false, map, Contains, IsTrue, IfOk, OnOk, decimal, ◌+◌, ◌<◌, ◌^◌};
+ghost use Rattle.std.specs.Prelude.{◌≡◌, ◌++◌, ◌∷◌, ◌↔◌, ℕ, List, false, map, Contains, IsTrue, IfOk, OnOk, decimal, ◌+◌, ◌<◌, ◌^◌};
 ghost use Rattle.hw_names.specs.Names.{plain_byte as plain_byte_of, undoubled, element_name as element_name_of, port_name as port_name_of, numbered as numbered_of, own_names, handshake_names, IsGiven};
 ghost use Rattle.hw_names.specs.Taken.{AreTaken, AreTried};
 
@@ -95,21 +95,14 @@ pub struct Names {
 }
 
 impl Names {
-    /// No names.
-    fn empty(alloc: Global) -> Names
-        ensures { AreTaken result [] }
-    {
-        Names {
-            taken: BTreeSet::new(alloc),
-            numbers: BTreeMap::new(alloc),
-        }
-    }
-
     /// The names that every module has.
     pub fn new(alloc: Global) -> Result<Names, OutOfMemory>
         ensures { IfOk result (λ names. AreTaken names own_names) }
     {
-        let mut names = Names::empty(alloc);
+        let mut names = Names {
+            taken: BTreeSet::new(alloc),
+            numbers: BTreeMap::new(alloc),
+        };
         names.take_all(alloc, &[b"clk", b"reset", b"clk_enable", b"ce_out"])?;
         Ok(names)
     }
@@ -167,15 +160,6 @@ impl Names {
         }
     }
 
-    /// From now on numbers from this one on are tried for the name.
-    fn skip(&mut self, name: Vec<u8>, number: u32) -> Result<(), OutOfMemory>
-        ensures { OnOk result ((list : List (List ℕ)) → AreTaken self.old list →
-            AreTried list name.items number → AreTaken self.new list) }
-    {
-        let _ = self.numbers.insert(name, number)?;
-        Ok(())
-    }
-
     /// The least number that makes the name free.
     fn least_number(&self, alloc: Global, name: &Vec<u8>) -> Result<u32, OutOfMemory>
         ensures small { IfOk result (λ number. number + 1 < 2 ^ 32) }
@@ -216,7 +200,7 @@ impl Names {
         let number = self.least_number(alloc, &name)?;
         let other = numbered(alloc, name.as_slice(), number)?;
         let text = self.put(alloc, other)?;
-        self.skip(name, number + 1)?;
+        let _ = self.numbers.insert(name, number + 1)?;
         Ok(text)
     }
 

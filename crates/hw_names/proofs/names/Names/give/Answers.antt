@@ -1,7 +1,7 @@
-use Rattle.std.proofs.Common.{◌≡◌, ℕ, ◌∷◌, List, Contains, inr, ap, sym, subst, ◌∙◌, arith}
+use Rattle.std.proofs.Common.{◌≡◌, ℕ, ◌+◌, ◌∷◌, List, Contains, inr, ap, sym, subst, refl, ◌∙◌, arith}
 use Rattle.hw_names.specs.Names.{numbered}
 use Rattle.hw_names.specs.Taken.{AreTaken}
-use Rattle.hw_names.proofs.Taking.{tried_more, still_tried}
+use Rattle.hw_names.proofs.Taking.{more_tried, tried_more, still_tried}
 use Rattle.hw_names.proofs.names.Names.give.Goals as goal
 
 pub returns : goal.returns
@@ -14,5 +14,5 @@ returns c list are =
     let small = c.in_ok-number.ensures.small in
     let taken : AreTaken c.put-2.new.self (c.in_ok-text.text ∷ list) = subst (λ (n : List ℕ). AreTaken c.put-2.new.self (n ∷ list)) (sym c.in_ok-text.ensures.text) (c.in_ok-text.ensures.taken list are) in (
       record { free = free; is = inr ((c.is_taken.ensures list are).0 c.if-not-is_taken.false, record { number = number; above = tried.above; small = omega (arith, small); is = is; least = tried.taken }) },
-      c.in_ok-skip.ensures (c.in_ok-text.text ∷ list) taken (tried_more (c.in_ok-text.text ∷ list) name number (still_tried list c.in_ok-text.text name number tried) (0, omega arith, is)),
+      more_tried _ _ (c.in_ok-text.text ∷ list) c.args.name (number + 1) c.in_ok-insert.ensures.updates refl taken (tried_more (c.in_ok-text.text ∷ list) name number (still_tried list c.in_ok-text.text name number tried) (0, omega arith, is)),
     )
