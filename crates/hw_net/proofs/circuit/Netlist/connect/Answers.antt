@@ -1,4 +1,4 @@
-use Rattle.std.proofs.Common.{rules, ◌≡◌, ◌∙◌, ap, None, ◌∷◌, [], slice_get, slice_set, Some, List, ℕ, refl}
+use Rattle.std.proofs.Common.{◌≡◌, ◌∙◌, ap, None, ◌∷◌, [], slice_get, slice_set, Some, List, ℕ, refl}
 use Rattle.hw_net.specs.declared.netlist.Net.{Net}
 use Rattle.hw_net.specs.declared.netlist.NetKind.TheVariants.{Comb}
 use Rattle.hw_net.specs.declared.netlist.NetOp.TheVariants.{Resize}
@@ -16,7 +16,7 @@ invariant_of-self c =
 pub returns-clause-connected : goal.returns-clause-connected
 returns-clause-connected c =
     let there : slice_get c.self.inside.nets c.args.number ≡ Some c.requires.net = rw (← c.self.view_is) at c.requires.is in
-    let args : c.push.new.self ≡ c.args.argument ∷ [] = search rules in
+    let args : c.push.new.self ≡ c.args.argument ∷ [] = rw c.new-args.ensures at c.in_ok-push.ensures.appended in
     rw (← c.self.view_is) (record {
       net = c.requires.net;
       was = there;
