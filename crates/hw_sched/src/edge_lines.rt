@@ -1,11 +1,9 @@
 //! The registers of the lines of edges.
 ghost use Rattle.std.specs.Prelude.{◌≡◌, ◌<◌, ◌*◌, [], Some, IfOk, length, slice_get};
 ghost use Rattle.dg_model.specs.Attributes.{attributes_of};
-ghost use Rattle.hw_latency.specs.Latency.{AreLatencies};
-ghost use Rattle.dg_model.specs.PlanOf.{IsPlanOf};
 ghost use Rattle.hw_sched.specs.Answer.{timing_of};
 ghost use Rattle.hw_sched.specs.Storage.{lines_in_all as lines_in_all_of, shift_of, width_of_edge};
-ghost use Rattle.hw_sched.specs.inner.Counted.{IsThere, controls_line as controls_line_of, edge_of, line_at};
+ghost use Rattle.hw_sched.specs.inner.Counted.{HasLatencies, IsThere, controls_line as controls_line_of, edge_of, line_at};
 
 use crate::drivers::own_width;
 use crate::laws::periods_are_above;
@@ -57,8 +55,7 @@ fn line_shift(
     line: Line,
     period: u32,
 ) -> Result<u64, OutOfMemory>
-    requires plan { IsPlanOf checked.now.diagram plan.now }
-    requires latencies { AreLatencies checked.now.diagram plan.now latencies.now }
+    requires timed { HasLatencies checked.now.diagram plan.now latencies.now }
     requires there { IsThere checked.now.diagram line }
     requires period { (attributes_of checked.now.diagram).period_at line.from ≡ Some period }
     ensures { IfOk result (λ shift.
@@ -84,8 +81,7 @@ fn line_registers(
     latencies: &Latencies,
     line: Line,
 ) -> Result<u64, OutOfMemory>
-    requires plan { IsPlanOf checked.now.diagram plan.now }
-    requires latencies { AreLatencies checked.now.diagram plan.now latencies.now }
+    requires timed { HasLatencies checked.now.diagram plan.now latencies.now }
     requires there { IsThere checked.now.diagram line }
     ensures { IfOk result (λ count.
         count ≡ line_at checked.now.diagram (attributes_of checked.now.diagram) plan.now
@@ -109,8 +105,7 @@ fn controls_line(
     latencies: &Latencies,
     place: u32,
 ) -> Result<u64, OutOfMemory>
-    requires plan { IsPlanOf checked.now.diagram plan.now }
-    requires latencies { AreLatencies checked.now.diagram plan.now latencies.now }
+    requires timed { HasLatencies checked.now.diagram plan.now latencies.now }
     requires there { place < length checked.now.diagram.blocks }
     ensures { IfOk result (λ count.
         count ≡ controls_line_of checked.now.diagram (attributes_of checked.now.diagram) plan.now
@@ -134,8 +129,7 @@ pub fn lines_in_all(
     plan: &Resolved,
     latencies: &Latencies,
 ) -> Result<u64, OutOfMemory>
-    requires plan { IsPlanOf checked.now.diagram plan.now }
-    requires latencies { AreLatencies checked.now.diagram plan.now latencies.now }
+    requires { HasLatencies checked.now.diagram plan.now latencies.now }
     ensures { IfOk result (λ count.
         count ≡ lines_in_all_of checked.now.diagram (attributes_of checked.now.diagram) plan.now
         (timing_of latencies.now [])) }

@@ -14,11 +14,19 @@ use Rattle.dg_model.specs.Widths.{widths_of}
 use Rattle.dg_model.specs.Wired.{root_output}
 use Rattle.dg_model.specs.Wires.{width_into}
 use Rattle.hw_arcs.specs.Latencies.{latency_at}
+use Rattle.dg_model.specs.PlanOf.{IsPlanOf}
+use Rattle.hw_latency.specs.declared.latencies.Latencies.{Latencies}
+use Rattle.hw_latency.specs.Latency.{AreLatencies}
 use Rattle.hw_latency.specs.Shared.{is_shared}
 use Rattle.hw_sched.specs.declared.edge_lines.Line.{Line}
 use Rattle.hw_sched.specs.declared.sizing.Sizing.{Sizing}
 use Rattle.hw_sched.specs.Slots.{Timing}
 use Rattle.hw_sched.specs.Storage.{kept_by_role, line_of}
+
+-- what counts lines begins with: a plan of the diagram, and its latencies by it
+pub record HasLatencies (diagram : Diagram) (plan : Resolved) (latencies : Latencies) : Type 0 where
+  pub planned : IsPlanOf diagram plan
+  pub known : AreLatencies diagram plan latencies
 
 -- ---- lines
 

@@ -9,3 +9,6 @@ returns c = λ depths are. record {
       c.in_ok-lines.ensures c.in_ok-registers.ensures c.in_ok-results.ensures c.in_ok-blocks.ensures c.in_ok-storage.ensures;
   latency_is = c.in_ok-latency.ensures ∙ latest_is c.args.checked.now.diagram c.args.plan.now c.args.latencies.now c.args.ready.now depths c.keeps_rules.ensures.checked.wired c.root_elements_are_listed.ensures.outputs are;
 }
+
+pub lines_in_all-requires : goal.lines_in_all-requires
+lines_in_all-requires c = record { planned = c.requires.plan; known = c.requires.latencies }
