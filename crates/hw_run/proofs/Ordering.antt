@@ -15,7 +15,7 @@ use Rattle.hw_net.specs.Netlist.{reads, reads_now, IsRanked}
 use Rattle.hw_run.specs.State.{IsOrder}
 use Rattle.fx_io.proofs.Places.{held}
 use Rattle.hw_net.proofs.Places.{slice_get_inside}
-use Rattle.hw_run.specs.inner.Ordering.{place_of, IsPlaced, IsGrowing, IsClosed, Keeps, Serves, Grows, IsReader, IsLinked, IsLonger}
+use Rattle.hw_run.specs.inner.Ordering.{place_of, IsPlaced, IsGrowing, IsClosed, Keeps, Serves, Grows, IsReader, IsLinked, IsLonger, Visits}
 
 abbrev rank_or : Option ℕ → ℕ
 rank_or None = 0
@@ -142,6 +142,12 @@ keeps-self ranks = record { each = λ k rank is. is }
 
 pub keeps-trans : (a b c : List (Option ℕ)) → Keeps a b → Keeps b c → Keeps a c
 keeps-trans a b c p q = record { each = λ k rank is. q.each k rank (p.each k rank is) }
+
+pub visits-none : (nets : List Net) (order : List ℕ) (ranks : List (Option ℕ)) → IsGrowing nets order ranks → Visits nets order order ranks ranks
+visits-none nets order ranks growing = record { growing = growing; longer = record { size = omega arith; each = λ i inside. refl }; kept = record { each = λ k rank is. is } }
+
+pub visits-trans : (nets : List Net) (a b c : List ℕ) (x y z : List (Option ℕ)) → Visits nets a b x y → Visits nets b c y z → Visits nets a c x z
+visits-trans nets a b c x y z p q = record { growing = q.growing; longer = longer-trans a b c p.longer q.longer; kept = keeps-trans x y z p.kept q.kept }
 
 still-placed : (a b : List (Option ℕ)) (k : ℕ) → Keeps a b → IsPlaced a k → IsPlaced b k
 still-placed a b k keeps is = record { rank = is.rank; is = keeps.each k is.rank is.is }

@@ -4,8 +4,8 @@ ghost use Rattle.std.specs.Prelude.{OnOk, IfOk, All, true, false, Option, Some};
 ghost use Rattle.std.specs.Prelude.{None, IsSome, ℕ, ◌↔◌, IsTrue};
 ghost use Rattle.hw_net.specs.Netlist.{IsNetlist, IsRanked, reads, reads_now};
 ghost use Rattle.hw_run.specs.State.{IsOrder};
-ghost use Rattle.hw_run.specs.inner.Ordering.{IsPlaced, IsGrowing, Keeps, Serves, Grows, IsReader};
-ghost use Rattle.hw_run.specs.inner.Ordering.{IsLinked, IsLonger, IsClosed, place_of};
+ghost use Rattle.hw_run.specs.inner.Ordering.{AreReadNow, IsPlaced, IsGrowing, Visits, Serves, Grows};
+ghost use Rattle.hw_run.specs.inner.Ordering.{IsReader, IsLinked, IsClosed, place_of};
 
 use fx_io::{OutOfMemory, Sizes};
 use hw_net::{Net, NetKind, Netlist};
@@ -94,12 +94,10 @@ fn visit(
     ranks: &mut [Option<u32>],
     k: u32,
 ) -> Result<(), OutOfMemory>
-    requires there { All (λ net. All (λ read. read < length nets.now) (reads_now net.kind))
-        nets.now }
+    requires there { AreReadNow nets.now }
     requires growing { IsGrowing nets.now order.old.items ranks.old }
-    ensures growing { OnOk result (IsGrowing nets.now order.new.items ranks.new) }
-    ensures longer { OnOk result (IsLonger order.old.items order.new.items) }
-    ensures kept { OnOk result (Keeps ranks.old ranks.new) }
+    ensures visited { OnOk result
+        (Visits nets.now order.old.items order.new.items ranks.old ranks.new) }
     ensures placed { OnOk result (Serves nets.now ranks.old ranks.new k) }
 {
     if k as usize >= nets.len() {
@@ -122,8 +120,7 @@ fn visit(
 
 /// Puts each net behind the readers of those that it reads in the same clock.
 fn link_nets(readers: &mut [Sizes], nets: &[Net]) -> Result<(), OutOfMemory>
-    requires there { All (λ net. All (λ read. read < length nets.now) (reads_now net.kind))
-        nets.now }
+    requires there { AreReadNow nets.now }
     requires size { length readers.old ≡ length nets.now }
     ensures { OnOk result (IsLinked nets.now readers.new (length nets.now)) }
 {
@@ -155,12 +152,10 @@ fn visit_all(
     ranks: &mut [Option<u32>],
     list: &[u32],
 ) -> Result<(), OutOfMemory>
-    requires there { All (λ net. All (λ read. read < length nets.now) (reads_now net.kind))
-        nets.now }
+    requires there { AreReadNow nets.now }
     requires growing { IsGrowing nets.now order.old.items ranks.old }
-    ensures growing { OnOk result (IsGrowing nets.now order.new.items ranks.new) }
-    ensures longer { OnOk result (IsLonger order.old.items order.new.items) }
-    ensures kept { OnOk result (Keeps ranks.old ranks.new) }
+    ensures visited { OnOk result
+        (Visits nets.now order.old.items order.new.items ranks.old ranks.new) }
     ensures placed { OnOk result (All (Serves nets.now ranks.old ranks.new) list.now) }
 {
     for k in list {
@@ -171,8 +166,7 @@ fn visit_all(
 
 /// Gives its place to each net that reads none in the same clock, and to those that can follow.
 fn begin(nets: &[Net], order: &mut Vec<u32>, ranks: &mut [Option<u32>]) -> Result<(), OutOfMemory>
-    requires there { All (λ net. All (λ read. read < length nets.now) (reads_now net.kind))
-        nets.now }
+    requires there { AreReadNow nets.now }
     requires growing { IsGrowing nets.now order.old.items ranks.old }
     ensures growing { OnOk result (IsGrowing nets.now order.new.items ranks.new) }
     ensures closed { OnOk result (IsClosed nets.now ranks.new 0 (length nets.now)) }
@@ -194,8 +188,7 @@ fn spread(
     order: &mut Vec<u32>,
     ranks: &mut [Option<u32>],
 ) -> Result<(), OutOfMemory>
-    requires there { All (λ net. All (λ read. read < length nets.now) (reads_now net.kind))
-        nets.now }
+    requires there { AreReadNow nets.now }
     requires size { length readers.now ≡ length nets.now }
     requires linked { IsLinked nets.now readers.now (length nets.now) }
     requires growing { IsGrowing nets.now order.old.items ranks.old }
@@ -221,8 +214,7 @@ fn ordered(
     readers: &mut [Sizes],
     ranks: &mut [Option<u32>],
 ) -> Result<Vec<u32>, OutOfMemory>
-    requires there { All (λ one. All (λ read. read < length nets.now) (reads_now one.kind))
-        nets.now }
+    requires there { AreReadNow nets.now }
     requires readers { length readers.old ≡ length nets.now }
     requires ranks { length ranks.old ≡ length nets.now }
     requires fresh { (k : ℕ) → place_of ranks.old k ≡ None }
@@ -262,8 +254,7 @@ fn are_ordered(
     readers: &mut [Sizes],
     ranks: &mut [Option<u32>],
 ) -> Result<bool, OutOfMemory>
-    requires there { All (λ one. All (λ read. read < length nets.now) (reads_now one.kind))
-        nets.now }
+    requires there { AreReadNow nets.now }
     requires readers { length readers.old ≡ length nets.now }
     requires ranks { length ranks.old ≡ length nets.now }
     requires fresh { (k : ℕ) → place_of ranks.old k ≡ None }

@@ -19,9 +19,9 @@ loop-done-preserved c =
     let list-is : c.as_slice-list.result.now ≡ slice_index_or c.args.readers.now place [] = c.as_slice-list.ensures ∙ one ∙ ap (λ (k : ℕ). slice_index_or c.args.readers.now k []) at in
     let served = λ (k : ℕ) (is : IsReader c.args.readers.now place k). All-contains (Serves c.args.nets.now c.loop-done.ranks c.visit_all.new.ranks) c.as_slice-list.result.now k ens.placed (subst (λ (xs : List ℕ). Contains xs k) (sym list-is) is.among) in
     record {
-      growing = ens.growing;
-      closed = closed-next c.args.nets.now order c.visit_all.new.order.items c.loop-done.ranks c.visit_all.new.ranks inv.growing ens.growing ens.longer ens.kept c.args.readers.now done early c.requires.linked inv.closed served;
-      within = omega (arith, ens.longer.size, early);
+      growing = ens.visited.growing;
+      closed = closed-next c.args.nets.now order c.visit_all.new.order.items c.loop-done.ranks c.visit_all.new.ranks inv.growing ens.visited.growing ens.visited.longer ens.visited.kept c.args.readers.now done early c.requires.linked inv.closed served;
+      within = omega (arith, ens.visited.longer.size, early);
     }
 
 pub loop-done-smaller : goal.loop-done-smaller
