@@ -1,4 +1,4 @@
-use Rattle.std.proofs.Common.{◌≡◌, ◌∙◌, ℕ, List, ◌+◌, ◌++◌, take, drop, reverse, ap, arith}
+use Rattle.std.proofs.Common.{◌∙◌, ℕ, List, ◌+◌, ◌++◌, take, drop, reverse, ap, arith}
 use Rattle.hw_arcs.proofs.Rings.{back_around}
 use Rattle.hw_arcs.proofs.ring.turn_back.Goals as goal
 
