@@ -10,7 +10,7 @@ use Rattle.hw_slots.specs.declared.tally.Rung.{Rung}
 use Rattle.hw_slots.specs.Slots.{shared_out, needed, level_after, turn_of, beside}
 use Rattle.hw_slots.specs.inner.Tally.{tally_at}
 use Rattle.hw_slots.specs.inner.Made.{AreCounts, AreTurns, AreWidths, AreLevels, AreMost}
-use Rattle.fx_io.proofs.Places.{count_cons}
+use Rattle.fx_io.proofs.Places.{count_cons, get_front, last_at}
 use Rattle.hw_slots.proofs.Sums.{greatest_next}
 
 -- ---- lists
@@ -70,31 +70,17 @@ counts_end operations i tally end counts = subst (λ (os : List Operation). AreC
 pub turns_none : (operations : List Operation) (turns : List ℕ) → turns ≡ [] → AreTurns operations 0 turns
 turns_none operations turns none = subst (AreTurns operations 0) (sym none) (record { size = refl; are = λ number o below at. absurd (omega (arith, below)) })
 
-pushed_before : (xs : List ℕ) (x k y : ℕ) → slice_get xs k ≡ Some y → slice_get (xs ++ x ∷ []) k ≡ Some y
-pushed_before [] x k y at = absurd (none-some y at)
-pushed_before (z ∷ xs) x zero y at = at
-pushed_before (z ∷ xs) x (suc k) y at = pushed_before xs x k y at
-
-pushed_last : (xs : List ℕ) (x : ℕ) → slice_get (xs ++ x ∷ []) (length xs) ≡ Some x
-pushed_last [] x = refl
-pushed_last (z ∷ xs) x = pushed_last xs x
-
-pushed_same : (xs : List ℕ) (x k : ℕ) → k < length xs → slice_get (xs ++ x ∷ []) k ≡ slice_get xs k
-pushed_same [] x k below = absurd (omega (arith, below))
-pushed_same (z ∷ xs) x zero below = refl
-pushed_same (z ∷ xs) x (suc k) below = pushed_same xs x k (omega (arith, below))
-
 -- a list that says something of each of the first operations, and of one more
 pub grown : (Says : ℕ → Operation → Option ℕ → Type 0) (operations : List Operation) (i : ℕ) (o : Operation) (x : ℕ) (xs : List ℕ) → slice_get operations i ≡ Some o → length xs ≡ i
     → ((number : ℕ) (q : Operation) → number < i → slice_get operations number ≡ Some q → Says number q (slice_get xs number)) → Says i o (Some x)
     → (number : ℕ) (q : Operation) → number < i + 1 → slice_get operations number ≡ Some q → Says number q (slice_get (xs ++ x ∷ []) number)
 grown Says operations i o x xs at size before last number q below is =
     elim (cases_lt number i) [
-      | inl less ↦ subst (Says number q) (sym (pushed_same xs x number (omega (arith, less, size)))) (before number q less is)
+      | inl less ↦ subst (Says number q) (sym (get_front xs (x ∷ []) number (omega (arith, less, size)))) (before number q less is)
       | inr past ↦
           let e : i ≡ number = omega (arith, past, below) in
           let one : o ≡ q = same_Some o q (sym at ∙ ap (slice_get operations) e ∙ is) in
-          let end : slice_get (xs ++ x ∷ []) i ≡ Some x = ap (slice_get (xs ++ x ∷ [])) (sym size) ∙ pushed_last xs x in
+          let end : slice_get (xs ++ x ∷ []) i ≡ Some x = ap (slice_get (xs ++ x ∷ [])) (sym size) ∙ last_at xs x in
           let there : Says i o (slice_get (xs ++ x ∷ []) i) = subst (Says i o) (sym end) last in
           let moved : Says i q (slice_get (xs ++ x ∷ []) i) = subst (λ (p : Operation). Says i p (slice_get (xs ++ x ∷ []) i)) one there in
           subst (λ (n : ℕ). Says n q (slice_get (xs ++ x ∷ []) n)) e moved
