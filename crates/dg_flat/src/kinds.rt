@@ -1,17 +1,17 @@
-ghost use Rattle.std.specs.Prelude.{◌≡◌, ◌↔◌, IsTrue, IfOk};
+ghost use Rattle.std.specs.Prelude.{◌≡◌, ◌↔◌, ◌∷◌, [], Bool, IsTrue, IfOk};
 ghost use Rattle.dg_flat.specs.Flat.{resetting};
 ghost use Rattle.dg_flat.specs.Rules.{MayStand};
 ghost use Rattle.dg_model.specs.Library.{row_of};
 
-use dg_model::{Kind, Standing};
+use dg_model::{Decimals, Kind, Standing};
 use fx_io::{OutOfMemory, Sequence};
 use std::alloc::Global;
 
 /// A list of its own with the same items.
-fn copied<E: Copy>(alloc: Global, list: &Sequence<E>) -> Result<Sequence<E>, OutOfMemory>
+fn copied<E: Copy>(alloc: Global, list: &[E]) -> Result<Sequence<E>, OutOfMemory>
     ensures { IfOk result (λ copy. copy ≡ list.now) }
 {
-    Ok(Sequence::from_vec(Vec::from_slice(alloc, list.as_slice())?))
+    Ok(Sequence::from_vec(Vec::from_slice(alloc, list)?))
 }
 
 /// Whether a block of this kind may stand under this control.
@@ -25,9 +25,42 @@ pub fn may_stand(kind: &Kind, control: Option<u32>) -> bool
     }
 }
 
-/// The kind, where a Delay begins anew as told.
-pub fn copy_kind(alloc: Global, kind: &Kind, resets: bool) -> Result<Kind, OutOfMemory>
-    ensures { IfOk result (λ copy. copy ≡ resetting resets kind.now) }
+/// The kind with a list of its own, where a Delay begins anew as told.
+fn with_list(kind: &Kind, list: Decimals, resets: bool) -> Kind
+    requires { (row_of kind.now).signal.lists ≡ list ∷ [] }
+    ensures { result ≡ resetting resets kind.now }
+{
+    match kind {
+        Kind::Constant { .. } => Kind::Constant { value: list },
+        Kind::Gain { param, .. } => Kind::Gain {
+            value: list,
+            param: *param,
+        },
+        Kind::Switch { criterion, .. } => Kind::Switch {
+            criterion: *criterion,
+            threshold: list,
+        },
+        Kind::Delay { length, .. } => Kind::Delay {
+            length: *length,
+            initial: list,
+            reset: resets,
+        },
+        Kind::RateTransition { period, .. } => Kind::RateTransition {
+            period: *period,
+            initial: list,
+        },
+        Kind::EnOut { reset, .. } => Kind::EnOut {
+            reset: *reset,
+            initial: list,
+        },
+        _ => unreachable!(),
+    }
+}
+
+/// A copy of a kind that has no list of decimals.
+fn copy_unlisted(alloc: Global, kind: &Kind) -> Result<Kind, OutOfMemory>
+    requires { (row_of kind.now).signal.lists ≡ [] }
+    ensures { (resets : Bool) → IfOk result (λ copy. copy ≡ resetting resets kind.now) }
 {
     match kind {
         Kind::Inport { number, width } => Ok(Kind::Inport {
@@ -35,25 +68,11 @@ pub fn copy_kind(alloc: Global, kind: &Kind, resets: bool) -> Result<Kind, OutOf
             width: *width,
         }),
         Kind::Outport { number } => Ok(Kind::Outport { number: *number }),
-        Kind::Constant { value } => Ok(Kind::Constant {
-            value: copied(alloc, value)?,
-        }),
         Kind::Ground => Ok(Kind::Ground),
         Kind::Sum { negative } => Ok(Kind::Sum {
-            negative: copied(alloc, negative)?,
-        }),
-        Kind::Gain { value, param } => Ok(Kind::Gain {
-            value: copied(alloc, value)?,
-            param: *param,
+            negative: copied(alloc, negative.as_slice())?,
         }),
         Kind::Product => Ok(Kind::Product),
-        Kind::Switch {
-            criterion,
-            threshold,
-        } => Ok(Kind::Switch {
-            criterion: *criterion,
-            threshold: copied(alloc, threshold)?,
-        }),
         Kind::Relational { operator } => Ok(Kind::Relational {
             operator: *operator,
         }),
@@ -61,31 +80,25 @@ pub fn copy_kind(alloc: Global, kind: &Kind, resets: bool) -> Result<Kind, OutOf
             operator: *operator,
         }),
         Kind::Convert { stored } => Ok(Kind::Convert { stored: *stored }),
-        Kind::Delay {
-            length,
-            initial,
-            reset: _,
-        } => Ok(Kind::Delay {
-            length: *length,
-            initial: copied(alloc, initial)?,
-            reset: resets,
-        }),
         Kind::Mux { sizes } => Ok(Kind::Mux {
-            sizes: copied(alloc, sizes)?,
+            sizes: copied(alloc, sizes.as_slice())?,
         }),
         Kind::Demux { sizes } => Ok(Kind::Demux {
-            sizes: copied(alloc, sizes)?,
-        }),
-        Kind::RateTransition { period, initial } => Ok(Kind::RateTransition {
-            period: *period,
-            initial: copied(alloc, initial)?,
+            sizes: copied(alloc, sizes.as_slice())?,
         }),
         Kind::Pass { width } => Ok(Kind::Pass { width: *width }),
         Kind::EnableTest => Ok(Kind::EnableTest),
-        Kind::EnOut { reset, initial } => Ok(Kind::EnOut {
-            reset: *reset,
-            initial: copied(alloc, initial)?,
-        }),
         Kind::Terminator => Ok(Kind::Terminator),
+        _ => unreachable!(),
+    }
+}
+
+/// The kind, where a Delay begins anew as told.
+pub fn copy_kind(alloc: Global, kind: &Kind, resets: bool) -> Result<Kind, OutOfMemory>
+    ensures { IfOk result (λ copy. copy ≡ resetting resets kind.now) }
+{
+    match kind.list() {
+        Some(list) => Ok(with_list(kind, copied(alloc, list)?, resets)),
+        None => copy_unlisted(alloc, kind),
     }
 }
