@@ -1,14 +1,14 @@
 //! The elements of the root inputs and outputs, in the order in which rows have their numbers.
-ghost use Rattle.std.specs.Prelude.{◌≡◌, ◌++◌, ◌≤◌, map, filter_map, count_by, is_some, length, position, IfOk, OnOk, Some};
+ghost use Rattle.std.specs.Prelude.{◌≡◌, ◌++◌, ◌≤◌, ℕ, map, filter_map, count_by, is_some, length, position, slice_get, IfOk, OnOk, Some};
 ghost use Rattle.dg_waves.specs.Rounds.{numbers_from};
 ghost use Rattle.dg_model.specs.Attributes.{attributes_of};
 ghost use Rattle.dg_model.specs.Library.{row_of};
-ghost use Rattle.dg_model.specs.Wired.{AreNumbered, root_input, root_output};
-ghost use Rattle.dg_model.specs.RootElements.{number_in, has_number, elements_of_port, root_inputs, root_outputs};
-ghost use Rattle.dg_tables.specs.inner.Ports.{ArePortsTo, IsNumberOf, IsPortNumber, port_put, root_on};
+ghost use Rattle.dg_model.specs.declared.diagram.Block.{Block};
+ghost use Rattle.dg_model.specs.Wired.{AreNumbered, root_output};
+ghost use Rattle.dg_model.specs.RootElements.{number_in, has_number, elements_of_port, root_elements, root_inputs, root_outputs};
+ghost use Rattle.dg_tables.specs.inner.Ports.{ArePortsTo, FindsWidths, IsNumberOf, IsPortNumber, port_put, root_on, width_on};
 ghost use Rattle.dg_tables.specs.Roots.{root_at, roots_of};
 ghost use Rattle.dg_tables.specs.Finding.{AreLines};
-ghost use Rattle.dg_model.specs.Wires.{width_into};
 
 use crate::reading::{Starts, width_of_input, width_of_output};
 use dg_model::{Block, Checked, Kind};
@@ -25,11 +25,11 @@ pub struct Root {
 
 pub type Roots = Sequence<Root>;
 
-/// Whether a port of the root is an input or an output.
+/// Whether a port of the root is an input or an output, which is as wide as the line into it.
 #[derive(Clone, Copy)]
-enum Side {
+enum Side<'a> {
     Inputs,
-    Outputs,
+    Outputs(&'a Starts),
 }
 
 /// The number of a root output port.
@@ -40,18 +40,19 @@ pub fn output_number(kind: &Kind) -> Option<u32>
 }
 
 /// The number of a root port of a side.
-fn number_on(side: Side, kind: &Kind) -> Option<u32>
-    ensures { result ≡ root_on side (row_of kind.now).place.role }
+fn number_on<'a>(side: Side<'a>, kind: &Kind) -> Option<u32>
+    ensures { result ≡ root_on side.entry (row_of kind.now).place.role }
 {
     match side {
         Side::Inputs => kind.row().role.input_number(),
-        Side::Outputs => output_number(kind),
+        Side::Outputs(_) => output_number(kind),
     }
 }
 
 /// How many root ports of a side there are.
-fn count_on(side: Side, blocks: &[Block]) -> usize
-    ensures { result ≡ count_by (λ block. is_some (number_in (root_on side) block)) blocks.now }
+fn count_on<'a>(side: Side<'a>, blocks: &[Block]) -> usize
+    ensures { result ≡ count_by (λ block. is_some (number_in (root_on side.entry) block))
+        blocks.now }
 {
     let mut count: usize = 0;
     for block in blocks {
@@ -73,11 +74,11 @@ fn put_number(ports: &mut Vec<u32>, number: Option<u32>, block: u32)
 }
 
 /// The blocks of the root ports of a side by their numbers, from 1.
-fn ports_on(alloc: Global, side: Side, blocks: &[Block]) -> Result<Vec<u32>, OutOfMemory>
+fn ports_on<'a>(alloc: Global, side: Side<'a>, blocks: &[Block]) -> Result<Vec<u32>, OutOfMemory>
     requires ports { AreNumbered (filter_map (number_in (root_on side)) blocks.now) }
     requires few { length blocks.now ≤ 20000 }
     ensures { IfOk result (λ ports.
-        ArePortsTo (root_on side) blocks.now (length blocks.now) ports.items) }
+        ArePortsTo (root_on side.entry) blocks.now (length blocks.now) ports.items) }
 {
     let mut ports: Vec<u32> = vec![in alloc; 0; count_on(side, blocks)]?;
     for (i, block) in blocks.iter().enumerate() {
@@ -101,50 +102,60 @@ fn put_port(roots: &mut Roots, number: u32, block: u32, width: u32) -> Result<()
     Ok(())
 }
 
-/// Puts the elements of the root input port of a number behind the others.
-fn put_input_port(
+/// The width of a block that is a root port of a side.
+fn width_on<'a>(checked: &Checked, side: Side<'a>, block: u32) -> u32
+    requires widths { FindsWidths checked.now.diagram side }
+    requires port { (b : Block) × (number : ℕ) × (slice_get checked.now.diagram.blocks block
+        ≡ Some b) × (number_in (root_on side) b ≡ Some number) }
+    ensures { result ≡ width_on checked.now.diagram (attributes_of checked.now.diagram) side.entry
+        block }
+{
+    checked.keeps_rules();
+    match side {
+        Side::Inputs => width_of_output(checked, block, 1),
+        Side::Outputs(starts) => width_of_input(checked, starts, block, 1),
+    }
+}
+
+/// Puts the elements of the root port of a number behind the others.
+fn put_port_on<'a>(
     roots: &mut Roots,
     checked: &Checked,
+    side: Side<'a>,
     ports: &[u32],
     number: u32,
 ) -> Result<(), OutOfMemory>
-    requires ports { ArePortsTo root_input checked.now.diagram.blocks
+    requires widths { FindsWidths checked.now.diagram side }
+    requires ports { ArePortsTo (root_on side) checked.now.diagram.blocks
         (length checked.now.diagram.blocks) ports.now }
-    requires number { IsPortNumber root_input checked.now.diagram.blocks number }
+    requires number { IsPortNumber (root_on side) checked.now.diagram.blocks number }
     ensures { OnOk result (roots.new ≡ roots.old ++ roots_of (elements_of_port
         (attributes_of checked.now.diagram)
-        (λ block. (attributes_of checked.now.diagram).width_at block 1)
-        number (position (has_number root_input number) checked.now.diagram.blocks))) }
+        (width_on checked.now.diagram (attributes_of checked.now.diagram) side.entry) number
+        (position (has_number (root_on side.entry) number) checked.now.diagram.blocks))) }
 {
     checked.keeps_rules();
     let block = ports[(number - 1) as usize];
-    let width = width_of_output(checked, block, 1);
+    let width = width_on(checked, side, block);
     put_port(roots, number, block, width)?;
     Ok(())
 }
 
-/// Puts the elements of the root output port of a number behind the others.
-fn put_output_port(
-    roots: &mut Roots,
-    checked: &Checked,
-    starts: &Starts,
-    ports: &[u32],
-    number: u32,
-) -> Result<(), OutOfMemory>
-    requires lines { AreLines checked.now.diagram starts.now.lines.items }
-    requires ports { ArePortsTo root_output checked.now.diagram.blocks
-        (length checked.now.diagram.blocks) ports.now }
-    requires number { IsPortNumber root_output checked.now.diagram.blocks number }
-    ensures { OnOk result (roots.new ≡ roots.old ++ roots_of (elements_of_port
-        (attributes_of checked.now.diagram)
-        (λ block. width_into checked.now.diagram (attributes_of checked.now.diagram) block 1)
-        number (position (has_number root_output number) checked.now.diagram.blocks))) }
+/// The elements of the root ports of a side.
+fn roots_on<'a>(alloc: Global, checked: &Checked, side: Side<'a>) -> Result<Roots, OutOfMemory>
+    requires { FindsWidths checked.now.diagram side }
+    ensures { IfOk result (λ roots. roots ≡ roots_of (root_elements (root_on side.entry)
+        (width_on checked.now.diagram (attributes_of checked.now.diagram) side.entry)
+        checked.now.diagram (attributes_of checked.now.diagram))) }
 {
+    let mut roots = Roots::new(alloc);
     checked.keeps_rules();
-    let block = ports[(number - 1) as usize];
-    let width = width_of_input(checked, starts, block, 1);
-    put_port(roots, number, block, width)?;
-    Ok(())
+    let blocks = checked.diagram().blocks.as_slice();
+    let ports = ports_on(alloc, side, blocks)?;
+    for i in 0..ports.len() as u32 {
+        put_port_on(&mut roots, checked, side, ports.as_slice(), i + 1)?;
+    }
+    Ok(roots)
 }
 
 /// The elements of the root inputs.
@@ -152,14 +163,7 @@ pub fn input_roots(alloc: Global, checked: &Checked) -> Result<Roots, OutOfMemor
     ensures { IfOk result (λ roots. roots ≡ roots_of
         (root_inputs checked.now.diagram (attributes_of checked.now.diagram))) }
 {
-    let mut roots = Roots::new(alloc);
-    checked.keeps_rules();
-    let blocks = checked.diagram().blocks.as_slice();
-    let ports = ports_on(alloc, Side::Inputs, blocks)?;
-    for i in 0..ports.len() as u32 {
-        put_input_port(&mut roots, checked, ports.as_slice(), i + 1)?;
-    }
-    Ok(roots)
+    roots_on(alloc, checked, Side::Inputs)
 }
 
 /// The elements of the root outputs.
@@ -168,12 +172,5 @@ pub fn output_roots(alloc: Global, checked: &Checked, starts: &Starts) -> Result
     ensures { IfOk result (λ roots. roots ≡ roots_of
         (root_outputs checked.now.diagram (attributes_of checked.now.diagram))) }
 {
-    let mut roots = Roots::new(alloc);
-    checked.keeps_rules();
-    let blocks = checked.diagram().blocks.as_slice();
-    let ports = ports_on(alloc, Side::Outputs, blocks)?;
-    for i in 0..ports.len() as u32 {
-        put_output_port(&mut roots, checked, starts, ports.as_slice(), i + 1)?;
-    }
-    Ok(roots)
+    roots_on(alloc, checked, Side::Outputs(starts))
 }
