@@ -4,8 +4,10 @@ use Rattle.std.proofs.lemmas.Int.{to_z-of_z}
 use Rattle.fx_type.specs.declared.kind.FxType.{FxType}
 use Rattle.fx_type.specs.FxType.{IsType, InRange}
 use Rattle.fx_type.proofs.Ranges.{InRange-fits}
+use Rattle.dg_model.specs.declared.kind.Criterion.{Criterion}
 use Rattle.dg_model.specs.declared.op.Op.{Op}
-use Rattle.dg_model.specs.Operation.{operation_of, type_of, value_of, HasArity, HasParameters, HasFullType, AreInRange, IsConverted, meets, Gives}
+use Rattle.dg_model.specs.declared.op.Op.TheVariants.{Switch}
+use Rattle.dg_model.specs.Operation.{Operation, operation_of, type_of, value_of, HasArity, HasParameters, HasFullType, AreInRange, CanCarryOut, IsConverted, meets, Gives, OpGives}
 use Rattle.dg_blocks.proofs.operation.output.Goals as goal
 
 -- an input is the number of the code that stands for it
@@ -87,39 +89,31 @@ returns-in-Gain c =
     let given = rw (x, y) at c.times.ensures in
     rw r (subst (λ (op : Op). Gives op (operation_of c.args.call.now) types inputs c.times.result) (sym op) given)
 
+-- a Switch gives the input that it takes, converted, and its numbers are those of the codes that stand for them
+switched : (operation : Operation) (inputs : List ℤ) (criterion : Criterion) (threshold : ℤ) (first : Bool) (r : ℤ) → CanCarryOut operation inputs → operation.op ≡ Switch criterion threshold
+    → first ≡ meets criterion (to_z w128 (of_z w128 threshold)) (to_z w128 (of_z w128 (value_of inputs 1)))
+    → MatchBool first (IsConverted operation (to_z w128 (of_z w128 (value_of inputs 0))) (type_of operation.types 0) r) (IsConverted operation (to_z w128 (of_z w128 (value_of inputs 2))) (type_of operation.types 2) r)
+    → OpGives operation inputs r
+switched operation inputs criterion threshold first r can op met given =
+    let types = operation.types in
+    let valid = can.prepared.types in
+    let three : length types ≡ 3 = subst (λ (op : Op). HasArity op (length types)) op can.prepared.arity in
+    let parameters = subst (λ (op : Op). HasParameters op types) op can.prepared.parameters in
+    let stored = to_z-of_z w128 threshold (InRange-fits (type_of types 1) threshold (valid 1 _ (omega (arith, three))) parameters) in
+    let chosen : first ≡ meets criterion threshold (value_of inputs 1) = rw (stored, own types inputs 1 valid can.values (omega (arith, three))) at met in
+    let read = rw (own types inputs 0 valid can.values (omega (arith, three)), own types inputs 2 valid can.values (omega (arith, three))) at given in
+    subst (λ (op : Op). Gives op operation types inputs r) (sym op)
+    (subst (λ (b : Bool). MatchBool b (IsConverted operation (value_of inputs 0) (type_of types 0) r) (IsConverted operation (value_of inputs 2) (type_of types 2) r)) chosen read)
+
 pub returns-then-meets : goal.returns-then-meets
 returns-then-meets c =
-    let types = c.args.call.now.types.now in
-    let inputs = c.args.inputs.now in
-    let operation = operation_of c.args.call.now in
-    let op = c.in-Switch.is in
-    let three : length types ≡ 3 = subst (λ (op : Op). HasArity op (length types)) op c.requires.prepared.arity in
-    let parameters = subst (λ (op : Op). HasParameters op types) op c.requires.prepared.parameters in
-    let threshold = to_z-of_z w128 c.in-Switch.threshold (InRange-fits (type_of types 1) c.in-Switch.threshold (c.requires.prepared.types 1 _ (omega (arith, three))) parameters) in
-    let control = own types inputs 1 c.requires.prepared.types c.requires.values (omega (arith, three)) in
-    let x = own types inputs 0 c.requires.prepared.types c.requires.values (omega (arith, three)) in
-    let r = to_z-of_z w128 c.converted.result (record { sfits = c.converted.type_inv }) in
-    let met : true ≡ meets c.in-Switch.criterion c.in-Switch.threshold (value_of inputs 1) = rw (threshold, control) at c.if-meets.ensures in
-    let given = rw x at c.converted.ensures in
-    let chosen = subst (λ (b : Bool). MatchBool b (IsConverted operation (value_of inputs 0) (type_of types 0) c.converted.result) (IsConverted operation (value_of inputs 2) (type_of types 2) c.converted.result)) met given in
-    rw r (subst (λ (op : Op). Gives op operation types inputs c.converted.result) (sym op) chosen)
+    rw (to_z-of_z w128 c.converted.result (record { sfits = c.converted.type_inv }))
+    (switched (operation_of c.args.call.now) c.args.inputs.now c.in-Switch.criterion c.in-Switch.threshold true c.converted.result c.requires c.in-Switch.is c.if-meets.ensures c.converted.ensures)
 
 pub returns-else-meets : goal.returns-else-meets
 returns-else-meets c =
-    let types = c.args.call.now.types.now in
-    let inputs = c.args.inputs.now in
-    let operation = operation_of c.args.call.now in
-    let op = c.in-Switch.is in
-    let three : length types ≡ 3 = subst (λ (op : Op). HasArity op (length types)) op c.requires.prepared.arity in
-    let parameters = subst (λ (op : Op). HasParameters op types) op c.requires.prepared.parameters in
-    let threshold = to_z-of_z w128 c.in-Switch.threshold (InRange-fits (type_of types 1) c.in-Switch.threshold (c.requires.prepared.types 1 _ (omega (arith, three))) parameters) in
-    let control = own types inputs 1 c.requires.prepared.types c.requires.values (omega (arith, three)) in
-    let x = own types inputs 2 c.requires.prepared.types c.requires.values (omega (arith, three)) in
-    let r = to_z-of_z w128 c.converted-else-meets.result (record { sfits = c.converted-else-meets.type_inv }) in
-    let met : false ≡ meets c.in-Switch.criterion c.in-Switch.threshold (value_of inputs 1) = rw (threshold, control) at c.if-meets.ensures in
-    let given = rw x at c.converted-else-meets.ensures in
-    let chosen = subst (λ (b : Bool). MatchBool b (IsConverted operation (value_of inputs 0) (type_of types 0) c.converted-else-meets.result) (IsConverted operation (value_of inputs 2) (type_of types 2) c.converted-else-meets.result)) met given in
-    rw r (subst (λ (op : Op). Gives op operation types inputs c.converted-else-meets.result) (sym op) chosen)
+    rw (to_z-of_z w128 c.converted-else-meets.result (record { sfits = c.converted-else-meets.type_inv }))
+    (switched (operation_of c.args.call.now) c.args.inputs.now c.in-Switch.criterion c.in-Switch.threshold false c.converted-else-meets.result c.requires c.in-Switch.is c.if-meets.ensures c.converted-else-meets.ensures)
 
 pub returns-in-Product : goal.returns-in-Product
 returns-in-Product c =
