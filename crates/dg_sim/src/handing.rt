@@ -9,9 +9,9 @@ ghost use Rattle.dg_model.specs.declared.kind.Kind.{Kind};
 
 use crate::memories::slowed;
 use crate::program::{Program, Rule};
-use crate::turn::Turn;
+use crate::turn::{Turn, offered};
 use dg_model::is_slow_to_fast;
-use dg_tables::{input, period_of_input};
+use dg_tables::period_of_input;
 use fx_io::OutOfMemory;
 use fx_type::Decimal;
 
@@ -25,15 +25,7 @@ pub fn hand_on<'a>(program: &Program, turn: Turn<'a>, port: u32, element: u32) -
         turn.place.block port element }
     ensures { IsMadeFor turn.entry program.now program.now result }
 {
-    let places = program.places.as_slice();
-    let from = input(
-        turn.checked,
-        turn.starts,
-        places,
-        turn.place.block,
-        port,
-        element,
-    );
+    let from = offered(turn, &program.places, port, element);
     Rule::Same { from }
 }
 

@@ -13,8 +13,8 @@ ghost use Rattle.dg_tables.specs.Entries.{place_at};
 
 use crate::program::{Memory, Program, Rule};
 use crate::rules::own_stored;
-use crate::turn::Turn;
-use dg_tables::{Place, input, kept_moves, look_up};
+use crate::turn::{Turn, offered};
+use dg_tables::{Place, kept_moves, look_up};
 use fx_io::OutOfMemory;
 use fx_type::Decimal;
 
@@ -66,15 +66,7 @@ fn remember<'a>(
         (attributes_of turn.entry.checked.now.diagram) program.old program.new turn.entry.place m) }
 {
     let place = turn.place;
-    let places = program.places.as_slice();
-    let from = input(
-        turn.checked,
-        turn.starts,
-        places,
-        place.block,
-        1,
-        place.element,
-    );
+    let from = offered(turn, &program.places, 1, place.element);
     let Ok(number) = u32::try_from(program.memories.as_slice().len()) else {
         // word: a rule names its memory in 32 bits
         return Err(OutOfMemory);
@@ -160,16 +152,7 @@ pub fn gated<'a>(
         unreachable!();
     };
     let cell = control_cell(program, turn, enable);
-    let place = turn.place;
-    let places = program.places.as_slice();
-    let from = input(
-        turn.checked,
-        turn.starts,
-        places,
-        place.block,
-        1,
-        place.element,
-    );
+    let from = offered(turn, &program.places, 1, turn.place.element);
     let first = own_stored(turn, initial);
     if reset {
         return Ok(Rule::Reset {
@@ -178,7 +161,7 @@ pub fn gated<'a>(
             initial: first,
         });
     }
-    let period = turn.checked.period(place.block);
+    let period = turn.checked.period(turn.place.block);
     let memory = remember(program, turn, period, Some(cell), false, 1)?;
     Ok(Rule::Held {
         memory,

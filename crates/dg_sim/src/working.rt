@@ -11,9 +11,9 @@ ghost use Rattle.dg_sim.specs.inner.Turns.{IsMadeFor, IsTurnOf};
 
 use crate::program::{Program, Rule, Work};
 use crate::rules::stored;
-use crate::turn::Turn;
+use crate::turn::{Turn, offered};
 use dg_model::{FxTypes, Kind, Op};
-use dg_tables::{Places, input, operations_prepare, type_of_input};
+use dg_tables::{Places, operations_prepare, type_of_input};
 use fx_io::{Flags, OutOfMemory, Sizes};
 use fx_type::FxType;
 
@@ -37,15 +37,7 @@ pub fn put_argument<'a>(
         (attributes_of turn.entry.checked.now.diagram) places.now turn.entry.place.block port
         element number × (types.new ≡ types.old ++ kind ∷ [])) }
 {
-    let block = turn.place.block;
-    let number = input(
-        turn.checked,
-        turn.starts,
-        places.as_slice(),
-        block,
-        port,
-        element,
-    );
+    let number = offered(turn, places, port, element);
     args.push(number)?;
     types.push(kind)?;
     Ok(())

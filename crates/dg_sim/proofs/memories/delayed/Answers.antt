@@ -21,10 +21,9 @@ pub returns : goal.returns
 returns c =
     let diagram = c.args.turn.checked.now.diagram in
     let fits : FitsSigned w128 c.own_stored-first.result = record { sfits = c.own_stored-first.type_inv } in
-    let stores = c.own_stored-first.ensures in
     rw (to_z-of_z w128 c.own_stored-first.result fits)
     (delay_made diagram (attributes_of diagram) c.args.program.now c.remember.new.program c.args.turn.place c.args.turn.block.now c.requires.turn.shown.block_is c.kept_moves.ensures.read c.args.turn.cell c.in_ok-memory.memory c.args.length c.args.initial.now c.args.reset c.own_stored-first.result
-    c.requires.kind c.requires.some stores c.in_ok-memory.ensures)
+    c.requires.kind c.requires.some c.own_stored-first.ensures c.in_ok-memory.ensures)
 
 pub remember-requires-clause-read : goal.remember-requires-clause-read
 remember-requires-clause-read c = delay_reads c.args.turn.checked.now c.args.turn.starts.now c.args.program.now.places c.args.turn.cell c.args.turn.place c.args.turn.block.now c.requires.turn c.keeps_rules.ensures.checked c.args.length c.args.initial.now c.args.reset c.requires.kind

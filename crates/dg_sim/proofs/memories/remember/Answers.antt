@@ -1,8 +1,6 @@
-use Rattle.std.proofs.Common.{◌∙◌, List, length, ap, subst, refl}
+use Rattle.std.proofs.Common.{◌∙◌, length, ap, refl}
 use Rattle.dg_model.specs.Attributes.{attributes_of}
-use Rattle.dg_tables.specs.declared.entries.Place.{Place}
 use Rattle.dg_sim.specs.declared.program.Memory.{Memory}
-use Rattle.dg_tables.specs.Entries.{Reads}
 use Rattle.dg_sim.proofs.Kept.{remembered}
 use Rattle.dg_sim.proofs.memories.remember.Goals as goal
 
@@ -11,7 +9,6 @@ returns c =
     let diagram = c.args.turn.checked.now.diagram in
     let old = c.args.program.now in
     let place = c.args.turn.place in
-    let reads = subst (λ (places : List Place). Reads diagram (attributes_of diagram) places place.block 1 place.element c.input-from.result) c.as_slice-places.ensures c.input-from.ensures.reads in
-    let memory : Memory = record { place = place; from = c.input-from.result; period = c.args.period; control = c.args.control; reset = c.args.reset; room = c.args.room } in
+    let memory : Memory = record { place = place; from = c.offered-from.result; period = c.args.period; control = c.args.control; reset = c.args.reset; room = c.args.room } in
     remembered diagram (attributes_of diagram) old (record { places = old.places; cells = old.cells; args = old.args; types = old.types; signs = old.signs; memories = c.push.new.self; outputs = old.outputs }) place c.args.turn.block.now c.requires.turn.shown.block_is
-    memory refl c.requires.room c.requires.some c.requires.moves reads refl refl refl refl refl c.in_ok-push.ensures.appended c.in-Ok.number (c.in-Ok.ensures.1 ∙ ap length c.as_slice.ensures)
+    memory refl c.requires.room c.requires.some c.requires.moves c.offered-from.ensures.reads refl refl refl refl refl c.in_ok-push.ensures.appended c.in-Ok.number (c.in-Ok.ensures.1 ∙ ap length c.as_slice.ensures)
