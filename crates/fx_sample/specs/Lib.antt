@@ -4,3 +4,4 @@ pub mod ModelText
 pub mod Numbers
 pub mod Stimulus
 pub mod Summary
+pub mod inner

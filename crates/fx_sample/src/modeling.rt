@@ -1,6 +1,7 @@
 ghost use Rattle.std.specs.Prelude.{◌≡◌, ◌<◌, ◌≤◌, ◌++◌, ◌-◌, IfOk, OnOk, codes};
 ghost use Rattle.std.specs.List.{flat_map, range_with_len};
-ghost use Rattle.fx_sample.specs.ModelText.{block_at, block_text, chain_lines, chain_name as chain_name_of, chain_text, end_lines, ends_text, input_text, line_text, lines_at, model_end, model_head, parameter_text, parameters_of, sample_model, type_parameter};
+ghost use Rattle.fx_sample.specs.ModelText.{block_text, chain_lines, chain_name as chain_name_of, chain_text, end_lines, ends_text, input_text, line_text, model_end, model_head, parameter_text, parameters_of, sample_model, type_parameter};
+ghost use Rattle.fx_sample.specs.inner.Parts.{part_at, part_text};
 
 use crate::chain::ChainKind;
 use crate::numbers::number_after;
@@ -65,20 +66,6 @@ fn push_block(
     push_end(text)
 }
 
-/// Puts the blocks of the chain.
-fn push_blocks(alloc: Global, text: &mut Vec<u8>, count: u32) -> Result<(), OutOfMemory>
-    requires { count ≤ 5000 }
-    ensures { OnOk result (text.new.items
-        ≡ text.old.items ++ flat_map (block_at count) (range_with_len 1 count)) }
-{
-    let mut number = u64::from(count);
-    for before in 0..count {
-        number = number_after(number);
-        push_block(alloc, text, before + 1, ChainKind::of(before + 1, number))?;
-    }
-    Ok(())
-}
-
 /// Puts the lines from the input to the ports of a block from 2 on.
 fn push_more(text: &mut Vec<u8>, name: &[u8], more: u64) -> Result<(), OutOfMemory>
     requires { more ≤ 2 }
@@ -107,16 +94,41 @@ fn push_lines_into(
     push_more(text, name.bytes(), kind.inputs() - 1)
 }
 
-/// Puts the lines into the blocks of the chain.
-fn push_lines(alloc: Global, text: &mut Vec<u8>, count: u32) -> Result<(), OutOfMemory>
+/// What is put of each block of the chain: itself, or the lines into it.
+#[derive(Clone, Copy)]
+enum Part {
+    Block,
+    Lines,
+}
+
+/// Puts a part of the block of a kind at a place of the chain.
+fn push_part(
+    alloc: Global,
+    text: &mut Vec<u8>,
+    part: Part,
+    place: u32,
+    kind: ChainKind,
+) -> Result<(), OutOfMemory>
+    requires { 0 < place }
+    ensures { OnOk result (text.new.items ≡ text.old.items ++ part_text part place kind) }
+{
+    match part {
+        Part::Block => push_block(alloc, text, place, kind),
+        Part::Lines => push_lines_into(alloc, text, place, kind),
+    }
+}
+
+/// Puts a part of each block of the chain.
+fn push_chain(alloc: Global, text: &mut Vec<u8>, part: Part, count: u32) -> Result<(), OutOfMemory>
     requires { count ≤ 5000 }
     ensures { OnOk result (text.new.items
-        ≡ text.old.items ++ flat_map (lines_at count) (range_with_len 1 count)) }
+        ≡ text.old.items ++ flat_map (part_at part count) (range_with_len 1 count)) }
 {
     let mut number = u64::from(count);
     for before in 0..count {
         number = number_after(number);
-        push_lines_into(alloc, text, before + 1, ChainKind::of(before + 1, number))?;
+        let kind = ChainKind::of(before + 1, number);
+        push_part(alloc, text, part, before + 1, kind)?;
     }
     Ok(())
 }
@@ -189,9 +201,9 @@ fn push_model(alloc: Global, text: &mut Vec<u8>, count: u32) -> Result<(), OutOf
 {
     push_model_head(text)?;
     push_input(text)?;
-    push_blocks(alloc, text, count)?;
+    push_chain(alloc, text, Part::Block, count)?;
     push_ends(text)?;
-    push_lines(alloc, text, count)?;
+    push_chain(alloc, text, Part::Lines, count)?;
     let last = chain_name(alloc, count)?;
     push_end_lines(text, last.bytes())?;
     push_model_end(text)

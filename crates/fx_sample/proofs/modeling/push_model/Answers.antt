@@ -11,6 +11,6 @@ returns c =
     on_ok_weaker c.push_model_end.result
     (seven_appended c.args.text.now.items model_head input_text (flat_map (block_at c.args.count) (range_with_len 1 c.args.count)) ends_text
     (flat_map (lines_at c.args.count) (range_with_len 1 c.args.count)) (end_lines (chain_name c.args.count)) model_end _ _ _ _ _ _ _
-    c.in_ok-push_model_head.ensures c.in_ok-push_input.ensures c.in_ok-push_blocks.ensures c.in_ok-push_ends.ensures c.in_ok-push_lines.ensures
-    (c.in_ok-push_end_lines.ensures ∙ ap (λ name. c.push_lines.new.text.items ++ end_lines name) last))
+    c.in_ok-push_model_head.ensures c.in_ok-push_input.ensures c.in_ok-push_chain.ensures c.in_ok-push_ends.ensures c.in_ok-push_chain-2.ensures
+    (c.in_ok-push_end_lines.ensures ∙ ap (λ name. c.push_chain-2.new.text.items ++ end_lines name) last))
     c.push_model_end.ensures
