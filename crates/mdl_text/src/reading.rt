@@ -26,9 +26,16 @@ pub fn read(alloc: Global, bytes: &[u8]) -> Result<Tree, MdlFault>
     let mut rest = bytes;
     let mut line = 1;
     while let Some((next, after)) = split_line(rest) {
-        if !reader.step(alloc, next)? {
-            drop(reader);
-            return Err(MdlFault::Syntax { line });
+        match reader.step(alloc, next) {
+            Ok(true) => {}
+            Ok(false) => {
+                drop(reader);
+                return Err(MdlFault::Syntax { line });
+            }
+            Err(OutOfMemory) => {
+                drop(reader);
+                return Err(MdlFault::OutOfMemory);
+            }
         }
         rest = after;
         line += 1;

@@ -1,4 +1,4 @@
-ghost use Rattle.std.specs.Prelude.{◌≡◌, ◌≤◌, ◌++◌, ℕ, List, length, IfOk, IfSome, MatchOption, Some};
+ghost use Rattle.std.specs.Prelude.{◌≡◌, ◌≤◌, ◌++◌, ℕ, List, length, cond, IfOk, IfSome, MatchOption, Some, None};
 ghost use Rattle.mdl_text.specs.declared.strings.Place.TheVariants.{Inside};
 ghost use Rattle.mdl_text.specs.inner.Plain.{string_step, strings, strings_from};
 
@@ -80,30 +80,25 @@ fn take_plain<'a>(said: &mut Vec<u8>, bytes: &'a [u8]) -> Result<&'a [u8], OutOf
 }
 
 /// Reads quoted strings with blanks between and after, and puts what they say at the end of `said`.
-/// `None` where the bytes are none.
-fn strings(mut said: Vec<u8>, bytes: &[u8]) -> Result<Option<Vec<u8>>, OutOfMemory>
-    ensures { IfOk result (λ found. MatchOption found
-        (strings_from said.items bytes.now ≡ None)
-        (λ value. strings_from said.items bytes.now ≡ Some value.items)) }
+/// `false` where the bytes are none.
+fn strings(said: &mut Vec<u8>, bytes: &[u8]) -> Result<bool, OutOfMemory>
+    ensures { IfOk result (λ good. strings_from said.old.items bytes.now
+        ≡ cond good (Some said.new.items) None) }
 {
     said.reserve(bytes.len().min(USUAL_LENGTH))?;
     let mut place = Place::Outside;
     let mut rest = bytes;
     while let [byte, after @ ..] = rest {
-        match string_step(place, &mut said, *byte)? {
-            None => return Ok(None),
+        match string_step(place, said, *byte)? {
+            None => return Ok(false),
             Some(next) => place = next,
         }
         rest = match place {
-            Place::Inside => take_plain(&mut said, after)?,
+            Place::Inside => take_plain(said, after)?,
             Place::Outside | Place::Escaped => after,
         };
     }
-    Ok(if place == Place::Outside {
-        Some(said)
-    } else {
-        None
-    })
+    Ok(place == Place::Outside)
 }
 
 /// The text with what quoted strings say at its end. `None` where the bytes are none.
@@ -117,8 +112,10 @@ pub fn joined<'a>(
     if let Some(text) = plain_string(bytes) {
         return Ok(Some(said.with(alloc, text)?));
     }
-    match strings(said.into_vec(alloc)?, bytes)? {
-        None => Ok(None),
-        Some(said) => Ok(Some(Said::gathered(said))),
+    let mut gathered = said.into_vec(alloc)?;
+    if strings(&mut gathered, bytes)? {
+        Ok(Some(Said::gathered(gathered)))
+    } else {
+        Ok(None)
     }
 }

@@ -8,25 +8,23 @@ pub loop-next-preserved : goal.loop-next-preserved
 loop-next-preserved c =
     let split = c.in-Some.ensures in
     let read : Option Reader = Some c.step.new.self in
-    let goes_on = c.in_ok-step.ensures ∙ ap (λ t. cond t read None) c.if-not-branch.false in
+    let goes_on = c.in-Ok-true.ensures ∙ ap (λ t. cond t read None) c.in-Ok-true.field-0-test in
     record {
       reached = reached_next c.args.bytes.now c.loop-next.rest.now c.loop-next.reader c.loop-next.line c.loop-next.invariant.reached c.in-Some.next.now c.in-Some.after.now split.0 split.1 c.step.new.self goes_on;
       bounded = step_bounded c.loop-next.reader c.step.new.self c.in-Some.next.now c.loop-next.invariant.bounded goes_on;
     }
 
-pub returns-then-not-branch-clause-refused : goal.returns-then-not-branch-clause-refused
-returns-then-not-branch-clause-refused c =
+pub returns-in-Ok-false-clause-refused : goal.returns-in-Ok-false-clause-refused
+returns-in-Ok-false-clause-refused c =
     let split = c.in-Some.ensures in
-    let read : Option Reader = Some c.step.new.self in
     refused_line c.args.bytes.now c.loop-next.rest.now c.loop-next.reader c.loop-next.line c.loop-next.invariant.reached c.in-Some.next.now c.in-Some.after.now split.0 split.1
-    (c.in_ok-step.ensures ∙ ap (λ t. cond t read None) c.if-not-branch.true)
+    (c.in-Ok-false.ensures ∙ ap (λ t. cond t (Some c.step.new.self) None) c.in-Ok-false.field-0-test)
 
-pub returns-then-not-branch-clause-line : goal.returns-then-not-branch-clause-line
-returns-then-not-branch-clause-line c =
+pub returns-in-Ok-false-clause-line : goal.returns-in-Ok-false-clause-line
+returns-in-Ok-false-clause-line c =
     let split = c.in-Some.ensures in
-    let read : Option Reader = Some c.step.new.self in
     fault_line c.args.bytes.now c.loop-next.rest.now c.loop-next.reader c.loop-next.line c.loop-next.invariant.reached c.in-Some.next.now c.in-Some.after.now split.0 split.1
-    (c.in_ok-step.ensures ∙ ap (λ t. cond t read None) c.if-not-branch.true)
+    (c.in-Ok-false.ensures ∙ ap (λ t. cond t (Some c.step.new.self) None) c.in-Ok-false.field-0-test)
 
 pub returns-in-None-clause-refused : goal.returns-in-None-clause-refused
 returns-in-None-clause-refused c =
