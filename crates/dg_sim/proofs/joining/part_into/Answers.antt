@@ -5,19 +5,34 @@ use Rattle.dg_model.specs.Wires.{width_into}
 use Rattle.dg_tables.proofs.Lists.{sum_last, part_here}
 use Rattle.dg_sim.proofs.Joined.{before_end}
 use Rattle.dg_sim.proofs.joining.part_into.Goals as goal
+use Rattle.dg_sim.proofs.joining.part_into.Goals.{After-begun-start, In-loop-width}
+
+-- the first ports have so many elements together
+at_start : (c : After-begun-start) → c.begun-start.result.before ≡ sum (map (width_into c.args.checked.now.diagram (attributes_of c.args.checked.now.diagram) c.args.block) (numbers_from 1 c.begun-start.result.ports))
+at_start c = c.begun-start.ensures.sums (width_into c.args.checked.now.diagram (attributes_of c.args.checked.now.diagram)) c.requires.into
+
+-- none of them is the last
+start_below : (c : After-begun-start) → c.begun-start.result.ports < c.args.inputs
+start_below c =
+    before_end (width_into c.args.checked.now.diagram (attributes_of c.args.checked.now.diagram) c.args.block) c.args.inputs c.begun-start.result.ports c.begun-start.result.before c.args.element c.begun-start.ensures.ports (at_start c) c.begun-start.ensures.before c.requires.element
+
+-- so it is with one port more
+at_next : (c : In-loop-width) → c.loop-width.before + c.loop-width.width ≡ sum (map (width_into c.args.checked.now.diagram (attributes_of c.args.checked.now.diagram) c.args.block) (numbers_from 1 (c.loop-width.signal + 1)))
+at_next c =
+    let inv = c.loop-width.invariant in
+    omega (arith, inv.at, sum_last (width_into c.args.checked.now.diagram (attributes_of c.args.checked.now.diagram) c.args.block) c.loop-width.signal, inv.width)
+
+next_low : (c : In-loop-width) → c.loop-width.before + c.loop-width.width ≤ c.args.element
+next_low c = omega (arith, c.loop-width.invariant.low, c.loop-width-test.true)
+
+next_below : (c : In-loop-width) → c.loop-width.signal + 1 < c.args.inputs
+next_below c =
+    before_end (width_into c.args.checked.now.diagram (attributes_of c.args.checked.now.diagram) c.args.block) c.args.inputs (c.loop-width.signal + 1) (c.loop-width.before + c.loop-width.width) c.args.element (omega (arith, c.loop-width.invariant.below)) (at_next c) (next_low c) c.requires.element
 
 pub loop-width-init : goal.loop-width-init
 loop-width-init c =
-    let diagram = c.args.checked.now.diagram in
-    let f = width_into diagram (attributes_of diagram) c.args.block in
-    let at = c.begun-start.ensures.sums (width_into diagram (attributes_of diagram)) c.requires.into in
-    let low = c.begun-start.ensures.before in
-    record {
-      at = at;
-      low = low;
-      below = before_end f c.args.inputs c.begun-start.result.ports c.begun-start.result.before c.args.element c.begun-start.ensures.ports at low c.requires.element;
-      width = c.width_of_input-width.ensures;
-    }
+    let start = (goal.at.loop-width-init c).After-begun-start in
+    record { at = at_start start; low = c.begun-start.ensures.before; below = start_below start; width = c.width_of_input-width.ensures }
 
 pub returns : goal.returns
 returns c =
@@ -32,36 +47,11 @@ returns c =
 
 pub loop-width-preserved : goal.loop-width-preserved
 loop-width-preserved c =
-    let diagram = c.args.checked.now.diagram in
-    let f = width_into diagram (attributes_of diagram) c.args.block in
-    let inv = c.loop-width.invariant in
-    let signal : ℕ = c.loop-width.signal in
-    let last = sum_last f signal in
-    let at : c.loop-width.before + c.loop-width.width ≡ sum (map f (numbers_from 1 (signal + 1))) = omega (arith, inv.at, last, inv.width) in
-    let low : c.loop-width.before + c.loop-width.width ≤ c.args.element = omega (arith, inv.low, c.loop-width-test.true) in
-    record {
-      at = at;
-      low = low;
-      below = before_end f c.args.inputs (signal + 1) (c.loop-width.before + c.loop-width.width) c.args.element (omega (arith, inv.below)) at low c.requires.element;
-      width = c.width_of_input-width-in-loop-width.ensures;
-    }
+    let turn = (goal.at.loop-width-preserved c).In-loop-width in
+    record { at = at_next turn; low = next_low turn; below = next_below turn; width = c.width_of_input-width-in-loop-width.ensures }
 
 pub overflow_add-signal : goal.overflow_add-signal
-overflow_add-signal c =
-    let diagram = c.args.checked.now.diagram in
-    let f = width_into diagram (attributes_of diagram) c.args.block in
-    let at = c.begun-start.ensures.sums (width_into diagram (attributes_of diagram)) c.requires.into in
-    let below = before_end f c.args.inputs c.begun-start.result.ports c.begun-start.result.before c.args.element c.begun-start.ensures.ports at c.begun-start.ensures.before c.requires.element in
-    record { fits = omega (arith, below) }
+overflow_add-signal c = record { fits = omega (arith, start_below (goal.at.overflow_add-signal c).After-begun-start) }
 
 pub overflow_add-signal-in-loop-width-2 : goal.overflow_add-signal-in-loop-width-2
-overflow_add-signal-in-loop-width-2 c =
-    let diagram = c.args.checked.now.diagram in
-    let f = width_into diagram (attributes_of diagram) c.args.block in
-    let inv = c.loop-width.invariant in
-    let signal : ℕ = c.loop-width.signal in
-    let last = sum_last f signal in
-    let at : c.loop-width.before + c.loop-width.width ≡ sum (map f (numbers_from 1 (signal + 1))) = omega (arith, inv.at, last, inv.width) in
-    let low : c.loop-width.before + c.loop-width.width ≤ c.args.element = omega (arith, inv.low, c.loop-width-test.true) in
-    let below = before_end f c.args.inputs (signal + 1) (c.loop-width.before + c.loop-width.width) c.args.element (omega (arith, inv.below)) at low c.requires.element in
-    record { fits = omega (arith, below) }
+overflow_add-signal-in-loop-width-2 c = record { fits = omega (arith, next_below (goal.at.overflow_add-signal-in-loop-width-2 c).In-loop-width) }
