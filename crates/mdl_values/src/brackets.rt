@@ -2,8 +2,8 @@
 ghost use Rattle.std.specs.Prelude.{◌≡◌, None, Some, IfOk, MatchOption};
 ghost use Rattle.mdl_values.specs.Pieces.{pieces_at, words_of, two_of, opens, bracketed, bracket_elements, alone, list_elements};
 
-use crate::pieces::{cut, elements, first_word, unblanked};
-use fx_io::{OutOfMemory, Text, Texts};
+use crate::pieces::{cut, elements, first_word, push_words, unblanked};
+use fx_io::{OutOfMemory, Texts};
 use std::alloc::Global;
 
 /// The two pieces of a text that has no more.
@@ -55,14 +55,14 @@ pub fn bracket_elements(alloc: Global, text: &[u8]) -> Result<Option<Texts>, Out
 fn alone(alloc: Global, text: &[u8]) -> Result<Option<Texts>, OutOfMemory>
     ensures { IfOk result (λ found. found ≡ alone (words_of text.now)) }
 {
-    let Some((word, after)) = first_word(text) else {
+    let Some((_, after)) = first_word(text) else {
         return Ok(None);
     };
     if first_word(after).is_some() {
         return Ok(None);
     }
     let mut only = Texts::new(alloc);
-    only.push(Text::copy(alloc, word)?)?;
+    push_words(alloc, &mut only, text)?;
     Ok(Some(only))
 }
 

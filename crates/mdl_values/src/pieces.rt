@@ -92,7 +92,7 @@ pub fn first_word(text: &[u8]) -> Option<(&[u8], &[u8])>
 }
 
 /// Puts the words of a text at the end.
-fn push_words(alloc: Global, words: &mut Texts, text: &[u8]) -> Result<(), OutOfMemory>
+pub fn push_words(alloc: Global, words: &mut Texts, text: &[u8]) -> Result<(), OutOfMemory>
     ensures { OnOk result (words.new ≡ words.old ++ words_of text.now) }
 {
     let mut rest = text;
