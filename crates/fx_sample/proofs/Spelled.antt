@@ -11,7 +11,7 @@ use Rattle.fx_text.specs.Strings.Char.{Plain}
 use Rattle.mdl_text.specs.declared.tree.Item.{Item}
 use Rattle.mdl_text.specs.declared.tree.Value.TheVariants.{Section, Bare, Quoted}
 use Rattle.mdl_text.specs.Bytes.{is_blank, lines_of, AreBlanks, IsName}
-use Rattle.mdl_text.specs.Lines.{IsBare}
+use Rattle.mdl_text.specs.Lines.{IsBare, GivesParameter}
 use Rattle.mdl_text.specs.Prefix.{IsMdl}
 use Rattle.mdl_text.specs.Stands.{Says, Part, HasForm, Builds}
 use Rattle.mdl_text.specs.Stands.Says.{Nothing, Entry, End}
@@ -92,6 +92,12 @@ closes depth before blanks before_line =
     (line, refl, record { before = before; after = []; blanks = blanks; blanks_after = refl; form = refl })
     (λ more rest built. built)
 
+-- a line says something of a name after one space
+gives_after : (before name said line : List ℕ) → AreBlanks before → IsName name → line ≡ before ++ (name ++ (32 ∷ said)) → GivesParameter line name said
+unfolding is_blank
+gives_after before name said line blanks is_name form =
+    record { before = before; between = 32 ∷ []; blanks = blanks; is_name = is_name; blanks_between = refl; some_between = λ none. absurd (cc none); form = form }
+
 -- a parameter with a bare value
 pub bare : (depth : ℕ) (before name value : List ℕ) → AreBlanks before → IsName name → IsBare value → IsOneLine before → IsOneLine value → Spelled depth ((before ++ (name ++ (32 ∷ value))) ++ 10 ∷ []) depth
 unfolding is_blank
@@ -105,15 +111,7 @@ bare depth before name value blanks is_name is_bare before_line value_line =
         after = [];
         blanks_after = refl;
         is_bare = is_bare;
-        gives = record {
-          before = before;
-          between = 32 ∷ [];
-          blanks = blanks;
-          is_name = is_name;
-          blanks_between = refl;
-          some_between = λ none. absurd (cc none);
-          form = ap (λ said. before ++ (name ++ (32 ∷ said))) (sym (append-nil value));
-        };
+        gives = gives_after before name (value ++ []) line blanks is_name (ap (λ said. before ++ (name ++ (32 ∷ said))) (sym (append-nil value)));
       }),
     )
     (λ more rest built. (rest, refl, built))
@@ -164,15 +162,7 @@ in_quotes depth before name value blanks is_name word before_line =
       strings = strings;
       said = value;
       further = [];
-      gives = record {
-        before = before;
-        between = 32 ∷ [];
-        blanks = blanks;
-        is_name = is_name;
-        blanks_between = refl;
-        some_between = λ none. absurd (cc none);
-        form = refl;
-      };
+      gives = gives_after before name strings line blanks is_name refl;
       are_strings = record {
         quotes = record { chars = map Plain value; after = [] } ∷ [];
         nonempty = λ none. absurd (cc none);
