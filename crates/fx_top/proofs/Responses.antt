@@ -4,7 +4,7 @@ use Rattle.std.proofs.lemmas.List.{length-map}
 use Rattle.fx_tables.specs.declared.row_text.RowText.{RowText}
 use Rattle.fx_tables.specs.declared.table.Column.{Column}
 use Rattle.fx_tables.specs.declared.table.Rows.{Rows as Table}
-use Rattle.fx_tables.specs.Response.{response}
+use Rattle.fx_tables.specs.Response.{response, response_line}
 use Rattle.fx_tables.specs.RowText.{periods_of}
 use Rattle.fx_tables.specs.Stimulus.{IsRows, stimulus_fault}
 use Rattle.fx_tables.specs.declared.table.TableCause.{TableCause}
@@ -55,6 +55,10 @@ pub moved-table : (one other : Replay) (table : Sample → List ℤ) → module_
 moved-table one other table made of is =
     subst (λ (m : Module). Sampled m (numbers_of (stimulus_of one)) (stimulus_of one).lines table) (sym made)
     (subst (λ (rows : Table). Sampled (module_of other) (numbers_of rows) rows.lines table) (sym of) is)
+
+-- a line of these periods and numbers is that of the table's row
+pub line-of : {ps qs : List ℕ} {sample : ℕ} {row : List ℤ} {bytes : List ℕ} (table : ℕ → List ℤ) → bytes ≡ response_line ps sample row → ps ≡ qs → row ≡ table sample → bytes ≡ response_line qs sample (table sample)
+line-of {ps} {qs} {sample} {row} table line periods is = line ∙ ap (λ (p : List ℕ). response_line p sample row) periods ∙ ap (response_line qs sample) is
 
 -- the rows of a stimulus have this fault by the columns of a module's ports
 pub bad-stimulus : (verilog stimulus : List ℕ) (m : Module) (inputs outputs : List Column) (line : ℕ) (cause : TableCause) → IsSoundText verilog m

@@ -47,38 +47,27 @@ pub record ReadsPlan (command : Command) (model : List ℕ) (plan : PlanWord) : 
   pub bad : (first table : List ℕ) (line : ℕ) (cause : TableCause) → IsBadPlan first table line cause → IsBadTable command first table line cause
   pub only : (first table : List ℕ) (line : ℕ) (cause : TableCause) → IsBadTable command first table line cause → IsBadPlan first table line cause
 
-pub generates : (model : List ℕ) (plan : PlanWord) → ReadsPlan (Generate model plan) model plan
-generates model plan = record {
-  is_model = refl;
-  is_plan = refl;
-  is_table = refl;
-  is_first = refl;
-  are_files = refl;
-  bad = λ first table line cause bad. bad;
-  only = λ first table line cause bad. bad;
+reading : (command : Command) (model : List ℕ) (plan : PlanWord) → model_of command ≡ Some model → plan_of command ≡ Some plan → table_of command ≡ plan_file plan → first_of command ≡ model → files_of command ≡ model ∷ plan_files plan
+    → ((first table : List ℕ) (line : ℕ) (cause : TableCause) → IsBadPlan first table line cause → IsBadTable command first table line cause)
+    → ((first table : List ℕ) (line : ℕ) (cause : TableCause) → IsBadTable command first table line cause → IsBadPlan first table line cause) → ReadsPlan command model plan
+reading command model plan is_model is_plan is_table is_first are_files bad only = record {
+  is_model = is_model;
+  is_plan = is_plan;
+  is_table = is_table;
+  is_first = is_first;
+  are_files = are_files;
+  bad = bad;
+  only = only;
 }
+
+pub generates : (model : List ℕ) (plan : PlanWord) → ReadsPlan (Generate model plan) model plan
+generates model plan = reading (Generate model plan) model plan refl refl refl refl refl (λ first table line cause bad. bad) (λ first table line cause bad. bad)
 
 pub checks : (model : List ℕ) (plan : PlanWord) → ReadsPlan (Check model plan) model plan
-checks model plan = record {
-  is_model = refl;
-  is_plan = refl;
-  is_table = refl;
-  is_first = refl;
-  are_files = refl;
-  bad = λ first table line cause bad. bad;
-  only = λ first table line cause bad. bad;
-}
+checks model plan = reading (Check model plan) model plan refl refl refl refl refl (λ first table line cause bad. bad) (λ first table line cause bad. bad)
 
 pub streams : (model : List ℕ) (plan : PlanWord) → ReadsPlan (Stream model plan) model plan
-streams model plan = record {
-  is_model = refl;
-  is_plan = refl;
-  is_table = refl;
-  is_first = refl;
-  are_files = refl;
-  bad = λ first table line cause bad. bad;
-  only = λ first table line cause bad. bad;
-}
+streams model plan = reading (Stream model plan) model plan refl refl refl refl refl (λ first table line cause bad. bad) (λ first table line cause bad. bad)
 
 -- what was fetched of a model and a plan makes a design
 pub record HasDesign (held : List ℕ → Told) (model : List ℕ) (plan : PlanWord) : Type 0 where

@@ -1,8 +1,8 @@
-use Rattle.std.proofs.Common.{◌≡◌, ◌++◌, ℕ, ℤ, List, IfOk, ap, subst, ◌∙◌, arith}
-use Rattle.fx_tables.specs.Response.{response, response_line}
+use Rattle.std.proofs.Common.{◌≡◌, ◌++◌, ℕ, List, IfOk, ap, subst, ◌∙◌, arith}
+use Rattle.fx_tables.specs.Response.{response}
 use Rattle.fx_tables.specs.RowText.{periods_of}
 use Rattle.fx_top.proofs.Lines.{one-line-more}
-use Rattle.fx_top.proofs.Responses.{moved-table}
+use Rattle.fx_top.proofs.Responses.{line-of, moved-table}
 use Rattle.fx_top.proofs.response.response_text.Goals as goal
 
 pub loop-sample-preserved : goal.loop-sample-preserved
@@ -18,7 +18,7 @@ loop-sample-preserved c =
       periods = c.line.follows.holds-at-none ∙ c.loop-sample.invariant.periods;
       lines = λ table is.
           let here = moved-table c.advance.new.self c.args.replay.now table source stimulus is in
-          let line = c.line.ensures.line ∙ ap (λ (p : List ℕ). response_line p t c.row.result.now) c.loop-sample.invariant.periods ∙ ap (λ (numbers : List ℤ). response_line periods t numbers) (c.row.ensures.sampled table here) in
+          let line = line-of table c.line.ensures.line c.loop-sample.invariant.periods (c.row.ensures.sampled table here) in
           c.in_ok-extend_from_slice.ensures.items
           ∙ ap (λ (bytes : List ℕ). bytes ++ c.line.result.now) (c.loop-sample.invariant.lines table is)
           ∙ ap (λ (bytes : List ℕ). response periods table t ++ bytes) line

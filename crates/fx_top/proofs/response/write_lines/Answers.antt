@@ -1,9 +1,9 @@
-use Rattle.std.proofs.Common.{◌≡◌, ℕ, ℤ, List, Option, ap, subst, ◌∙◌, arith}
+use Rattle.std.proofs.Common.{◌≡◌, ℕ, List, Option, ap, subst, ◌∙◌, arith}
 use Rattle.fx_io.specs.Sink.{TookProperPrefix, also_took}
 use Rattle.fx_tables.specs.Response.{response, response_line}
 use Rattle.fx_tables.specs.RowText.{periods_of}
 use Rattle.fx_top.proofs.Lines.{one-line-more, took-part}
-use Rattle.fx_top.proofs.Responses.{moved-table}
+use Rattle.fx_top.proofs.Responses.{line-of, moved-table}
 use Rattle.fx_io.proofs.Taken.{also_took-append}
 use Rattle.fx_top.proofs.response.write_lines.Goals as goal
 
@@ -12,7 +12,7 @@ returns-in-Err-clause-cut g c = λ table is.
     let periods = periods_of c.args.text.now in
     let t = c.loop-sample.sample in
     let here = moved-table c.advance.new.self c.args.replay.now table (c.advance.ensures.source ∙ c.loop-sample.invariant.source) (c.advance.ensures.stimulus ∙ c.loop-sample.invariant.stimulus) is in
-    let line = c.line.ensures.line ∙ ap (λ (p : List ℕ). response_line p t c.row.result.now) c.loop-sample.invariant.periods ∙ ap (λ (numbers : List ℤ). response_line periods t numbers) (c.row.ensures.sampled table here) in
+    let line = line-of table c.line.ensures.line c.loop-sample.invariant.periods (c.row.ensures.sampled table here) in
     took-part periods table t c.args.samples (g.K.Sink.taken c.args.out.now) (g.K.Sink.taken c.loop-sample.out) (g.K.Sink.taken c.put_all.new.sink) c.loop-sample-test.true (c.loop-sample.invariant.taken table is)
     (subst (λ (bytes : List ℕ). TookProperPrefix (g.K.Sink.taken c.loop-sample.out) (g.K.Sink.taken c.put_all.new.sink) bytes) line c.in-Err.ensures.cut)
 
@@ -29,7 +29,7 @@ loop-sample-preserved g c =
       periods = c.line.follows.holds-at-none ∙ c.loop-sample.invariant.periods;
       taken = λ table is.
           let here = moved-table c.advance.new.self c.args.replay.now table source stimulus is in
-          let line = c.line.ensures.line ∙ ap (λ (p : List ℕ). response_line p t c.row.result.now) c.loop-sample.invariant.periods ∙ ap (λ (numbers : List ℤ). response_line periods t numbers) (c.row.ensures.sampled table here) in
+          let line = line-of table c.line.ensures.line c.loop-sample.invariant.periods (c.row.ensures.sampled table here) in
           c.in_default.ensures.whole
           ∙ ap (λ (told : Option (List ℕ)). also_took told c.line.result.now) (c.loop-sample.invariant.taken table is)
           ∙ ap (also_took (also_took (g.K.Sink.taken c.args.out.now) (response periods table t))) line
