@@ -30,6 +30,13 @@ number_none base n d ds =
     (λ h e. let no : ⊥ = cc in absurd no)
     (λ h e. cond-false _ (number_after base (n * base + digit_value d) ds) None h)
 
+-- a byte that isn't one, or with which the number is too great
+pub digit_none : (base n d : ℕ) → (digit_value d < base → n * base + digit_value d < 2 ^ 128 → ⊥) → None ≡ number_after base n (d ∷ [])
+digit_none base n d never =
+    cond_both (is_digit base d && nat_lt (n * base + digit_value d) (2 ^ 128)) (Some (n * base + digit_value d)) None (λ o. None ≡ o)
+    (λ h. let both = and_parts (is_digit base d) (nat_lt (n * base + digit_value d) (2 ^ 128)) h in absurd (never (ltb-true (digit_value d) base both.0) (ltb-true (n * base + digit_value d) (2 ^ 128) both.1)))
+    (λ h. refl)
+
 -- what stands around the first apostrophe
 pub quote_none : (bytes : List ℕ) → length bytes ≤ quote_place bytes → around_quote bytes ≡ None
 quote_none [] h = refl
