@@ -1,0 +1,22 @@
+"""What of the machine is free."""
+
+import re
+
+
+def number_in(path, pattern):
+    try:
+        with open(path, encoding="ascii") as file:
+            found = re.search(pattern, file.read())
+    except OSError:
+        return None
+    return int(found[1]) if found else None
+
+
+def free():
+    """The free memory in bytes, under the limit of the control group too."""
+    found = [1024 * (number_in("/proc/meminfo", r"MemAvailable:\s+(\d+)") or 0)]
+    limit = number_in("/sys/fs/cgroup/memory.max", r"(\d+)")
+    held = number_in("/sys/fs/cgroup/memory.current", r"(\d+)")
+    if limit is not None and held is not None:
+        found.append(limit - held)
+    return min(found)
