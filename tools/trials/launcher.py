@@ -12,9 +12,8 @@ import unittest
 from .common import TOP, read, write
 
 
-# `version` prints a file's line; `try` answers by its words and ends as another file says; `ci` counts,
-# does what a third says, refuses crates that crates.txt doesn't list, and makes the program where it is there.
-TOOLCHAIN = """#!/bin/sh
+# `version` prints a file's line; `try` answers by its words and ends as another file says.
+RT = """#!/bin/sh
 case $1 in
     version) cat "$PRETENDED/line" ;;
     try)
@@ -24,22 +23,37 @@ case $1 in
         sed "s|MODEL|$2|" "$PRETENDED/ended" >&2
         . "$PRETENDED/meanwhile"
         ;;
-    ci)
-        echo proof >>"$PRETENDED/proofs"
-        ls crates/*/* >"$PRETENDED/copied"
-        pwd >"$PRETENDED/room"
-        . "$PRETENDED/meanwhile"
-        for crate in crates/*; do
-            grep -q "^${crate#crates/}:" crates.txt || { echo "rt: no check reads $crate"; exit 1; }
-        done
-        echo 'rt: low is kept: an earlier run'
-        [ -d crates/fx_prog ] || exit 0
-        echo 'rt: fx_prog proved'
-        mkdir -p crates/fx_prog/out
-        printf '#!/bin/sh\\necho "$@"\\n' >crates/fx_prog/out/fx_prog
-        chmod +x crates/fx_prog/out/fx_prog
-        ;;
 esac
+"""
+
+# `build` tells the crate and how many processors it was given, does what a file says, asks for the libraries
+# that it is to read, and makes what it is to make.
+RATTLE = """#!/bin/sh
+libraries=
+while [ $# -gt 0 ]; do
+    case $1 in
+        --crate-name) crate=$2 ;;
+        --extern) libraries="$libraries ${2#*=}" ;;
+        --jobs) jobs=$2 ;;
+        -o) made=$2 ;;
+    esac
+    shift
+done
+echo "$crate $jobs" >>"$PRETENDED/proofs"
+find "$PWD" -type f >>"$PRETENDED/copied"
+dirname "$PWD" >"$PRETENDED/room"
+. "$PRETENDED/meanwhile"
+for library in $libraries; do [ -d "$library" ] || { echo "no library $library"; exit 2; }; done
+if [ "$crate" = fx_prog ]; then echo made >"$made"; else mkdir "$made"; fi
+echo "logic=proved functions=1$(cat "$PRETENDED/word") statements=trusted"
+"""
+
+# Makes a program of an object file.
+LINK = """#!/bin/sh
+while [ "$1" != -o ]; do shift; done
+[ -f "$3" ] || exit 1
+printf '#!/bin/sh\\necho "$@"\\n' >"$2"
+chmod +x "$2"
 """
 
 
@@ -51,7 +65,7 @@ class Launcher(unittest.TestCase):
         room = tempfile.TemporaryDirectory()
         self.addCleanup(room.cleanup)
         self.top = os.path.join(room.name, "repository")
-        self.pretended = os.path.join(room.name, "pretended")
+        self.pretended, self.kit = os.path.join(room.name, "pretended"), os.path.join(room.name, "kit")
         self.launcher = os.path.join(self.top, "tilecatnip")
         self.source = os.path.join(self.top, "crates/low/src/lib.rt")
         self.model = os.path.join(room.name, "a b.mdl")
@@ -59,13 +73,16 @@ class Launcher(unittest.TestCase):
         for name in ("HANDLES", "crates/fx_prog/src/main.rt", "crates/low/src/lib.rt", "crates/low/specs/Low.antt", "crates/low/proofs/Lib.antt", "crates/low/must-fail/low.edit", "crates/other/src/lib.rt"):
             write(os.path.join(self.top, name), name)
         write(os.path.join(self.top, "crates.txt"), "# a list\nlow:\nother: low\nfx_prog: low std\n")
-        for name in ("tilecatnip", "tools/prove"):
+        for name in ("tilecatnip", "tools/prove", "tools/machine.py"):
             os.makedirs(os.path.dirname(os.path.join(self.top, name)), exist_ok=True)
             shutil.copy(os.path.join(TOP, name), os.path.join(self.top, name))
-        for name, text in (("rt", TOOLCHAIN), ("line", "kit 1\n"), ("proofs", ""), ("meanwhile", ""), ("ended", ENDED.format(0))):
+        for name, text in (("line", "kit 1\n"), ("proofs", ""), ("meanwhile", ""), ("word", ""), ("ended", ENDED.format(0))):
             self.pretend(name, text)
-        os.chmod(os.path.join(self.pretended, "rt"), 0o755)
-        self.path = self.pretended + ":" + os.environ["PATH"]
+        for name, text in (("rt", RT), ("rattle", RATTLE), ("rattle-link", LINK)):
+            write(os.path.join(self.kit, "bin", name), text)
+            os.chmod(os.path.join(self.kit, "bin", name), 0o755)
+        os.makedirs(os.path.join(self.kit, "rlibs/std.rlib"))
+        self.path = os.path.join(self.kit, "bin") + ":" + os.environ["PATH"]
 
     def pretend(self, name, text):
         write(os.path.join(self.pretended, name), text)
@@ -77,11 +94,14 @@ class Launcher(unittest.TestCase):
         return subprocess.run([by or self.launcher, *words], cwd=folder, env=self.environment(), capture_output=True, text=True, timeout=60)
 
     def proofs(self):
-        return len(read(os.path.join(self.pretended, "proofs")).splitlines())
+        """The crates whose proof was begun, each with the processors that it was given."""
+        return [tuple(line.split()) for line in read(os.path.join(self.pretended, "proofs")).splitlines()]
 
-    def prove(self, proofs):
+    def prove(self, *crates):
+        """A proof goes well, of these crates."""
+        self.pretend("proofs", "")
         done = self.run_with("prove")
-        self.assertEqual((done.returncode, done.stdout, self.proofs()), (0, "", proofs), done.stderr)
+        self.assertEqual((done.returncode, done.stdout, [name for name, _ in self.proofs()]), (0, "", [*crates]), done.stderr)
         return done.stderr
 
     def is_proved(self, **how):
@@ -89,10 +109,11 @@ class Launcher(unittest.TestCase):
         done = self.run_with("generate", "a b", "-", **how)
         self.assertEqual((done.returncode, done.stdout, done.stderr), (0, "generate a b -\n", ""))
 
-    def is_unproved(self, proofs):
+    def is_unproved(self):
         """The sources answer unproved, which is said in a line, and no proof is begun."""
+        self.pretend("proofs", "")
         done = self.run_with("generate", self.model, "-")
-        self.assertEqual((done.returncode, done.stdout, self.proofs()), (0, "tried generate\na model", proofs), done.stderr)
+        self.assertEqual((done.returncode, done.stdout, self.proofs()), (0, "tried generate\na model", []), done.stderr)
         self.assertIn("./tilecatnip prove", done.stderr)
         self.assertEqual(len(done.stderr.splitlines()), 1)
 
@@ -106,7 +127,7 @@ class Launcher(unittest.TestCase):
     def test_help_and_version_begin_nothing(self):
         for words, status, stream in (([], 2, "stderr"), (["help"], 0, "stdout"), (["-h"], 0, "stdout"), (["--help"], 0, "stdout")):
             done = self.run_with(*words)
-            self.assertEqual((done.returncode, self.proofs()), (status, 0))
+            self.assertEqual((done.returncode, self.proofs()), (status, []))
             self.assertIn("./tilecatnip generate", getattr(done, stream))
         done = self.run_with("--version")
         version = re.search(r"^version=(.*)$", read(self.launcher), re.M)[1]
@@ -118,58 +139,78 @@ class Launcher(unittest.TestCase):
         self.assertIn(usage, read(os.path.join(TOP, "crates/fx_top/src/answer.rt")))
         for words in (["prov"], ["simulate", "a"], ["generate", "a", "b", "c"], ["--verion"], ["--proved", "simulat", "a", "b"]):
             done = self.run_with(*words)
-            self.assertEqual((done.returncode, done.stdout, done.stderr, self.proofs()), (2, "", usage + "\n", 0))
+            self.assertEqual((done.returncode, done.stdout, done.stderr, self.proofs()), (2, "", usage + "\n", []))
         done = self.run_with("prove", "now")
-        self.assertEqual((done.returncode, self.proofs()), (2, 0))
+        self.assertEqual((done.returncode, self.proofs()), (2, []))
 
-    def test_proves_where_an_input_changed(self):
-        self.is_unproved(0)
-        self.prove(1)
+    def test_proves_what_changed_and_what_stands_on_it(self):
+        self.is_unproved()
+        self.prove("low", "fx_prog")
         self.is_proved()
-        self.assertIn("stands", self.prove(1))
+        self.assertIn("stands", self.prove())
         changes = (
-            lambda: write(self.source, "edited"),
-            lambda: os.remove(os.path.join(self.top, "crates/low/specs/Low.antt")),
-            lambda: write(os.path.join(self.top, "crates/low/proofs/Low.antt"), "added"),
-            lambda: write(os.path.join(self.top, "crates.txt"), "low:\nfx_prog: low\n"),
-            lambda: self.pretend("line", "kit 2\n"),
+            (lambda: write(self.source, "edited"), ["low", "fx_prog"]),
+            (lambda: os.remove(os.path.join(self.top, "crates/low/specs/Low.antt")), ["low", "fx_prog"]),
+            (lambda: write(os.path.join(self.top, "crates/low/proofs/Low.antt"), "added"), ["low", "fx_prog"]),
+            (lambda: write(os.path.join(self.top, "crates.txt"), "low:\nfx_prog: low\n"), ["fx_prog"]),
+            (lambda: self.pretend("line", "kit 2\n"), ["low", "fx_prog"]),
         )
-        for k, change in enumerate(changes):
+        for change, proved in changes:
             change()
-            self.is_unproved(k + 1)
-            self.prove(k + 2)
+            self.is_unproved()
+            self.prove(*proved)
             self.is_proved()
+            # what was made of other texts is gone
+            self.assertEqual(len(os.listdir(os.path.join(self.top, "crates/fx_prog/out/proved"))), 2)
 
     def test_proves_a_copy_of_what_the_program_stands_on(self):
-        self.assertIn("2 of 2 crates, 0 min", self.prove(1))
+        self.assertIn("2 of 2 crates, 0 min", self.prove("low", "fx_prog"))
         copied = read(os.path.join(self.pretended, "copied"))
-        self.assertIn("crates/low/specs", copied)
+        self.assertIn("low/specs", copied)
         self.assertNotIn("must-fail", copied)
         self.assertNotIn("other", copied)
         self.assertFalse(os.path.exists(read(os.path.join(self.pretended, "room")).strip()))
 
-    def test_proves_last_what_too_little_is_beside(self):
-        write(os.path.join(self.top, "crates.txt"), "low:\nother:\nsmall:\ntop: low other\nfx_prog: top small\n")
-        for name, lines in (("low", 90), ("other", 100), ("small", 1), ("top", 10)):
+    def prove_with_processors(self, processors):
+        """The checks of a proof from nothing on so many processors, in the order in which they began."""
+        self.pretend("proofs", "")
+        done = subprocess.run([self.launcher, "prove"], env={**self.environment(), "RT_JOBS": str(processors)}, capture_output=True, text=True, timeout=60)
+        self.assertEqual(done.returncode, 0, done.stderr)
+        return self.proofs()
+
+    def test_begins_where_most_waits_and_leaves_no_processor_idle(self):
+        write(os.path.join(self.top, "crates.txt"), "large:\nsmall:\nother:\nmiddle: small\nfx_prog: large middle other std\n")
+        for name, lines in (("large", 900), ("small", 100), ("other", 200), ("middle", 300)):
             write(os.path.join(self.top, f"crates/{name}/src/lib.rt"), "a line\n" * lines)
-        self.pretend("meanwhile", 'cat crates.txt; echo; echo "$RT_JOBS" >>"$PRETENDED/jobs"')
-        self.prove(2)
-        log = read(os.path.join(self.top, "crates/fx_prog/out/prove.log"))
-        first, last = [set(re.findall(r"^\w+(?=:)", part, re.M)) - {"rt"} for part in log.split("\n\n")[:2]]
-        self.assertEqual((first, last), ({"low", "other", "small"}, {"low", "other", "small", "top", "fx_prog"}))
-        self.assertEqual(read(os.path.join(self.pretended, "jobs")).splitlines()[1:], [""])
+        # (small has middle behind it)
+        self.assertEqual([name for name, _ in self.prove_with_processors(1)], ["large", "small", "middle", "other", "fx_prog"])
+        self.pretend("line", "kit 2\n")
+        self.pretend("meanwhile", "case $crate in large | other) sleep 3 ;; esac")
+        self.assertEqual(dict(self.prove_with_processors(4)), {"large": "1", "small": "1", "other": "2", "middle": "1", "fx_prog": "4"})
+
+    def test_takes_up_again_what_was_killed(self):
+        self.pretend("meanwhile", '[ -e "$PRETENDED/killed" ] || { : >"$PRETENDED/killed"; kill -9 $$; }')
+        self.assertEqual(self.prove_with_processors(2), [("low", "2"), ("low", "1"), ("fx_prog", "1")])
+        self.is_proved()
 
     def test_notices_an_edit_during_the_proof(self):
         self.pretend("meanwhile", f"echo edited >'{self.source}'")
-        self.prove(1)
+        self.prove("low", "fx_prog")
         self.pretend("meanwhile", "")
-        self.is_unproved(1)
+        self.is_unproved()
 
     def test_says_why_a_crate_is_not_proved(self):
-        self.pretend("meanwhile", "printf '== low\\na reason\\nrt: low NOT PROVED\\n== fx_prog\\nrt: fx_prog proved\\n'; exit 1")
-        said = self.fails(["prove"], "not proved")
-        self.assertIn("== low\na reason\nrt: low NOT PROVED\n", said)
-        self.assertEqual(self.proofs(), 1)
+        write(os.path.join(self.top, "crates.txt"), "low:\nother:\nfx_prog: low other std\n")
+        self.pretend("meanwhile", "[ $crate = other ] || { echo a reason; exit 1; }")
+        said = self.fails(["prove"], "not proved (1 of 3 crates")
+        self.assertIn("== low\na reason\nlow NOT proved\n", said)
+        self.assertEqual({name for name, _ in self.proofs()}, {"low", "other"})
+        # all is proved, but over something that no crate here may stand on
+        self.pretend("meanwhile", "")
+        self.pretend("word", " bugs=1")
+        self.assertIn("logic=proved functions=1 bugs=1", self.fails(["prove"], "not proved (1 of 3 crates"))
+        self.pretend("word", "")
+        self.prove("low", "fx_prog")
         shutil.rmtree(os.path.join(self.top, "crates/fx_prog/out"))
         write(os.path.join(self.top, "crates/fx_prog/out"), "a file where a folder is wanted")
         self.assertEqual(len(self.fails(["prove"], "can't be built").splitlines()), 1)
@@ -194,7 +235,7 @@ class Launcher(unittest.TestCase):
             self.assertFalse(os.path.exists(read(os.path.join(self.pretended, "room")).strip()))
             os.remove(os.path.join(self.pretended, "process"))
         self.pretend("meanwhile", "")
-        self.prove(4)
+        self.prove("low", "fx_prog")
         self.is_proved()
 
     def test_a_signal_ends_an_unproved_answer(self):
@@ -227,7 +268,7 @@ class Launcher(unittest.TestCase):
         words = ["--proved", "generate", "a b", "-"]
         self.fails(words, "./tilecatnip prove")
         self.fails(["--program"], "./tilecatnip prove")
-        self.prove(1)
+        self.prove("low", "fx_prog")
         self.assertEqual(self.run_with(*words).stdout, "generate a b -\n")
         self.assertEqual(self.run_with("--program").stdout, os.path.join(os.path.realpath(self.top), "crates/fx_prog/out/fx_prog") + "\n")
 
@@ -254,7 +295,7 @@ class Launcher(unittest.TestCase):
         absolute, relative = (os.path.join(folder.name, name) for name in ("absolute", "relative"))
         os.symlink(self.launcher, absolute)
         os.symlink("absolute", relative)
-        self.prove(1)
+        self.prove("low", "fx_prog")
         self.is_proved(by=absolute, folder=folder.name)
         self.is_proved(by=relative, folder="/")
         self.is_proved(by="./relative", folder=folder.name)
@@ -268,7 +309,7 @@ class Launcher(unittest.TestCase):
         for words in (["prove"], ["generate", self.model, "-"]):
             self.assertEqual(len(self.fails(words, "isn't in the path").splitlines()), 1)
         self.path = with_rt
-        self.prove(1)
+        self.prove("low", "fx_prog")
         self.path = without
         self.is_proved()
 
