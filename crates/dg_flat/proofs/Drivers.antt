@@ -1,6 +1,7 @@
 -- What the lines drive, as one more line comes.
-use Rattle.std.proofs.Common.{◌≡◌, ℕ, ◌<◌, ◌+◌, Bool, true, false, cond, ◌&&◌, ◌||◌, eqb, List, [], ◌∷◌, ◌++◌, min, set, get_or, add-zero, refl, sym, ap, subst, ◌∙◌, inl, inr, arith}
+use Rattle.std.proofs.Common.{◌≡◌, ℕ, ◌<◌, ◌+◌, Bool, true, false, cond, ◌&&◌, ◌||◌, eqb, List, [], ◌∷◌, ◌++◌, length, take, min, set, get_or, add-zero, refl, sym, ap, subst, ◌∙◌, inl, inr, arith}
 use Rattle.std.proofs.lemmas.Bool.{cases_eq, eq-eqb, ne_eqb}
+use Rattle.std.proofs.lemmas.List.{take_more}
 use Rattle.std.proofs.lemmas.List.Folds.{list_any-append}
 use Rattle.dg_model.specs.declared.nested.NestedBlock.{NestedBlock}
 use Rattle.dg_model.specs.declared.nested.NestedLine.{NestedLine}
@@ -17,6 +18,9 @@ use Rattle.dg_flat.proofs.Firsts.{count_push}
 -- what is read where no line stands
 abbrev pub no_line : NestedLine
 no_line = record { from = 0; from_port = 0; to = 0; target = Port 0 }
+
+pub take_line : (lines : List NestedLine) (i : ℕ) → i < length lines → take (i + 1) lines ≡ take i lines ++ get_or lines i no_line ∷ []
+take_line lines i inside = take_more lines i no_line inside
 
 -- ---- drivers
 

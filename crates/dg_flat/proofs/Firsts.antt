@@ -9,7 +9,7 @@ use Rattle.std.proofs.lemmas.List.Sums.{sum_by-append, count_by-le-length}
 use Rattle.std.proofs.lemmas.Option.{slice_get-get_or}
 use Rattle.dg_model.specs.declared.nested.NestedBlock.{NestedBlock}
 use Rattle.dg_model.specs.declared.nested.Part.{Part}
-use Rattle.dg_model.specs.declared.nested.Part.TheVariants.{Plain, In, Out, SubSystem, Enable}
+use Rattle.dg_model.specs.declared.nested.Part.TheVariants.{Enable}
 use Rattle.dg_flat.specs.Parts.{same_system, first_in, count_in, is_enable_port}
 use Rattle.dg_flat.specs.inner.Slots.{slot_of, system_of, first_of, HaveParents}
 use Rattle.dg_flat.specs.inner.Tables.{IsTable}
@@ -71,63 +71,9 @@ other_at system k apart =
       | inr e ↦ e
     ]
 
--- ---- tables of them
-
 pub first_none : (o : Option ℕ) → first_of o None ≡ o
 first_none None = refl
 first_none (Some n) = refl
-
-pub noted_more : (done : List NestedBlock) (block : NestedBlock) (is_such : Part → Bool) (count place slot : ℕ) (table : List (Option ℕ)) → length done ≡ place → slot ≡ slot_of block.parent → is_such block.part ≡ true → slot_of block.parent < count →
-    IsTable count (λ slot. first_in done (system_of slot) is_such) table →
-    IsTable count (λ slot. first_in (done ++ block ∷ []) (system_of slot) is_such) (set table slot (first_of (get_or table slot None) (Some place)))
-noted_more done block is_such count place slot table long slot_is such inside is =
-    rw (sym long, slot_is) (
-    let at = slot_of block.parent in
-    let test : ℕ → NestedBlock → Bool = λ slot b. same_system b.parent (system_of slot) && is_such b.part in
-    let step : (slot : ℕ) (b : Bool) → test slot block ≡ b → first_in (done ++ block ∷ []) (system_of slot) is_such ≡ first_of (first_in done (system_of slot) is_such) (cond b (Some (length done)) None) =
-    λ slot b e. position_push (test slot) done block ∙ ap (λ (v : Bool). first_of (first_in done (system_of slot) is_such) (cond v (Some (length done)) None)) e in
-    table_set count (λ slot. first_in done (system_of slot) is_such) (λ slot. first_in (done ++ block ∷ []) (system_of slot) is_such) table at
-    (first_of (get_or table at None) (Some (length done))) inside
-    (ap (λ (o : Option ℕ). first_of o (Some (length done))) (is.at at None inside) ∙ sym (step at true (rw (same_at, such) refl)))
-    (λ k below apart. sym (step k false (rw (other_at block.parent k apart) refl) ∙ first_none (first_in done (system_of k) is_such)))
-    is)
-
-pub noted_same : (done : List NestedBlock) (block : NestedBlock) (is_such : Part → Bool) (count : ℕ) (table : List (Option ℕ)) → is_such block.part ≡ false →
-    IsTable count (λ slot. first_in done (system_of slot) is_such) table →
-    IsTable count (λ slot. first_in (done ++ block ∷ []) (system_of slot) is_such) table
-noted_same done block is_such count table not_such is =
-    table_same count (λ slot. first_in done (system_of slot) is_such) (λ slot. first_in (done ++ block ∷ []) (system_of slot) is_such) table
-    (λ k below.
-    let test : NestedBlock → Bool = λ b. same_system b.parent (system_of k) && is_such b.part in
-    let fails : test block ≡ false = rw not_such (and_false (same_system block.parent (system_of k))) in
-    sym (position_push test done block ∙ ap (λ (v : Bool). first_of (first_in done (system_of k) is_such) (cond v (Some (length done)) None)) fails ∙ first_none (first_in done (system_of k) is_such)))
-    is
-
-pub counted_more : (done : List NestedBlock) (block : NestedBlock) (is_such : Part → Bool) (count slot old : ℕ) (table : List ℕ) → slot ≡ slot_of block.parent → old ≡ get_or table slot old → is_such block.part ≡ true → slot_of block.parent < count →
-    IsTable count (λ slot. count_in done (system_of slot) is_such) table →
-    IsTable count (λ slot. count_in (done ++ block ∷ []) (system_of slot) is_such) (set table slot (old + 1))
-counted_more done block is_such count slot old table slot_is old_is such inside is =
-    rw slot_is (
-    let at = slot_of block.parent in
-    let test : ℕ → NestedBlock → Bool = λ slot b. same_system b.parent (system_of slot) && is_such b.part in
-    let step : (slot : ℕ) (b : Bool) → test slot block ≡ b → count_in (done ++ block ∷ []) (system_of slot) is_such ≡ count_in done (system_of slot) is_such + cond b 1 0 =
-    λ slot b e. count_push (test slot) done block ∙ ap (λ (v : Bool). count_in done (system_of slot) is_such + cond v 1 0) e in
-    table_set count (λ slot. count_in done (system_of slot) is_such) (λ slot. count_in (done ++ block ∷ []) (system_of slot) is_such) table at
-    (old + 1) inside
-    (ap (λ (n : ℕ). n + 1) (old_is ∙ ap (λ (k : ℕ). get_or table k old) slot_is ∙ is.at at old inside) ∙ sym (step at true (rw (same_at, such) refl)))
-    (λ k below apart. sym (step k false (rw (other_at block.parent k apart) refl) ∙ add-zero (count_in done (system_of k) is_such)))
-    is)
-
-pub counted_same : (done : List NestedBlock) (block : NestedBlock) (is_such : Part → Bool) (count : ℕ) (table : List ℕ) → is_such block.part ≡ false →
-    IsTable count (λ slot. count_in done (system_of slot) is_such) table →
-    IsTable count (λ slot. count_in (done ++ block ∷ []) (system_of slot) is_such) table
-counted_same done block is_such count table not_such is =
-    table_same count (λ slot. count_in done (system_of slot) is_such) (λ slot. count_in (done ++ block ∷ []) (system_of slot) is_such) table
-    (λ k below.
-    let test : NestedBlock → Bool = λ b. same_system b.parent (system_of k) && is_such b.part in
-    let fails : test block ≡ false = rw not_such (and_false (same_system block.parent (system_of k))) in
-    sym (count_push test done block ∙ ap (λ (v : Bool). count_in done (system_of k) is_such + cond v 1 0) fails ∙ add-zero (count_in done (system_of k) is_such)))
-    is
 
 -- ---- one more block
 
@@ -144,11 +90,74 @@ pub count_few : (blocks : List NestedBlock) (system : Option ℕ) (is_such : Par
 count_few blocks system is_such place inside = omega (arith, count_by-le-length (λ block. same_system block.parent system && is_such block.part) (take place blocks), length_done blocks place inside)
 
 pub not_enable_port : (part : Part) → ((reset : Bool) → part ≡ Enable reset → ⊥) → is_enable_port part ≡ false
-not_enable_port (Plain block) not = refl
-not_enable_port (In block number) not = refl
-not_enable_port (Out block number) not = refl
-not_enable_port SubSystem not = refl
 not_enable_port (Enable reset) not = absurd (not reset refl)
+not_enable_port other not = refl
 
 pub slot_within : (blocks : List NestedBlock) (place : ℕ) (block : NestedBlock) → HaveParents blocks → place < length blocks → get_or blocks place block ≡ block → slot_of block.parent ≤ place
 slot_within blocks place block have inside at = have.before place block (slice_get-get_or blocks place block inside ∙ ap (λ (b : NestedBlock). Some b) at)
+
+-- ---- tables of what is gathered of the blocks of each System
+
+abbrev in_slot : (Part → Bool) → ℕ → NestedBlock → Bool
+in_slot is_such slot block = same_system block.parent (system_of slot) && is_such block.part
+
+-- a block that doesn't pass the test changes nothing
+abbrev Skips : {X : Type 0} → ((NestedBlock → Bool) → List NestedBlock → X) → Type 0
+Skips gather = (test : NestedBlock → Bool) (done : List NestedBlock) (block : NestedBlock) → test block ≡ false → gather test done ≡ gather test (done ++ block ∷ [])
+
+gathered_same : {X : Type 0} (gather : (NestedBlock → Bool) → List NestedBlock → X) → Skips gather → (blocks : List NestedBlock) (i : ℕ) (block : NestedBlock) (is_such : Part → Bool) (table : List X) →
+    i < length blocks → block ≡ get_or blocks i block → is_such block.part ≡ false →
+    IsTable (suc (length blocks)) (λ slot. gather (in_slot is_such slot) (take i blocks)) table → IsTable (suc (length blocks)) (λ slot. gather (in_slot is_such slot) (take (i + 1) blocks)) table
+gathered_same gather skips blocks i block is_such table inside at not_such is =
+    rw (take_block blocks i block inside (sym at))
+    (table_same (suc (length blocks)) (λ slot. gather (in_slot is_such slot) (take i blocks)) (λ slot. gather (in_slot is_such slot) (take i blocks ++ block ∷ [])) table
+    (λ k below. skips (in_slot is_such k) (take i blocks) block (ap (λ (such : Bool). same_system block.parent (system_of k) && such) not_such ∙ and_false (same_system block.parent (system_of k))))
+    is)
+
+gathered_more : {X : Type 0} (gather : (NestedBlock → Bool) → List NestedBlock → X) → Skips gather → (blocks : List NestedBlock) (i : ℕ) (block : NestedBlock) (is_such : Part → Bool) (slot : ℕ) (table : List X) (new : X) →
+    HaveParents blocks → i < length blocks → block ≡ get_or blocks i block → slot ≡ slot_of block.parent → is_such block.part ≡ true →
+    ((test : NestedBlock → Bool) → test block ≡ true → ((d : X) → get_or table slot d ≡ gather test (take i blocks)) → new ≡ gather test (take i blocks ++ block ∷ [])) →
+    IsTable (suc (length blocks)) (λ slot. gather (in_slot is_such slot) (take i blocks)) table → IsTable (suc (length blocks)) (λ slot. gather (in_slot is_such slot) (take (i + 1) blocks)) (set table slot new)
+gathered_more gather skips blocks i block is_such slot table new have inside at slot_is such here is =
+    let own : slot < suc (length blocks) = omega (arith, slot_inside blocks i block have inside (sym at), slot_is) in
+    let test = in_slot is_such slot in
+    let known : test block ≡ true = ap (λ (k : ℕ). same_system block.parent (system_of k) && is_such block.part) slot_is ∙ ap (λ (same : Bool). same && is_such block.part) (same_at block.parent) ∙ such in
+    rw (take_block blocks i block inside (sym at))
+    (table_set (suc (length blocks)) (λ slot. gather (in_slot is_such slot) (take i blocks)) (λ slot. gather (in_slot is_such slot) (take i blocks ++ block ∷ [])) table slot new own
+    (here test known (λ d. is.at slot d own))
+    (λ k below apart. skips (in_slot is_such k) (take i blocks) block (ap (λ (same : Bool). same && is_such block.part) (other_at block.parent k (λ same. apart (same ∙ sym slot_is)))))
+    is)
+
+position_skips : Skips position
+position_skips test done block fails = sym (position_push test done block ∙ ap (λ (b : Bool). first_of (position test done) (cond b (Some (length done)) None)) fails ∙ first_none (position test done))
+
+count_skips : Skips count_by
+count_skips test done block fails = sym (count_push test done block ∙ ap (λ (b : Bool). count_by test done + cond b 1 0) fails ∙ add-zero (count_by test done))
+
+pub noted_same : (blocks : List NestedBlock) (i : ℕ) (block : NestedBlock) (is_such : Part → Bool) (table : List (Option ℕ)) → i < length blocks → block ≡ get_or blocks i block → is_such block.part ≡ false →
+    IsTable (suc (length blocks)) (λ slot. first_in (take i blocks) (system_of slot) is_such) table → IsTable (suc (length blocks)) (λ slot. first_in (take (i + 1) blocks) (system_of slot) is_such) table
+noted_same = gathered_same position position_skips
+
+pub noted_more : (blocks : List NestedBlock) (i : ℕ) (block : NestedBlock) (is_such : Part → Bool) (slot : ℕ) (table : List (Option ℕ)) →
+    HaveParents blocks → i < length blocks → block ≡ get_or blocks i block → slot ≡ slot_of block.parent → is_such block.part ≡ true →
+    IsTable (suc (length blocks)) (λ slot. first_in (take i blocks) (system_of slot) is_such) table →
+    IsTable (suc (length blocks)) (λ slot. first_in (take (i + 1) blocks) (system_of slot) is_such) (set table slot (first_of (get_or table slot None) (Some i)))
+noted_more blocks i block is_such slot table have inside at slot_is such is =
+    gathered_more position position_skips blocks i block is_such slot table (first_of (get_or table slot None) (Some i)) have inside at slot_is such
+    (λ test passes known.
+    let done = take i blocks in
+    ap (λ (o : Option ℕ). first_of o (Some i)) (known None)
+    ∙ sym (position_push test done block ∙ ap (λ (b : Bool). first_of (position test done) (cond b (Some (length done)) None)) passes ∙ ap (λ (n : ℕ). first_of (position test done) (Some n)) (length_done blocks i inside)))
+    is
+
+pub counted_same : (blocks : List NestedBlock) (i : ℕ) (block : NestedBlock) (is_such : Part → Bool) (table : List ℕ) → i < length blocks → block ≡ get_or blocks i block → is_such block.part ≡ false →
+    IsTable (suc (length blocks)) (λ slot. count_in (take i blocks) (system_of slot) is_such) table → IsTable (suc (length blocks)) (λ slot. count_in (take (i + 1) blocks) (system_of slot) is_such) table
+counted_same = gathered_same count_by count_skips
+
+pub counted_more : (blocks : List NestedBlock) (i : ℕ) (block : NestedBlock) (is_such : Part → Bool) (slot old : ℕ) (table : List ℕ) →
+    HaveParents blocks → i < length blocks → block ≡ get_or blocks i block → slot ≡ slot_of block.parent → old ≡ get_or table slot old → is_such block.part ≡ true →
+    IsTable (suc (length blocks)) (λ slot. count_in (take i blocks) (system_of slot) is_such) table → IsTable (suc (length blocks)) (λ slot. count_in (take (i + 1) blocks) (system_of slot) is_such) (set table slot (old + 1))
+counted_more blocks i block is_such slot old table have inside at slot_is old_is such is =
+    gathered_more count_by count_skips blocks i block is_such slot table (old + 1) have inside at slot_is such
+    (λ test passes known. ap (λ (n : ℕ). n + 1) (old_is ∙ known old) ∙ sym (count_push test (take i blocks) block ∙ ap (λ (b : Bool). count_by test (take i blocks) + cond b 1 0) passes))
+    is

@@ -2,7 +2,7 @@
 use Rattle.std.proofs.Common.{◌≡◌, ℕ, suc, ◌<◌, ◌+◌, List, [], ◌∷◌, ◌++◌, length, take, get_or, Option, Some, None, zero-add, sym, ap, ◌∙◌, arith}
 use Rattle.std.specs.Prelude.{option_map}
 use Rattle.std.specs.List.{enumerate_from, filter_map, cons_option}
-use Rattle.std.proofs.lemmas.List.{take_more, append-nil}
+use Rattle.std.proofs.lemmas.List.{take_more, length-take, append-nil}
 use Rattle.std.proofs.lemmas.List.Elements.{filter_map-append}
 use Rattle.dg_model.specs.declared.diagram.Block.{Block}
 use Rattle.dg_model.specs.declared.nested.NestedBlock.{NestedBlock}
@@ -34,15 +34,19 @@ push_is h xs x =
     ap (filter_map h) (numbered_push 0 xs x) ∙ filter_map-append h (enumerate_from 0 xs) ((0 + length xs, x) ∷ [])
     ∙ ap (λ (n : ℕ). filter_map h (enumerate_from 0 xs) ++ cons_option (h (n, x)) []) (zero-add (length xs))
 
-pub flat_more : {X Y : Type 0} (h : ℕ × X → Option Y) (xs : List X) (i : ℕ) (x : X) (y : Y) → i < length xs → get_or xs i x ≡ x → length (take i xs) ≡ i → h (i, x) ≡ Some y →
-    filter_map h (enumerate_from 0 (take (i + 1) xs)) ≡ filter_map h (enumerate_from 0 (take i xs)) ++ y ∷ []
-flat_more {X} {Y} h xs i x y inside at long is =
-    ap (λ (l : List X). filter_map h (enumerate_from 0 l)) (take_more xs i x inside ∙ ap (λ (z : X). take i xs ++ z ∷ []) at)
-    ∙ push_is h (take i xs) x ∙ ap (λ (o : Option Y). filter_map h (enumerate_from 0 (take i xs)) ++ cons_option o []) (ap (λ (n : ℕ). h (n, x)) long ∙ is)
+flat_next : {X Y : Type 0} (h : ℕ × X → Option Y) (xs : List X) (i : ℕ) (x : X) → i < length xs → x ≡ get_or xs i x →
+    filter_map h (enumerate_from 0 (take (i + 1) xs)) ≡ filter_map h (enumerate_from 0 (take i xs)) ++ cons_option (h (i, x)) []
+flat_next {X} h xs i x inside at =
+    ap (λ (l : List X). filter_map h (enumerate_from 0 l)) (take_more xs i x inside ∙ ap (λ (z : X). take i xs ++ z ∷ []) (sym at))
+    ∙ push_is h (take i xs) x ∙ ap (λ (n : ℕ). filter_map h (enumerate_from 0 (take i xs)) ++ cons_option (h (n, x)) []) long where
+      long : length (take i xs) ≡ i
+      long = rw length-take (omega arith)
 
-pub flat_same : {X Y : Type 0} (h : ℕ × X → Option Y) (xs : List X) (i : ℕ) (x : X) → i < length xs → get_or xs i x ≡ x → length (take i xs) ≡ i → h (i, x) ≡ None →
+pub flat_more : {X Y : Type 0} (h : ℕ × X → Option Y) (xs : List X) (i : ℕ) (x : X) (y : Y) → i < length xs → x ≡ get_or xs i x → h (i, x) ≡ Some y →
+    filter_map h (enumerate_from 0 (take (i + 1) xs)) ≡ filter_map h (enumerate_from 0 (take i xs)) ++ y ∷ []
+flat_more {X} {Y} h xs i x y inside at is = flat_next h xs i x inside at ∙ ap (λ (o : Option Y). filter_map h (enumerate_from 0 (take i xs)) ++ cons_option o []) is
+
+pub flat_same : {X Y : Type 0} (h : ℕ × X → Option Y) (xs : List X) (i : ℕ) (x : X) → i < length xs → x ≡ get_or xs i x → h (i, x) ≡ None →
     filter_map h (enumerate_from 0 (take (i + 1) xs)) ≡ filter_map h (enumerate_from 0 (take i xs))
-flat_same {X} {Y} h xs i x inside at long is =
-    ap (λ (l : List X). filter_map h (enumerate_from 0 l)) (take_more xs i x inside ∙ ap (λ (z : X). take i xs ++ z ∷ []) at)
-    ∙ push_is h (take i xs) x ∙ ap (λ (o : Option Y). filter_map h (enumerate_from 0 (take i xs)) ++ cons_option o []) (ap (λ (n : ℕ). h (n, x)) long ∙ is)
-    ∙ append-nil (filter_map h (enumerate_from 0 (take i xs)))
+flat_same {X} {Y} h xs i x inside at is =
+    flat_next h xs i x inside at ∙ ap (λ (o : Option Y). filter_map h (enumerate_from 0 (take i xs)) ++ cons_option o []) is ∙ append-nil (filter_map h (enumerate_from 0 (take i xs)))

@@ -1,12 +1,16 @@
 -- The ports at the place of a block.
-use Rattle.std.proofs.Common.{◌≡◌, ℕ, ◌<◌, List, length, get_or, Option, Some, None, sym, ap, ◌∙◌, refl, inl, inr}
+use Rattle.std.proofs.Common.{◌≡◌, ℕ, suc, ◌<◌, true, List, length, get_or, Option, Some, None, sym, ap, ◌∙◌, refl, inl, inr}
 use Rattle.std.specs.Prelude.{slice_get}
-use Rattle.std.proofs.lemmas.Bool.{cases_lt}
+use Rattle.std.proofs.lemmas.Bool.{cases_lt, false≢true}
 use Rattle.std.proofs.lemmas.Option.{slice_get-get_or, slice_get_past}
 use Rattle.dg_model.specs.declared.nested.NestedBlock.{NestedBlock}
 use Rattle.dg_model.specs.declared.nested.Part.{Part}
-use Rattle.dg_flat.specs.Parts.{inputs_of, outputs_of}
-use Rattle.dg_flat.specs.inner.Ports.{inputs_at, outputs_at}
+use Rattle.dg_model.specs.declared.nested.Part.TheVariants.{SubSystem}
+use Rattle.dg_flat.specs.Parts.{inputs_of, outputs_of, is_subsystem}
+use Rattle.dg_flat.specs.declared.numbering.Side.{Side}
+use Rattle.dg_flat.specs.declared.numbering.Side.TheVariants.{In, Out}
+use Rattle.dg_flat.specs.inner.Numbering.{count_at}
+use Rattle.dg_flat.specs.inner.Ports.{ports_of, ports_at, inputs_at, outputs_at}
 
 pub read_at : (blocks : List NestedBlock) (place : ℕ) (block : NestedBlock) → place < length blocks → block ≡ get_or blocks place block → slice_get blocks place ≡ Some block
 read_at blocks place block inside at = slice_get-get_or blocks place block inside ∙ ap (λ (b : NestedBlock). Some b) (sym at)
@@ -17,11 +21,14 @@ inputs_is blocks place block at = rw at refl
 pub outputs_is : (blocks : List NestedBlock) (place : ℕ) (block : NestedBlock) → slice_get blocks place ≡ Some block → outputs_at blocks place ≡ outputs_of blocks place block.part
 outputs_is blocks place block at = rw at refl
 
-pub inputs_read : (blocks : List NestedBlock) (place : ℕ) (block : NestedBlock) (part : Part) → place < length blocks → block ≡ get_or blocks place block → block.part ≡ part → inputs_of blocks place part ≡ inputs_at blocks place
-inputs_read blocks place block part inside at is = sym (inputs_is blocks place block (read_at blocks place block inside at) ∙ ap (inputs_of blocks place) is)
+pub ports_read : (blocks : List NestedBlock) (side : Side) (place : ℕ) (block : NestedBlock) → place < length blocks → block ≡ get_or blocks place block → ports_of blocks side place block.part ≡ ports_at blocks side place
+ports_read blocks side place block inside at = let there : slice_get blocks place ≡ Some block = read_at blocks place block inside at in rw there refl
 
-pub outputs_read : (blocks : List NestedBlock) (place : ℕ) (block : NestedBlock) (part : Part) → place < length blocks → block ≡ get_or blocks place block → block.part ≡ part → outputs_of blocks place part ≡ outputs_at blocks place
-outputs_read blocks place block part inside at is = sym (outputs_is blocks place block (read_at blocks place block inside at) ∙ ap (outputs_of blocks place) is)
+-- a subsystem has the ports that stand in it
+pub ports_inside : (blocks : List NestedBlock) (side : Side) (place : ℕ) (part : Part) → is_subsystem part ≡ true → count_at blocks side (suc place) ≡ ports_of blocks side place part
+ports_inside blocks In place SubSystem is = refl
+ports_inside blocks Out place SubSystem is = refl
+ports_inside blocks side place other is = absurd (false≢true is)
 
 pub some_inside : (blocks : List NestedBlock) (place : ℕ) (block : NestedBlock) → slice_get blocks place ≡ Some block → place < length blocks
 some_inside blocks place block at =

@@ -4,7 +4,7 @@ use Rattle.std.specs.Prelude.{⊤}
 use Rattle.fx_type.specs.declared.decimal.Decimal.{Decimal}
 use Rattle.dg_model.specs.declared.diagram.Block.{Block}
 use Rattle.dg_model.specs.declared.kind.Kind.{Kind}
-use Rattle.dg_model.specs.declared.kind.Kind.TheVariants.{Inport, Outport, Constant, Ground, Sum, Gain, Product, Switch, Relational, Logic, Convert, Delay, Mux, Demux, RateTransition, Pass, EnableTest, EnOut, Terminator}
+use Rattle.dg_model.specs.declared.kind.Kind.TheVariants.{Inport, Outport, Pass, EnableTest, EnOut}
 use Rattle.dg_model.specs.declared.nested.NestedBlock.{NestedBlock}
 use Rattle.dg_model.specs.declared.row.Role.{Role}
 use Rattle.dg_model.specs.Library.{row_of, IsReadable, HasPorts}
@@ -21,23 +21,10 @@ ByRole kind Role.Plain = ⊤
 by_role : (kind : Kind) → ByRole kind (row_of kind).place.role
 by_role (Inport number width) = (width, refl)
 by_role (Outport number) = refl
-by_role (Constant value) = tt
-by_role Ground = tt
-by_role (Sum negative) = tt
-by_role (Gain value param) = tt
-by_role Product = tt
-by_role (Switch criterion threshold) = tt
-by_role (Relational operator) = tt
-by_role (Logic operator) = tt
-by_role (Convert stored) = tt
-by_role (Delay delay initial own) = tt
-by_role (Mux sizes) = tt
-by_role (Demux sizes) = tt
-by_role (RateTransition period initial) = tt
 by_role (Pass width) = refl
 by_role EnableTest = refl
 by_role (EnOut own initial) = (own, initial, refl)
-by_role Terminator = tt
+by_role other = tt
 
 -- the kind of an Inport's block, by its System
 abbrev pub IsInKind : Option ℕ → ℕ → Kind → Type 0
@@ -48,17 +35,9 @@ pub in_kind : (system : Option ℕ) (number : ℕ) (kind : Kind) → IsInRole sy
 in_kind system number kind has = go system (row_of kind).place.role (by_role kind) has where
   go : (system : Option ℕ) (role : Role) → ByRole kind role → IsInRole system number role → IsInKind system number kind
   go None (Role.RootInput own) by has = (by.0, by.1 ∙ ap (λ (n : ℕ). Inport n by.0) has)
-  go (Some system) (Role.RootInput own) by has = absurd has
-  go None (Role.InnerPort width) by has = absurd has
   go (Some system) (Role.InnerPort width) by has = (width, by)
-  go None (Role.RootOutput own) by has = absurd has
-  go (Some system) (Role.RootOutput own) by has = absurd has
-  go None Role.EnabledOutput by has = absurd has
-  go (Some system) Role.EnabledOutput by has = absurd has
-  go None Role.Control by has = absurd has
-  go (Some system) Role.Control by has = absurd has
-  go None Role.Plain by has = absurd has
-  go (Some system) Role.Plain by has = absurd has
+  go None other by has = absurd has
+  go (Some system) other by has = absurd has
 
 -- the kind of an Outport's block, by its System
 abbrev pub IsOutKind : List NestedBlock → Option ℕ → ℕ → Kind → Type 0
@@ -69,17 +48,10 @@ pub out_kind : (blocks : List NestedBlock) (system : Option ℕ) (number : ℕ) 
 out_kind blocks system number kind has = go system (row_of kind).place.role (by_role kind) has where
   go : (system : Option ℕ) (role : Role) → ByRole kind role → IsOutRole blocks system number role → IsOutKind blocks system number kind
   go None (Role.RootOutput own) by has = by ∙ ap (λ (n : ℕ). Outport n) has
-  go (Some system) (Role.RootOutput own) by has = absurd has
-  go None Role.EnabledOutput by has = absurd has
   go (Some system) Role.EnabledOutput by has = inr (has, by)
-  go None (Role.InnerPort width) by has = absurd has
   go (Some system) (Role.InnerPort width) by has = inl (width, by)
-  go None (Role.RootInput own) by has = absurd has
-  go (Some system) (Role.RootInput own) by has = absurd has
-  go None Role.Control by has = absurd has
-  go (Some system) Role.Control by has = absurd has
-  go None Role.Plain by has = absurd has
-  go (Some system) Role.Plain by has = absurd has
+  go None other by has = absurd has
+  go (Some system) other by has = absurd has
 
 -- ---- ports
 

@@ -136,15 +136,18 @@ fn flat_block(
         → IfOk result (λ flat. flat ≡
         flat_block_of blocks.now place (control_of blocks.now block.now.parent) block.now.part) }
 {
-    let path = path_in(alloc, paths, block.parent, &block.name)?;
-    let control = systems.control(blocks, block.parent);
     match &block.part {
         Part::Plain(own) | Part::In(own, _) | Part::Out(own, _) => {
+            let path = path_in(alloc, paths, block.parent, &block.name)?;
+            let control = systems.control(blocks, block.parent);
             let flat = placed_under(alloc, blocks, places, own, path, control)?;
             Ok(Some(flat))
         }
         Part::SubSystem => Ok(None),
-        Part::Enable { .. } => Ok(Some(control_block(path))),
+        Part::Enable { .. } => {
+            let path = path_in(alloc, paths, block.parent, &block.name)?;
+            Ok(Some(control_block(path)))
+        }
     }
 }
 

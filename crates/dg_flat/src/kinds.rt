@@ -1,4 +1,4 @@
-ghost use Rattle.std.specs.Prelude.{◌≡◌, ◌↔◌, ◌∷◌, [], Bool, IsTrue, IfOk};
+ghost use Rattle.std.specs.Prelude.{◌≡◌, ◌↔◌, ◌∷◌, [], IsTrue, IfOk};
 ghost use Rattle.dg_flat.specs.Flat.{resetting};
 ghost use Rattle.dg_flat.specs.Rules.{MayStand};
 ghost use Rattle.dg_model.specs.Library.{row_of};
@@ -60,7 +60,7 @@ fn with_list(kind: &Kind, list: Decimals, resets: bool) -> Kind
 /// A copy of a kind that has no list of decimals.
 fn copy_unlisted(alloc: Global, kind: &Kind) -> Result<Kind, OutOfMemory>
     requires { (row_of kind.now).signal.lists ≡ [] }
-    ensures { (resets : Bool) → IfOk result (λ copy. copy ≡ resetting resets kind.now) }
+    ensures { IfOk result (λ copy. copy ≡ kind.now) }
 {
     match kind {
         Kind::Inport { number, width } => Ok(Kind::Inport {

@@ -4,6 +4,7 @@ ghost use Rattle.dg_flat.specs.inner.Systems.{AreSystems};
 ghost use Rattle.dg_flat.specs.inner.Tables.{IsTable, IsRowTable, AreRows};
 ghost use Rattle.dg_flat.specs.inner.Tally.{HaveEnds, IsTally};
 
+use crate::numbering::Side;
 use crate::rows::Rows;
 use crate::systems::Systems;
 use dg_model::{NestedBlock, NestedLine, Target};
@@ -36,7 +37,7 @@ fn input_counts(
 {
     let mut counts = Vec::with_capacity(alloc, blocks.len())?;
     for place in 0..blocks.len() {
-        counts.push(systems.inputs(blocks, place as u32))?;
+        counts.push(systems.ports(blocks, Side::In, place as u32))?;
     }
     Ok(counts)
 }

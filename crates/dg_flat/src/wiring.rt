@@ -1,4 +1,4 @@
-ghost use Rattle.std.specs.Prelude.{◌≡◌, ◌≢◌, ℕ, ◌<◌, ◌≤◌, List, length, slice_get, slice_index, IsTrue, IsFalse, IfOk, Some};
+ghost use Rattle.std.specs.Prelude.{◌≡◌, ◌≢◌, ℕ, ◌<◌, ◌≤◌, List, length, slice_index, IsTrue, IsFalse, IfOk, Some};
 ghost use Rattle.dg_model.specs.declared.nested.NestedBlock.{NestedBlock};
 ghost use Rattle.dg_flat.specs.declared.numbering.Side.{Side};
 ghost use Rattle.dg_flat.specs.Rules.{KeepsWiring};
@@ -6,8 +6,8 @@ ghost use Rattle.dg_flat.specs.inner.Numbering.{IsNumbering, IsNumberedAt};
 ghost use Rattle.dg_flat.specs.inner.Slots.{slot_of, HaveParents};
 ghost use Rattle.dg_flat.specs.inner.Systems.{AreSystems};
 ghost use Rattle.dg_flat.specs.inner.Tables.{AreRows, HasCell, cell_at};
-ghost use Rattle.dg_flat.specs.inner.Tally.{HaveEnds, IsTally};
-ghost use Rattle.dg_flat.specs.inner.Verdict.{KeepsPart, IsFirst};
+ghost use Rattle.dg_flat.specs.inner.Tally.{HaveEnds};
+ghost use Rattle.dg_flat.specs.inner.Verdict.{IsKnown, KeepsPart, IsFirst};
 
 use crate::numbering::Numbering;
 use crate::systems::Systems;
@@ -15,6 +15,14 @@ use crate::tally::Tally;
 use dg_model::{Nested, NestedBlock, Part};
 use fx_io::OutOfMemory;
 use std::alloc::Global;
+
+/// Nested blocks and lines with the tables of their Systems and of what the lines drive (own).
+#[derive(Clone, Copy)]
+pub struct Known<'a> {
+    pub nested: &'a Nested,
+    pub systems: &'a Systems,
+    pub tally: &'a Tally,
+}
 
 /// Each input port of a block has one driver.
 fn is_driven(tally: &Tally, place: usize) -> bool
@@ -56,53 +64,35 @@ fn is_numbered(ports: &Numbering, system: Option<u32>, place: u32, number: u32) 
 }
 
 /// What the rule of wiring asks of an EnablePort, an Inport and an Outport.
-fn keeps_part(
-    nested: &Nested,
-    systems: &Systems,
-    tally: &Tally,
-    place: u32,
-    block: &NestedBlock,
-) -> bool
-    requires parents { HaveParents nested.now.blocks }
-    requires systems { AreSystems nested.now.blocks systems.now }
-    requires tally { IsTally nested.now.blocks nested.now.lines tally.now }
-    requires there { slice_get nested.now.blocks place ≡ Some block.now }
-    ensures kept { IsTrue result → KeepsPart nested.now place block.now }
-    ensures broken { IsFalse result → ¬ KeepsPart nested.now place block.now }
+fn keeps_part<'a>(known: Known<'a>, place: u32, block: &NestedBlock) -> bool
+    requires { IsKnown known place block.now }
+    ensures kept { IsTrue result → KeepsPart known.entry.nested.now place block.now }
+    ensures broken { IsFalse result → ¬ KeepsPart known.entry.nested.now place block.now }
 {
     match &block.part {
         Part::Plain(_) | Part::SubSystem => true,
-        Part::In(_, number) => is_numbered(&systems.ins, block.parent, place, *number),
-        Part::Out(_, number) => is_numbered(&systems.outs, block.parent, place, *number),
+        Part::In(_, number) => is_numbered(&known.systems.ins, block.parent, place, *number),
+        Part::Out(_, number) => is_numbered(&known.systems.outs, block.parent, place, *number),
         Part::Enable { .. } => match block.parent {
-            Some(system) => tally.enables[system as usize] == 1,
+            Some(system) => known.tally.enables[system as usize] == 1,
             None => false,
         },
     }
 }
 
 /// Whether a block keeps the rule of wiring.
-fn keeps_wiring(
-    nested: &Nested,
-    systems: &Systems,
-    tally: &Tally,
-    place: u32,
-    block: &NestedBlock,
-) -> bool
-    requires parents { HaveParents nested.now.blocks }
-    requires systems { AreSystems nested.now.blocks systems.now }
-    requires tally { IsTally nested.now.blocks nested.now.lines tally.now }
-    requires there { slice_get nested.now.blocks place ≡ Some block.now }
-    ensures kept { IsTrue result → KeepsWiring nested.now place block.now }
-    ensures broken { IsFalse result → ¬ KeepsWiring nested.now place block.now }
+fn keeps_wiring<'a>(known: Known<'a>, place: u32, block: &NestedBlock) -> bool
+    requires { IsKnown known place block.now }
+    ensures kept { IsTrue result → KeepsWiring known.entry.nested.now place block.now }
+    ensures broken { IsFalse result → ¬ KeepsWiring known.entry.nested.now place block.now }
 {
-    if tally.lacks[place as usize] {
+    if known.tally.lacks[place as usize] {
         return false;
     }
-    if !is_driven(tally, place as usize) {
+    if !is_driven(known.tally, place as usize) {
         return false;
     }
-    keeps_part(nested, systems, tally, place, block)
+    keeps_part(known, place, block)
 }
 
 /// The first block that breaks the rule of wiring.
@@ -119,8 +109,13 @@ pub fn first_unwired(
 {
     let blocks = nested.blocks.as_slice();
     let tally = Tally::of(alloc, systems, blocks, nested.lines.as_slice())?;
+    let known = Known {
+        nested,
+        systems,
+        tally: &tally,
+    };
     for (place, block) in blocks.iter().enumerate() {
-        if !keeps_wiring(nested, systems, &tally, place as u32, block) {
+        if !keeps_wiring(known, place as u32, block) {
             return Ok(Some(place as u32));
         }
     }

@@ -6,21 +6,29 @@ use Rattle.dg_model.specs.declared.nested.NestedBlock.{NestedBlock}
 use Rattle.dg_model.specs.declared.nested.NestedLine.{NestedLine}
 use Rattle.dg_model.specs.declared.nested.Target.{Target}
 use Rattle.dg_model.specs.declared.nested.Target.TheVariants.{Port, Enable as ToEnable}
+use Rattle.dg_model.specs.declared.nested.Part.{Part}
+use Rattle.dg_flat.specs.declared.numbering.Side.{Side}
+use Rattle.dg_flat.specs.declared.numbering.Side.TheVariants.{In, Out}
 use Rattle.dg_flat.specs.Parts.{inputs_of, outputs_of, enable_port}
 use Rattle.dg_flat.specs.Rules.{drivers, is_port, is_enable_end}
 
--- how many input and output ports stand at a place
+-- how many ports of a side a part at a place has, and how many stand at a place
+abbrev pub ports_of : List NestedBlock → Side → ℕ → Part → ℕ
+ports_of blocks In place part = inputs_of blocks place part
+ports_of blocks Out place part = outputs_of blocks place part
+
+abbrev pub ports_at : List NestedBlock → Side → ℕ → ℕ
+ports_at blocks side place = ports_or (slice_get blocks place) where
+  ports_or : Option NestedBlock → ℕ
+  ports_or None = 0
+  ports_or (Some block) = ports_of blocks side place block.part
+
+-- its input ports, and its output ports
 abbrev pub inputs_at : List NestedBlock → ℕ → ℕ
-inputs_at blocks place = inputs_or (slice_get blocks place) where
-  inputs_or : Option NestedBlock → ℕ
-  inputs_or None = 0
-  inputs_or (Some block) = inputs_of blocks place block.part
+inputs_at blocks place = ports_at blocks In place
 
 abbrev pub outputs_at : List NestedBlock → ℕ → ℕ
-outputs_at blocks place = outputs_or (slice_get blocks place) where
-  outputs_or : Option NestedBlock → ℕ
-  outputs_or None = 0
-  outputs_or (Some block) = outputs_of blocks place block.part
+outputs_at blocks place = ports_at blocks Out place
 
 -- a number is none of those from 1 to a count
 abbrev pub is_past : ℕ → ℕ → Bool

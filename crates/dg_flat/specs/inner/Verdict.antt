@@ -2,8 +2,12 @@
 use Rattle.std.specs.Prelude.{◌≡◌, ℕ, ◌≤◌, ◌<◌, Option, Some, None, slice_get, All}
 use Rattle.dg_model.specs.declared.nested.Nested.{Nested}
 use Rattle.dg_model.specs.declared.nested.NestedBlock.{NestedBlock}
+use Rattle.dg_flat.specs.declared.wiring.Known.{Known}
 use Rattle.dg_flat.specs.Parts.{in_number, out_number, outputs_of}
 use Rattle.dg_flat.specs.Rules.{IsDriven, IsNumbered, HasEnd, AllNestedKeep}
+use Rattle.dg_flat.specs.inner.Slots.{HaveParents}
+use Rattle.dg_flat.specs.inner.Systems.{AreSystems}
+use Rattle.dg_flat.specs.inner.Tally.{IsTally}
 
 -- the first block that doesn't keep a rule, or none
 pub record IsFirstBroken (nested : Nested) (Keeps : Nested → ℕ → NestedBlock → Type 0) (place : ℕ) : Type 0 where
@@ -15,6 +19,13 @@ pub record IsFirstBroken (nested : Nested) (Keeps : Nested → ℕ → NestedBlo
 abbrev pub IsFirst : Nested → (Nested → ℕ → NestedBlock → Type 0) → Option ℕ → Type 0
 IsFirst nested Keeps None = AllNestedKeep nested Keeps
 IsFirst nested Keeps (Some place) = IsFirstBroken nested Keeps place
+
+-- a block, and the tables of what stands and what is driven beside it
+pub record IsKnown (known : Known) (place : ℕ) (block : NestedBlock) : Type 0 where
+  pub parents : HaveParents known.nested.now.blocks
+  pub systems : AreSystems known.nested.now.blocks known.systems.now
+  pub tally : IsTally known.nested.now.blocks known.nested.now.lines known.tally.now
+  pub there : slice_get known.nested.now.blocks place ≡ Some block
 
 -- the lines that meet the block at a place find its ports
 pub record MeetsPorts (nested : Nested) (place : ℕ) (block : NestedBlock) : Type 0 where

@@ -1,11 +1,12 @@
-use Rattle.std.proofs.Common.{◌≤◌, suc, [], refl, length, take, sym, ap, subst, ◌∙◌, arith, List}
+use Rattle.std.proofs.Common.{◌≤◌, suc, [], refl, length, sym, ap, subst, ◌∙◌, arith, List}
 use Rattle.std.proofs.lemmas.List.{take_all}
 use Rattle.std.specs.Option.{is_some}
 use Rattle.dg_flat.specs.inner.Slots.{system_of}
 use Rattle.dg_flat.specs.inner.Numbering.{number_on, count_at}
 use Rattle.dg_flat.specs.inner.Tables.{IsTable}
 use Rattle.dg_model.specs.declared.nested.NestedBlock.{NestedBlock}
-use Rattle.dg_flat.proofs.Firsts.{counted_more, counted_same, take_block, slot_inside, count_few}
+use Rattle.dg_model.specs.declared.nested.Part.{Part}
+use Rattle.dg_flat.proofs.Firsts.{counted_more, counted_same, slot_inside, count_few}
 use Rattle.dg_flat.proofs.Tables.{table_filled}
 use Rattle.dg_flat.proofs.numbering.counts.Goals as goal
 use Rattle.dg_flat.proofs.numbering.counts.Goals.{then-is_some, else-is_some}
@@ -27,16 +28,14 @@ loop-block-preserved c =
     let blocks = c.args.blocks.now in
     let i = c.loop-block.block-index in
     let block = c.block-item.result in
-    let more = take_block blocks i block c.loop-block-test.true (sym c.block-item.is) in
-    let slot = slot_inside blocks i block c.requires.parents c.loop-block-test.true (sym c.block-item.is) in
+    let is_such = λ (part : Part). is_some (number_on c.args.side part) in
     let known = ap is_some (sym c.number_of.ensures) ∙ sym c.is_some.ensures in
     elim c.if-is_some.branch [
       | then-is_some w ↦
-          rw (more, w.counts-is)
-          (counted_more (take i blocks) block (λ part. is_some (number_on c.args.side part)) (suc (length blocks)) w.slot.result w.index_mut.result.now c.loop-block.counts.items w.slot.ensures w.index_mut.ensures.value (known ∙ w.if-is_some.true) slot c.loop-block.invariant)
+          rw w.counts-is
+          (counted_more blocks i block is_such w.slot.result w.index_mut.result.now c.loop-block.counts.items c.requires.parents c.loop-block-test.true c.block-item.is w.slot.ensures w.index_mut.ensures.value (known ∙ w.if-is_some.true) c.loop-block.invariant)
       | else-is_some w ↦
-          rw (more, w.counts-is)
-          (counted_same (take i blocks) block (λ part. is_some (number_on c.args.side part)) (suc (length blocks)) c.loop-block.counts.items (known ∙ w.if-is_some.false) c.loop-block.invariant)
+          rw w.counts-is (counted_same blocks i block is_such c.loop-block.counts.items c.loop-block-test.true c.block-item.is (known ∙ w.if-is_some.false) c.loop-block.invariant)
     ]
 
 pub returns : goal.returns

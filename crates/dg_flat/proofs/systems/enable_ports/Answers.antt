@@ -1,10 +1,10 @@
-use Rattle.std.proofs.Common.{[], refl, None, ◌≡◌, true, suc, List, length, take, sym, ap, subst, arith, rules}
+use Rattle.std.proofs.Common.{[], refl, None, suc, List, length, sym, ap, subst, arith, rules}
 use Rattle.std.proofs.lemmas.List.{take_all}
 use Rattle.dg_model.specs.declared.nested.NestedBlock.{NestedBlock}
 use Rattle.dg_flat.specs.Parts.{first_in, is_enable_port}
 use Rattle.dg_flat.specs.inner.Slots.{system_of}
 use Rattle.dg_flat.specs.inner.Tables.{IsTable}
-use Rattle.dg_flat.proofs.Firsts.{noted_more, noted_same, take_block, slot_inside, length_done, not_enable_port}
+use Rattle.dg_flat.proofs.Firsts.{noted_more, noted_same, slot_inside, not_enable_port}
 use Rattle.dg_flat.proofs.Tables.{table_filled}
 use Rattle.dg_flat.proofs.systems.enable_ports.Goals as goal
 use Rattle.dg_flat.proofs.systems.enable_ports.Goals.{in-Enable, in_default}
@@ -14,15 +14,12 @@ loop-place-preserved c =
     let blocks = c.args.blocks.now in
     let i = c.loop-place.place in
     let block = c.index-blocks-place.result in
-    let more = take_block blocks i block c.loop-place-test.true (sym c.index-blocks-place.is) in
-    let slot = slot_inside blocks i block c.requires.parents c.loop-place-test.true (sym c.index-blocks-place.is) in
     elim c.match-block.branch [
       | in-Enable w ↦
-          let such : is_enable_port block.part ≡ true = ap is_enable_port w.in-Enable.is in
-          rw (more, w.ports-is, w.note_first.ensures)
-          (noted_more (take i blocks) block is_enable_port (suc (length blocks)) i w.slot.result c.loop-place.ports.items (length_done blocks i c.loop-place-test.true) w.slot.ensures such slot c.loop-place.invariant)
+          rw (w.ports-is, w.note_first.ensures)
+          (noted_more blocks i block is_enable_port w.slot.result c.loop-place.ports.items c.requires.parents c.loop-place-test.true c.index-blocks-place.is w.slot.ensures (ap is_enable_port w.in-Enable.is) c.loop-place.invariant)
       | in_default w ↦
-          rw (more, w.ports-is) (noted_same (take i blocks) block is_enable_port (suc (length blocks)) c.loop-place.ports.items (not_enable_port block.part w.in_default.not-Enable) c.loop-place.invariant)
+          rw w.ports-is (noted_same blocks i block is_enable_port c.loop-place.ports.items c.loop-place-test.true c.index-blocks-place.is (not_enable_port block.part w.in_default.not-Enable) c.loop-place.invariant)
     ]
 
 pub note_first-requires : goal.note_first-requires

@@ -1,9 +1,9 @@
 use Rattle.std.proofs.Common.{[], refl, arith, ◌||◌, Bool, false, length, List, take, set, get_or, ap, subst, ◌∙◌}
-use Rattle.std.proofs.lemmas.List.{length-set, take_more, take_all}
+use Rattle.std.proofs.lemmas.List.{length-set, take_all}
 use Rattle.dg_model.specs.declared.nested.NestedLine.{NestedLine}
 use Rattle.dg_flat.specs.inner.Ports.{is_lacking}
 use Rattle.dg_flat.specs.inner.Tables.{IsTable}
-use Rattle.dg_flat.proofs.Drivers.{no_line, marked_more}
+use Rattle.dg_flat.proofs.Drivers.{no_line, take_line, marked_more}
 use Rattle.dg_flat.proofs.Tables.{table_filled}
 use Rattle.dg_flat.proofs.tally.lacking.Goals as goal
 
@@ -12,12 +12,11 @@ loop-line-preserved c =
     let lines = c.args.lines.now in
     let i = c.loop-line.line-index in
     let line = get_or lines i no_line in
-    let more = take_more lines i no_line c.loop-line-test.true in
     let ends = c.requires.ends i no_line c.loop-line-test.true in
     let old = c.loop-line.marks.items in
     let once = c.mark.ensures ∙ ap (λ (b : Bool). set old line.from (get_or old line.from false || b)) c.lacks_output.ensures in
     let twice = c.mark-in-loop-line.ensures ∙ ap (λ (b : Bool). set c.mark.new.marks.items line.to (get_or c.mark.new.marks.items line.to false || b)) c.lacks_end.ensures in
-    rw (more, twice) (marked_more c.args.blocks.now (take i lines) line (length c.args.blocks.now) old c.mark.new.marks.items ends.0 ends.1 once c.loop-line.invariant)
+    rw (take_line lines i c.loop-line-test.true, twice) (marked_more c.args.blocks.now (take i lines) line (length c.args.blocks.now) old c.mark.new.marks.items ends.0 ends.1 once c.loop-line.invariant)
 
 pub returns : goal.returns
 returns c =

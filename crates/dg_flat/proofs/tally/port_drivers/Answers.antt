@@ -1,10 +1,10 @@
 use Rattle.std.proofs.Common.{◌≡◌, List, [], take, get_or, replicate, refl, subst, arith}
-use Rattle.std.proofs.lemmas.List.{take_more, take_all}
+use Rattle.std.proofs.lemmas.List.{take_all}
 use Rattle.dg_model.specs.declared.nested.NestedLine.{NestedLine}
 use Rattle.dg_flat.specs.inner.Ports.{port_drivers}
 use Rattle.dg_flat.specs.inner.Tables.{IsRowTable}
 use Rattle.dg_flat.proofs.Cells.{rows_filled}
-use Rattle.dg_flat.proofs.Drivers.{no_line, port_more, port_past, port_none, not_to_port}
+use Rattle.dg_flat.proofs.Drivers.{no_line, take_line, port_more, port_past, port_none, not_to_port}
 use Rattle.dg_flat.proofs.tally.port_drivers.Goals as goal
 use Rattle.dg_flat.proofs.tally.port_drivers.Goals.{in-Port+in-Some, in-Port+in_default-cell, in_default}
 
@@ -19,17 +19,16 @@ loop-line-preserved c =
     let lines = c.args.lines.now in
     let i = c.loop-line.line-index in
     let line = get_or lines i no_line in
-    let more = take_more lines i no_line c.loop-line-test.true in
     let lengths = c.args.rows.now.lengths.items in
     elim c.match-line.branch [
       | in-Port+in-Some w ↦
           let cell = w.in-Some.ensures in
-          rw (more, w.drivers-is, w.count_one.ensures)
+          rw (take_line lines i c.loop-line-test.true, w.drivers-is, w.count_one.ensures)
           (port_more (take i lines) line w.in-Port.port w.in-Some.cell lengths c.loop-line.drivers.items w.in-Port.is cell.0 cell.1 c.loop-line.invariant)
       | in-Port+in_default-cell w ↦
-          rw (more, w.drivers-is) (port_past (take i lines) line w.in-Port.port lengths c.loop-line.drivers.items w.in-Port.is w.in_default-cell.ensures c.loop-line.invariant)
+          rw (take_line lines i c.loop-line-test.true, w.drivers-is) (port_past (take i lines) line w.in-Port.port lengths c.loop-line.drivers.items w.in-Port.is w.in_default-cell.ensures c.loop-line.invariant)
       | in_default w ↦
-          rw (more, w.drivers-is) (port_none (take i lines) line lengths c.loop-line.drivers.items (not_to_port line.target w.in_default.not-Port) c.loop-line.invariant)
+          rw (take_line lines i c.loop-line-test.true, w.drivers-is) (port_none (take i lines) line lengths c.loop-line.drivers.items (not_to_port line.target w.in_default.not-Port) c.loop-line.invariant)
     ]
 
 pub cell-requires-clause-there : goal.cell-requires-clause-there

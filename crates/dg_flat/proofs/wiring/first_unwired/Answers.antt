@@ -21,11 +21,13 @@ loop-place-preserved c =
 pub returns : goal.returns
 returns c = keep_all c.args.nested.now KeepsWiring c.loop-place.place (rw c.as_slice-blocks.ensures at c.loop-place-test.false) c.loop-place.invariant
 
-pub keeps_wiring-requires-clause-there : goal.keeps_wiring-requires-clause-there
-keeps_wiring-requires-clause-there c = read_at c.args.nested.now.blocks c.loop-place.place c.index-blocks-place.result (rw c.as_slice-blocks.ensures at c.loop-place-test.true) (rw c.as_slice-blocks.ensures at c.index-blocks-place.is)
-
-pub keeps_wiring-requires-clause-tally : goal.keeps_wiring-requires-clause-tally
-keeps_wiring-requires-clause-tally c = rw (c.as_slice-blocks.ensures, c.as_slice.ensures) at c.in_ok-tally.ensures
+pub keeps_wiring-requires : goal.keeps_wiring-requires
+keeps_wiring-requires c = record {
+  parents = c.requires.parents;
+  systems = c.requires.systems;
+  tally = rw (c.as_slice-blocks.ensures, c.as_slice.ensures) at c.in_ok-tally.ensures;
+  there = read_at c.args.nested.now.blocks c.loop-place.place c.index-blocks-place.result (rw c.as_slice-blocks.ensures at c.loop-place-test.true) (rw c.as_slice-blocks.ensures at c.index-blocks-place.is);
+}
 
 pub of-requires-clause-systems : goal.of-requires-clause-systems
 of-requires-clause-systems c = rw c.as_slice-blocks.ensures c.requires.systems
