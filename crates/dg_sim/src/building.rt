@@ -12,7 +12,8 @@ ghost use Rattle.dg_tables.specs.Roots.{roots_of};
 
 use crate::joining::Cursors;
 use crate::program::{Cell, Cells, Memories, Program};
-use crate::rules::rule_of;
+use crate::rules::rule_by_kind;
+use crate::turn::Turn;
 use dg_model::{Checked, FxTypes};
 use dg_tables::{Place, Root, Starts, input_roots, lay_out, look_up, output_roots};
 use fx_io::{Flags, OutOfMemory, Sizes};
@@ -43,7 +44,15 @@ fn put_cell(
 {
     checked.keeps_rules();
     let place = program.places.as_slice()[k as usize];
-    let rule = rule_of(checked, starts, roots, cursors, program, k, place)?;
+    let block = &checked.diagram().blocks.as_slice()[place.block as usize];
+    let turn = Turn {
+        checked,
+        starts,
+        cell: k,
+        place,
+        block,
+    };
+    let rule = rule_by_kind(roots, cursors, program, turn)?;
     let period = checked.period(place.block);
     program.cells.push(Cell { period, rule })?;
     Ok(())

@@ -1,11 +1,10 @@
 //! The rule of the control of an enabled subsystem.
-ghost use Rattle.std.specs.Prelude.{◌≡◌, ◌<◌, ◌++◌, ◌∷◌, [], ℕ, List, length, IfOk, OnOk};
+ghost use Rattle.std.specs.Prelude.{◌≡◌, ◌<◌, ◌++◌, ℕ, List, length, IfOk, OnOk};
 ghost use Rattle.fx_type.specs.declared.kind.FxType.{FxType};
 ghost use Rattle.dg_model.specs.Attributes.{attributes_of};
 ghost use Rattle.dg_model.specs.Wires.{width_into};
 ghost use Rattle.dg_sim.specs.inner.Building.{AreElements};
-ghost use Rattle.dg_tables.specs.Finding.{Finds, ReadsNow};
-ghost use Rattle.dg_sim.specs.inner.Turns.{IsMadeFor, IsTurnOf};
+ghost use Rattle.dg_sim.specs.inner.Turns.{CanOffer, IsMadeFor, IsTurnOf};
 ghost use Rattle.dg_model.specs.declared.kind.Kind.{Kind};
 
 use crate::program::{Program, Rule};
@@ -24,8 +23,7 @@ fn put_elements<'a>(
     args: &mut Sizes,
     types: &mut FxTypes,
 ) -> Result<(), OutOfMemory>
-    requires finds { Finds turn.checked.now turn.starts.now places.now }
-    requires now { ReadsNow turn.checked.now places.now turn.cell turn.place.block }
+    requires offers { CanOffer turn places.now }
     requires width { width ≡ width_into turn.checked.now.diagram
         (attributes_of turn.checked.now.diagram) turn.place.block 1 }
     ensures { OnOk result ((numbers : List ℕ) × (length numbers ≡ width)

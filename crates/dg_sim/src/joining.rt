@@ -1,5 +1,5 @@
 //! The rules of a Mux and of a Demux: which element of an input they hand on.
-ghost use Rattle.std.specs.Prelude.{◌≡◌, ◌≤◌, ◌<◌, ◌-◌, ◌^◌, ℕ, suc, map, sum, List, Some, slice_get};
+ghost use Rattle.std.specs.Prelude.{◌≡◌, ◌≤◌, ◌<◌, ◌-◌, ◌^◌, ◌⊎◌, ℕ, suc, map, sum, List, Some, slice_get};
 ghost use Rattle.dg_waves.specs.Rounds.{numbers_from};
 ghost use Rattle.dg_model.specs.Attributes.{attributes_of};
 ghost use Rattle.dg_model.specs.Signals.{Attributes};
@@ -15,7 +15,7 @@ ghost use Rattle.dg_sim.specs.inner.Turns.{IsMadeFor, IsTurnOf};
 use crate::handing::hand_on;
 use crate::program::{Program, Rule};
 use crate::turn::Turn;
-use dg_model::Checked;
+use dg_model::{Checked, Kind};
 use dg_tables::{Starts, width_of_input, width_of_output};
 
 /// How many elements the first ports of a block have together.
@@ -133,9 +133,10 @@ fn width_before(checked: &Checked, from: Cursor, block: u32, port: u32) -> u32
     total
 }
 
-/// The rule of a Mux.
-pub fn joined<'a>(cursors: &mut Cursors, program: &Program, turn: Turn<'a>) -> Rule
-    requires kind { (sizes : List ℕ) × (turn.block.now.kind ≡ Kind.Mux sizes) }
+/// The rule of a Mux or of a Demux: the element of an input that it hands on.
+pub fn spread<'a>(cursors: &mut Cursors, program: &Program, turn: Turn<'a>) -> Rule
+    requires kind { ((sizes : List ℕ) × (turn.block.now.kind ≡ Kind.Mux sizes))
+        ⊎ ((sizes : List ℕ) × (turn.block.now.kind ≡ Kind.Demux sizes)) }
     requires turn { IsTurnOf turn program.now.places }
     requires cursors { AreCursors turn.checked.now.diagram
         (attributes_of turn.checked.now.diagram) cursors.old }
@@ -145,41 +146,32 @@ pub fn joined<'a>(cursors: &mut Cursors, program: &Program, turn: Turn<'a>) -> R
 {
     turn.checked.keeps_rules();
     let place = turn.place;
-    let from = cursors.into;
-    let part = part_into(
-        turn.checked,
-        turn.starts,
-        from,
-        place.block,
-        turn.block.inputs,
-        place.element,
-    );
-    cursors.into = Cursor {
-        block: place.block,
-        ports: part.port - 1,
-        before: part.before,
-    };
-    hand_on(program, turn, part.port, part.element)
-}
-
-/// The rule of a Demux.
-pub fn parted<'a>(cursors: &mut Cursors, program: &Program, turn: Turn<'a>) -> Rule
-    requires kind { (sizes : List ℕ) × (turn.block.now.kind ≡ Kind.Demux sizes) }
-    requires turn { IsTurnOf turn program.now.places }
-    requires cursors { AreCursors turn.checked.now.diagram
-        (attributes_of turn.checked.now.diagram) cursors.old }
-    ensures made { IsMadeFor turn.entry program.now program.now result }
-    ensures cursors { AreCursors turn.entry.checked.now.diagram
-        (attributes_of turn.entry.checked.now.diagram) cursors.new }
-{
-    turn.checked.keeps_rules();
-    let place = turn.place;
-    let from = cursors.out;
-    let before = width_before(turn.checked, from, place.block, place.port);
-    cursors.out = Cursor {
-        block: place.block,
-        ports: place.port - 1,
-        before,
-    };
-    hand_on(program, turn, 1, before + place.element)
+    match &turn.block.kind {
+        Kind::Mux { .. } => {
+            let part = part_into(
+                turn.checked,
+                turn.starts,
+                cursors.into,
+                place.block,
+                turn.block.inputs,
+                place.element,
+            );
+            cursors.into = Cursor {
+                block: place.block,
+                ports: part.port - 1,
+                before: part.before,
+            };
+            hand_on(program, turn, part.port, part.element)
+        }
+        Kind::Demux { .. } => {
+            let before = width_before(turn.checked, cursors.out, place.block, place.port);
+            cursors.out = Cursor {
+                block: place.block,
+                ports: place.port - 1,
+                before,
+            };
+            hand_on(program, turn, 1, before + place.element)
+        }
+        _ => unreachable!(),
+    }
 }

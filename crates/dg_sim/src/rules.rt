@@ -6,10 +6,8 @@ ghost use Rattle.fx_type.specs.declared.decimal.Decimal.{Decimal};
 ghost use Rattle.dg_model.specs.Attributes.{attributes_of};
 ghost use Rattle.dg_model.specs.Equation.{StoresEntry};
 ghost use Rattle.dg_model.specs.Wires.{repeated};
-ghost use Rattle.dg_sim.specs.inner.Building.{IsMade};
-ghost use Rattle.dg_tables.specs.Entries.{AreEntries, IsEntry};
+ghost use Rattle.dg_tables.specs.Entries.{AreEntries};
 ghost use Rattle.dg_sim.specs.inner.Cursors.{AreCursors};
-ghost use Rattle.dg_tables.specs.Finding.{Finds};
 ghost use Rattle.dg_sim.specs.inner.Turns.{HasEntry, IsMadeFor, IsTurnOf};
 ghost use Rattle.dg_tables.specs.Roots.{roots_of};
 ghost use Rattle.dg_model.specs.RootElements.{root_inputs};
@@ -18,13 +16,13 @@ ghost use Rattle.dg_model.specs.declared.kind.Kind.{Kind};
 use crate::columns::find_root;
 use crate::enabling::above;
 use crate::handing::{hand_on, transition};
-use crate::joining::{Cursors, joined, parted};
+use crate::joining::{Cursors, spread};
 use crate::memories::{delayed, gated};
 use crate::program::{Program, Rule};
 use crate::turn::Turn;
 use crate::working::works;
-use dg_model::{Checked, Kind};
-use dg_tables::{Place, Root, Starts, operations_prepare};
+use dg_model::Kind;
+use dg_tables::{Root, operations_prepare};
 use fx_io::OutOfMemory;
 use fx_type::{Decimal, FxType};
 
@@ -92,45 +90,8 @@ fn from_row<'a>(roots: &[Root], program: &Program, turn: Turn<'a>, number: u32) 
     Rule::Input { column }
 }
 
-/// The rule for an entry, with what the program needs for it.
-pub fn rule_of(
-    checked: &Checked,
-    starts: &Starts,
-    roots: &[Root],
-    cursors: &mut Cursors,
-    program: &mut Program,
-    k: u32,
-    place: Place,
-) -> Result<Rule, OutOfMemory>
-    requires roots { roots.now
-        ≡ roots_of (root_inputs checked.now.diagram (attributes_of checked.now.diagram)) }
-    requires entries { AreEntries checked.now.diagram (attributes_of checked.now.diagram)
-        program.old.places }
-    requires entry { IsEntry checked.now.diagram (attributes_of checked.now.diagram) place }
-    requires finds { Finds checked.now starts.now program.old.places }
-    requires at { slice_get program.old.places k ≡ Some place }
-    requires paired { length program.old.types ≡ length program.old.args }
-    requires cursors { AreCursors checked.now.diagram
-        (attributes_of checked.now.diagram) cursors.old }
-    ensures made { IfOk result (λ rule. IsMade checked.now.diagram
-        (attributes_of checked.now.diagram)
-        program.old program.new k place rule) }
-    ensures cursors { AreCursors checked.now.diagram
-        (attributes_of checked.now.diagram) cursors.new }
-{
-    let block = &checked.diagram().blocks.as_slice()[place.block as usize];
-    let turn = Turn {
-        checked,
-        starts,
-        cell: k,
-        place,
-        block,
-    };
-    rule_by_kind(roots, cursors, program, turn)
-}
-
-/// The rule of a turn, kind by kind.
-fn rule_by_kind<'a>(
+/// The rule of a turn, with what the program needs for it, kind by kind.
+pub fn rule_by_kind<'a>(
     roots: &[Root],
     cursors: &mut Cursors,
     program: &mut Program,
@@ -156,8 +117,7 @@ fn rule_by_kind<'a>(
         }
         Kind::Constant { value } => Ok(constant(program, turn, value.as_slice())),
         Kind::Ground => Ok(Rule::Fixed { value: 0 }),
-        Kind::Mux { .. } => Ok(joined(cursors, program, turn)),
-        Kind::Demux { .. } => Ok(parted(cursors, program, turn)),
+        Kind::Mux { .. } | Kind::Demux { .. } => Ok(spread(cursors, program, turn)),
         Kind::RateTransition { initial, .. } => transition(program, turn, initial.as_slice()),
         Kind::EnableTest => above(program, turn),
         Kind::Delay {

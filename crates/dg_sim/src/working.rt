@@ -6,8 +6,8 @@ ghost use Rattle.dg_model.specs.Wires.{type_into, types_into};
 ghost use Rattle.dg_model.specs.Solves.{IsShown};
 ghost use Rattle.dg_tables.specs.Entries.{Reads, AreEntries};
 ghost use Rattle.dg_sim.specs.inner.Building.{AreRead, is_worked};
-ghost use Rattle.dg_tables.specs.Finding.{AreLines, Finds, IsRead, ReadsNow};
-ghost use Rattle.dg_sim.specs.inner.Turns.{IsMadeFor, IsTurnOf};
+ghost use Rattle.dg_tables.specs.Finding.{AreLines, IsRead};
+ghost use Rattle.dg_sim.specs.inner.Turns.{CanOffer, IsMadeFor, IsTurnOf};
 
 use crate::program::{Program, Rule, Work};
 use crate::rules::stored;
@@ -28,8 +28,7 @@ pub fn put_argument<'a>(
     args: &mut Sizes,
     types: &mut FxTypes,
 ) -> Result<(), OutOfMemory>
-    requires finds { Finds turn.checked.now turn.starts.now places.now }
-    requires now { ReadsNow turn.checked.now places.now turn.cell turn.place.block }
+    requires offers { CanOffer turn places.now }
     requires read { IsRead turn.checked.now.diagram (attributes_of turn.checked.now.diagram)
         turn.place.block port element }
     ensures { OnOk result ((number : ℕ) × (args.new ≡ args.old ++ number ∷ [])
@@ -51,8 +50,7 @@ fn put_inputs<'a>(
     args: &mut Sizes,
     types: &mut FxTypes,
 ) -> Result<(), OutOfMemory>
-    requires finds { Finds turn.checked.now turn.starts.now places.now }
-    requires now { ReadsNow turn.checked.now places.now turn.cell turn.place.block }
+    requires offers { CanOffer turn places.now }
     requires read { (port : ℕ) → 1 ≤ port → port ≤ turn.block.now.inputs
         → IsRead turn.checked.now.diagram (attributes_of turn.checked.now.diagram)
         turn.place.block port turn.place.element }

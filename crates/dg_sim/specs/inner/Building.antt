@@ -1,5 +1,5 @@
 -- What the steps that build a program keep (own).
-use Rattle.std.specs.Prelude.{◌≡◌, ℕ, suc, ◌<◌, ◌≤◌, ◌++◌, ℤ, Bool, true, false, List, [], length, Option, Some, slice_get}
+use Rattle.std.specs.Prelude.{◌≡◌, ℕ, suc, ◌<◌, ◌++◌, ℤ, Bool, true, false, List, [], length, Option, Some, slice_get}
 use Rattle.fx_type.specs.declared.kind.FxType.{FxType}
 use Rattle.dg_model.specs.declared.diagram.Diagram.{Diagram}
 use Rattle.dg_model.specs.declared.diagram.Block.{Block}
@@ -9,7 +9,6 @@ use Rattle.dg_model.specs.Signals.{Attributes, Stimulus, Table}
 use Rattle.dg_model.specs.Hits.{Hits, is_hit}
 use Rattle.dg_model.specs.Wires.{value_into}
 use Rattle.dg_model.specs.Equation.{Equation, ElementEquation, is_enabled}
-use Rattle.dg_model.specs.Solves.{shown_ports, shown_width}
 use Rattle.dg_tables.specs.declared.entries.Place.{Place}
 use Rattle.dg_tables.specs.Entries.{Reads, AreEntries}
 use Rattle.dg_sim.specs.declared.program.Cell.{Cell}
@@ -30,14 +29,6 @@ pub record IsRule (diagram : Diagram) (attributes : Attributes) (program : Progr
       → Agrees diagram attributes program.places k look table t → Keep diagram attributes program.memories kept table t → IsRowOf diagram attributes stimulus t row → Hits (attributes.period_at place.block) t
       → Gives program look kept row t rule v → Equation diagram attributes stimulus table place.block place.port place.element t v
   pub can : (table : Table) (t : ℕ) (look : ℕ → ℤ) → Agrees diagram attributes program.places k look table t → EntriesAreInRange diagram attributes table (suc t) → CanGive program look rule
-
--- the table shows so many elements at a port of a block
-pub record IsShownPort (diagram : Diagram) (attributes : Attributes) (block port width : ℕ) : Type 0 where
-  pub b : Block
-  pub block_is : slice_get diagram.blocks block ≡ Some b
-  pub port_from : 1 ≤ port
-  pub port_to : port ≤ shown_ports b.kind b.outputs
-  pub width_is : width ≡ shown_width diagram attributes b.kind block port
 
 -- the value of an input port is that of the block
 abbrev pub HandsOn : Diagram → Attributes → Place → ℕ → ℕ → Type 0

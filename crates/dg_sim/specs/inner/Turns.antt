@@ -6,7 +6,7 @@ use Rattle.dg_model.specs.Attributes.{attributes_of}
 use Rattle.dg_model.specs.Checked.{CheckedDiagram}
 use Rattle.dg_model.specs.Solves.{IsShown}
 use Rattle.dg_model.specs.Wires.{repeated}
-use Rattle.dg_tables.specs.Finding.{Finds}
+use Rattle.dg_tables.specs.Finding.{Finds, ReadsNow}
 use Rattle.dg_tables.specs.declared.entries.Place.{Place}
 use Rattle.dg_tables.specs.declared.reading.Starts.{Starts}
 use Rattle.dg_sim.specs.declared.program.Program.{Program}
@@ -23,6 +23,11 @@ pub record IsTurn (checked : CheckedDiagram) (starts : Starts) (places : List Pl
 -- a rule is to be made for the entry of a turn
 abbrev pub IsTurnOf : Turn → List Place → Type 0
 IsTurnOf turn places = IsTurn turn.checked.now turn.starts.now places turn.cell turn.place turn.block.now
+
+-- what the turn's block reads is found among the places, before the turn's cell
+pub record CanOffer (turn : Turn) (places : List Place) : Type 0 where
+  pub finds : Finds turn.checked.now turn.starts.now places
+  pub now : ReadsNow turn.checked.now places turn.cell turn.place.block
 
 -- the rule of a turn was made, and the program has grown for it
 abbrev pub IsMadeFor : Turn → Program → Program → Rule → Type 0

@@ -3,4 +3,4 @@ use Rattle.dg_sim.proofs.working.put_argument.Goals as goal
 pub returns : goal.returns
 returns c =
     let number = c.offered-number in
-    (number.result, c.in_ok-push.ensures.appended, number.ensures.before c.args.turn.cell c.requires.now, number.ensures.reads, c.in_ok-push-2.ensures.appended)
+    (number.result, c.in_ok-push.ensures.appended, number.ensures.before c.args.turn.cell c.requires.offers.now, number.ensures.reads, c.in_ok-push-2.ensures.appended)

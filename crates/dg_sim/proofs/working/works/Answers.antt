@@ -20,9 +20,11 @@ returns c =
     (op_elementwise diagram attributes place b c.requires.turn.shown.block_is c.op_of-op.result c.op_of-op.ensures) c.requires.entries c.op_of-op.ensures prepared few (c.result.ensures 1) first (first ∙ sym c.requires.paired)
     (c.in-Ok-try_from.ensures.1 ∙ ap length c.as_slice-2.ensures) refl c.signs-negative.ensures read.1 read.2 read.3 read.4 c.in_ok-put_signs.ensures
 
-pub put_inputs-requires-clause-now : goal.put_inputs-requires-clause-now
-put_inputs-requires-clause-now c =
-    op_now c.args.turn.checked.now c.args.turn.starts.now c.args.program.now.places c.args.turn.cell c.args.turn.place c.args.turn.block.now c.requires.turn _ _ c.op_of-op.result c.op_of-op.ensures
+pub put_inputs-requires-clause-offers : goal.put_inputs-requires-clause-offers
+put_inputs-requires-clause-offers c = record {
+  finds = c.requires.turn.finds;
+  now = op_now c.args.turn.checked.now c.args.turn.starts.now c.args.program.now.places c.args.turn.cell c.args.turn.place c.args.turn.block.now c.requires.turn _ _ c.op_of-op.result c.op_of-op.ensures;
+}
 
 pub put_inputs-requires-clause-read : goal.put_inputs-requires-clause-read
 put_inputs-requires-clause-read c =
@@ -33,9 +35,6 @@ overflow_cast-signs c =
     let few = op_signs c.args.turn.checked.now c.args.turn.starts.now c.args.program.now.places c.args.turn.cell c.args.turn.place c.args.turn.block.now c.requires.turn c.keeps_rules.ensures.checked in
     let many : length c.signs-negative.result.now ≤ 32 = subst (λ (signs : List Bool). length signs ≤ 32) (sym c.signs-negative.ensures) few in
     record { fits = omega (arith, many) }
-
-pub put_inputs-requires-clause-finds : goal.put_inputs-requires-clause-finds
-put_inputs-requires-clause-finds c = c.requires.turn.finds
 
 pub result-requires : goal.result-requires
 result-requires c = slice_get_within c.args.turn.checked.now.diagram.blocks c.args.turn.place.block c.args.turn.block.now c.requires.turn.shown.block_is
