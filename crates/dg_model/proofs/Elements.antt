@@ -1,6 +1,6 @@
 -- Every elementwise kind once, fed by the number 3 in int8: each takes its parameters, types and inputs from the diagram.
 use Rattle.std.proofs.Common.{ℕ, [], ◌∷◌, None, pos, get_or, true, false, refl}
-use lib.Signed.{le_z_yes, lt_z_yes}
+use lib.Signed.{le_z_yes}
 use Rattle.std.proofs.Math.Dec.{lit<, lit≤}
 use Rattle.fx_type.specs.declared.kind.FxType.{FxType}
 use Rattle.fx_type.specs.declared.kind.FxType.TheVariants.{Num, Logical as Boolean}
@@ -13,7 +13,7 @@ use Rattle.dg_model.specs.declared.kind.Kind.TheVariants.{Inport, Gain, Product,
 use Rattle.dg_model.specs.declared.op.Op.TheVariants.{Gain as OpGain, Product as OpProduct, Switch as OpSwitch, Relational as OpRelational, Logic as OpLogic, Convert as OpConvert, Pass as OpPass}
 use Rattle.dg_model.specs.Equation.{Equation}
 use Rattle.dg_model.specs.Signals.{Attributes, Stimulus, Table}
-use Rattle.dg_model.proofs.Examples.{int8, block_of, edge_of, decimal_of, table_of, stores_small, kept}
+use Rattle.dg_model.proofs.Examples.{int8, block_of, edge_of, decimal_of, table_of, stores_small, down, wrapped, kept}
 
 -- u, a Gain of 2, u times u, a Switch at 4 between the gain's and the product's output, u below u times u, u xor u, u in halves, u's stored integer in halves, and an Outport of the switch
 abbrev diagram : Diagram
@@ -63,26 +63,10 @@ logic : IsRight 5
 logic = (OpLogic Xor, refl, refl)
 
 convert : IsRight 6
-convert = (
-  OpConvert false,
-  refl,
-  record {
-    rounded = pos 6;
-    rounds = record { at_most = le_z_yes tt; next_above = lt_z_yes tt };
-    settles = record { in_word = record { low = le_z_yes tt; high = le_z_yes tt }; congruent = record { turns = pos 0; equal = refl } };
-  },
-)
+convert = (OpConvert false, refl, record { rounded = pos 6; rounds = down tt tt; settles = wrapped true 8 (pos 0) tt tt refl })
 
 convert_stored : IsRight 7
-convert_stored = (
-  OpConvert true,
-  refl,
-  record {
-    rounded = pos 3;
-    rounds = record { at_most = le_z_yes tt; next_above = lt_z_yes tt };
-    settles = record { in_word = record { low = le_z_yes tt; high = le_z_yes tt }; congruent = record { turns = pos 0; equal = refl } };
-  },
-)
+convert_stored = (OpConvert true, refl, record { rounded = pos 3; rounds = down tt tt; settles = wrapped true 8 (pos 0) tt tt refl })
 
 outport : IsRight 8
 outport = (OpPass, refl, refl)

@@ -13,6 +13,7 @@ use Rattle.dg_model.specs.Signals.{Attributes, Stimulus, Table}
 use Rattle.dg_model.specs.Solves.{Solves, IsShown}
 use Rattle.dg_model.proofs.Examples.{int8, block_of, edge_of, decimal_of, table_of, scalars, stores_small, kept}
 use Rattle.dg_model.proofs.SumTypes.{two_bytes_full}
+use Rattle.dg_model.proofs.Written.{below_of}
 
 -- control u, its test, the delay D, the constant 1, the sum S of both, the port of the subsystem, and y
 abbrev diagram : Bool → Diagram
@@ -56,26 +57,12 @@ inport false port element t = refl
 inport true port element t = refl
 
 enable : (reset : Bool) (port element t : ℕ) → t < 4 → IsRight reset 1 port element t
-enable false port element zero below = refl
-enable false port element (suc zero) below = refl
-enable false port element (suc (suc zero)) below = refl
-enable false port element (suc (suc (suc zero))) below = refl
-enable true port element zero below = refl
-enable true port element (suc zero) below = refl
-enable true port element (suc (suc zero)) below = refl
-enable true port element (suc (suc (suc zero))) below = refl
-enable reset port element (suc (suc (suc (suc t)))) below = absurd (omega arith)
+enable false port element = below_of (IsRight false 1 port element) 4 (refl, (refl, (refl, (refl, tt))))
+enable true port element = below_of (IsRight true 1 port element) 4 (refl, (refl, (refl, (refl, tt))))
 
 delay : (reset : Bool) (port element t : ℕ) → t < 4 → IsRight reset 2 port element t
-delay false port element zero below = stores_small 0 (lit< tt) (lit< tt)
-delay false port element (suc zero) below = refl
-delay false port element (suc (suc zero)) below = refl
-delay false port element (suc (suc (suc zero))) below = refl
-delay true port element zero below = stores_small 0 (lit< tt) (lit< tt)
-delay true port element (suc zero) below = refl
-delay true port element (suc (suc zero)) below = refl
-delay true port element (suc (suc (suc zero))) below = stores_small 0 (lit< tt) (lit< tt)
-delay reset port element (suc (suc (suc (suc t)))) below = absurd (omega arith)
+delay false port element = below_of (IsRight false 2 port element) 4 (stores_small 0 (lit< tt) (lit< tt), (refl, (refl, (refl, tt))))
+delay true port element = below_of (IsRight true 2 port element) 4 (stores_small 0 (lit< tt) (lit< tt), (refl, (refl, (stores_small 0 (lit< tt) (lit< tt), tt))))
 
 constant : (reset : Bool) (port element t : ℕ) → t ≡ 0 → IsRight reset 3 port element t
 constant false port element zero hit = stores_small 1 (lit< tt) (lit< tt)
@@ -94,15 +81,8 @@ sum true port element (suc (suc (suc zero))) below = (OpSum, refl, (Num true 9 (
 sum reset port element (suc (suc (suc (suc t)))) below = absurd (omega arith)
 
 output : (reset : Bool) (port element t : ℕ) → t < 4 → IsRight reset 5 port element t
-output false port element zero below = refl
-output false port element (suc zero) below = refl
-output false port element (suc (suc zero)) below = refl
-output false port element (suc (suc (suc zero))) below = refl
-output true port element zero below = refl
-output true port element (suc zero) below = refl
-output true port element (suc (suc zero)) below = refl
-output true port element (suc (suc (suc zero))) below = refl
-output reset port element (suc (suc (suc (suc t)))) below = absurd (omega arith)
+output false port element = below_of (IsRight false 5 port element) 4 (refl, (refl, (refl, (refl, tt))))
+output true port element = below_of (IsRight true 5 port element) 4 (refl, (refl, (refl, (refl, tt))))
 
 outport : (reset : Bool) (port element t : ℕ) → IsRight reset 6 port element t
 outport false port element t = (OpPass, refl, refl)
@@ -120,15 +100,8 @@ at_hits reset (suc (suc (suc (suc (suc (suc (suc block))))))) b port element t s
 
 -- the constant keeps its value
 held : (reset : Bool) (port element t : ℕ) → t < 4 → table reset 3 port element t ≡ pos 1
-held false port element zero below = refl
-held false port element (suc zero) below = refl
-held false port element (suc (suc zero)) below = refl
-held false port element (suc (suc (suc zero))) below = refl
-held true port element zero below = refl
-held true port element (suc zero) below = refl
-held true port element (suc (suc zero)) below = refl
-held true port element (suc (suc (suc zero))) below = refl
-held reset port element (suc (suc (suc (suc t)))) below = absurd (omega arith)
+held false port element = below_of (λ t. table false 3 port element t ≡ pos 1) 4 (refl, (refl, (refl, (refl, tt))))
+held true port element = below_of (λ t. table true 3 port element t ≡ pos 1) 4 (refl, (refl, (refl, (refl, tt))))
 
 between_hits : (reset : Bool) (block : ℕ) (b : Block) (port element t : ℕ) → IsShown (diagram reset) attributes block b port element → t < 4 → ¬ Hits (attributes.period_at block) t
     → table reset block port element t ≡ table reset block port element (last_hit (attributes.period_at block) t)

@@ -1,5 +1,5 @@
 -- A signal through an enabled subsystem whose initial output is 0: 5, 6, 7, 8 under the control 0, 0, 1, 0 gives 0, 0, 7, 7 with held output and 0, 0, 7, 0 with reset output.
-use Rattle.std.proofs.Common.{◌≡◌, ℕ, zero, suc, ◌<◌, Bool, true, false, List, [], ◌∷◌, Some, None, ℤ, pos, refl, arith}
+use Rattle.std.proofs.Common.{◌≡◌, ℕ, zero, suc, ◌<◌, Bool, true, false, List, [], ◌∷◌, Some, None, ℤ, pos, refl}
 use Rattle.std.proofs.Math.Dec.{lit<}
 use Rattle.std.proofs.Math.Nat.{mod-one}
 use Rattle.fx_type.specs.declared.kind.FxType.TheVariants.{Logical as Boolean}
@@ -12,6 +12,7 @@ use Rattle.dg_model.specs.Hits.{Hits, last_hit}
 use Rattle.dg_model.specs.Signals.{Attributes, Stimulus, Table}
 use Rattle.dg_model.specs.Solves.{Solves, IsShown}
 use Rattle.dg_model.proofs.Examples.{int8, block_of, edge_of, decimal_of, table_of, scalars, stores_small}
+use Rattle.dg_model.proofs.Written.{below_of}
 
 -- input u, control c, its test, the inner input, the port of the subsystem, and y
 abbrev diagram : Bool → Diagram
@@ -47,22 +48,11 @@ abbrev IsRight : Bool → ℕ → ℕ → ℕ → ℕ → Type 0
 IsRight reset block port element t = Equation (diagram reset) attributes stimulus (table reset) block port element t (table reset block port element t)
 
 enable : (reset : Bool) (port element t : ℕ) → t < 4 → IsRight reset 2 port element t
-enable reset port element zero below = refl
-enable reset port element (suc zero) below = refl
-enable reset port element (suc (suc zero)) below = refl
-enable reset port element (suc (suc (suc zero))) below = refl
-enable reset port element (suc (suc (suc (suc t)))) below = absurd (omega arith)
+enable reset port element = below_of (IsRight reset 2 port element) 4 (refl, (refl, (refl, (refl, tt))))
 
 output : (reset : Bool) (port element t : ℕ) → t < 4 → IsRight reset 4 port element t
-output false port element zero below = stores_small 0 (lit< tt) (lit< tt)
-output false port element (suc zero) below = stores_small 0 (lit< tt) (lit< tt)
-output false port element (suc (suc zero)) below = refl
-output false port element (suc (suc (suc zero))) below = refl
-output true port element zero below = stores_small 0 (lit< tt) (lit< tt)
-output true port element (suc zero) below = stores_small 0 (lit< tt) (lit< tt)
-output true port element (suc (suc zero)) below = refl
-output true port element (suc (suc (suc zero))) below = stores_small 0 (lit< tt) (lit< tt)
-output reset port element (suc (suc (suc (suc t)))) below = absurd (omega arith)
+output false port element = below_of (IsRight false 4 port element) 4 (stores_small 0 (lit< tt) (lit< tt), (stores_small 0 (lit< tt) (lit< tt), (refl, (refl, tt))))
+output true port element = below_of (IsRight true 4 port element) 4 (stores_small 0 (lit< tt) (lit< tt), (stores_small 0 (lit< tt) (lit< tt), (refl, (stores_small 0 (lit< tt) (lit< tt), tt))))
 
 at_hits : (reset : Bool) (block : ℕ) (b : Block) (port element t : ℕ) → IsShown (diagram reset) attributes block b port element → t < 4 → Hits (attributes.period_at block) t → IsRight reset block port element t
 at_hits reset zero b port element t shown below hit = refl

@@ -1,8 +1,8 @@
 -- Parts of small diagrams whose tables are written out by hand, to check the definitions against. Crates above may cite this file.
-use Rattle.std.proofs.Common.{◌≡◌, sym, ◌∙◌, subst, ℕ, ◌<◌, ◌^◌, Bool, true, false, List, [], Option, None, ℤ, pos, negsuc, get_or, refl, arith}
-use lib.Signed.{le_z, le_z_yes}
+use Rattle.std.proofs.Common.{◌≡◌, sym, ◌∙◌, subst, ℕ, ◌<◌, ◌^◌, Bool, true, false, List, [], Option, None, ℤ, pos, negsuc, ◌+ℤ◌, ◌*ℤ◌, get_or, refl, arith}
+use lib.Signed.{le_z, lt_z, le_z_yes, lt_z_yes}
 use Rattle.std.proofs.Math.Dec.{T}
-use Rattle.fx_type.specs.Conversion.{Converts, Stores}
+use Rattle.fx_type.specs.Conversion.{Converts, Stores, RoundsDown, Settles}
 use Rattle.std.proofs.lemmas.Int.{ints}
 use Rattle.fx_type.specs.declared.kind.FxType.{FxType}
 use Rattle.fx_type.specs.declared.kind.FxType.TheVariants.{Num}
@@ -19,7 +19,7 @@ use Rattle.dg_model.specs.Signals.{Table, Stimulus, Attributes}
 use Rattle.dg_model.specs.Equation.{IsOpOf, ElementEquation, signs_of}
 use Rattle.dg_model.specs.Operation.{OpGives}
 use Rattle.dg_model.specs.Wires.{type_into, types_into, values_into}
-use Rattle.fx_type.specs.FxType.{IsType}
+use Rattle.fx_type.specs.FxType.{IsType, lowest_of, highest_of}
 use Rattle.fx_type.specs.StoredOf.{stored_of}
 use Rattle.fx_type.proofs.Stored.{stored_one}
 
@@ -53,6 +53,15 @@ stores_small n small below = record {
   rounds = record { above = omega (arith, ints); at_most = omega (arith, ints) };
   settles = record { inside = λ h. refl; below = λ h. absurd (omega (arith, ints)); above = λ h. absurd (omega (arith, ints)) };
 }
+
+-- a quotient is rounded down to the number at it or before it
+pub down : {n r : ℤ} {d : ℕ} → T (le_z (r *ℤ pos d) n) → T (lt_z n (r *ℤ pos d +ℤ pos d)) → RoundsDown n d r
+down at_most above = record { at_most = le_z_yes at_most; next_above = lt_z_yes above }
+
+-- a number in range, so many turns from a rounded one, is what that wraps to
+pub wrapped : {v r : ℤ} (signed : Bool) (width : ℕ) (turns : ℤ) → T (le_z (lowest_of (Num signed width (pos 0))) r) → T (le_z r (highest_of (Num signed width (pos 0)))) → r ≡ v +ℤ turns *ℤ pos (2 ^ width) →
+    Settles (Num signed width (pos 0)) false v r
+wrapped signed width turns low high equal = record { in_word = record { low = le_z_yes low; high = le_z_yes high }; congruent = record { turns = turns; equal = equal } }
 
 -- an int8 converted to int8 stays as it is
 pub kept : (v : ℤ) → T (le_z (negsuc 127) v) → T (le_z v (pos 127)) → Converts v int8 int8 Floor false v

@@ -8,7 +8,7 @@ use Rattle.dg_model.specs.declared.diagram.Diagram.{Diagram}
 use Rattle.dg_model.specs.declared.diagram.Block.{Block}
 use Rattle.dg_model.specs.declared.fault.RuleFault.{RuleFault}
 use Rattle.dg_model.specs.declared.fault.Shown.{Shown}
-use Rattle.dg_model.specs.declared.fault.Shown.TheVariants.{Nothing, Word, Periods, Cycle, Latency, Budget, Size}
+use Rattle.dg_model.specs.declared.fault.Shown.TheVariants.{Cycle}
 use Rattle.dg_model.specs.declared.kind.Kind.TheVariants.{Inport, Sum, Gain}
 use Rattle.dg_model.specs.declared.rule.Rule.{Rule}
 use Rattle.dg_model.specs.Faults.{fault_of}
@@ -83,13 +83,8 @@ gain_breaks : BreaksLoop two_loops (attributes_of two_loops) (fault_of Rule.Loop
 gain_breaks = record { first = 1; more = 2 ∷ []; is_cycle = gain_and_sum; least = no_input; fault_is = refl }
 
 abbrev first_shown : Shown → ℕ
-first_shown Nothing = 0
-first_shown (Word word) = 0
-first_shown (Periods own other) = 0
 first_shown (Cycle blocks) = slice_index blocks 0
-first_shown (Latency blocks total) = 0
-first_shown (Budget period need have) = 0
-first_shown (Size storage latency) = 0
+first_shown other = 0
 
 abbrev first_of_fault : RuleFault → ℕ
 first_of_fault fault = first_shown fault.shown

@@ -1,4 +1,5 @@
 mod Carried
+mod Chain
 mod Columns
 mod DelayOfThree
 mod Elements
@@ -6,7 +7,6 @@ mod Enabled
 mod EnabledAccumulator
 mod EnabledOutput
 pub mod Examples
-mod FastToSlow
 mod Flattened
 mod GainTypes
 mod Late
@@ -23,10 +23,10 @@ mod ReadableRows
 pub mod Refused
 pub mod Roots
 mod Roundings
-mod SlowToFast
 pub mod SoundRows
 pub mod SumTerms
 mod SumTypes
+mod Transitions
 mod TypeFaults
 mod TypeOfSmall
 mod TypeRows

@@ -14,7 +14,7 @@ use Rattle.dg_model.specs.declared.op.Op.{Op}
 use Rattle.dg_model.specs.declared.op.Op.TheVariants.{Sum, Gain, Product, Switch, Relational, Logic, Convert}
 use Rattle.dg_model.specs.Equation.{StoresEntry}
 use Rattle.dg_model.specs.Operation.{Operation, OpGives}
-use Rattle.dg_model.proofs.Examples.{int8, kept}
+use Rattle.dg_model.proofs.Examples.{int8, down, wrapped, kept}
 use Rattle.dg_model.proofs.SumTypes.{two_bytes_full}
 
 -- an operation that rounds down
@@ -24,15 +24,7 @@ operation_of op signs types result saturate = record { op = op; signs = signs; t
 -- ---- the sum of int8 127 and 1 in int8
 
 sum_wraps : OpGives (operation_of Sum (false ∷ false ∷ []) (int8 ∷ int8 ∷ []) int8 false) (pos 127 ∷ pos 1 ∷ []) (negsuc 127)
-sum_wraps = (
-  Num true 9 (pos 0),
-  two_bytes_full,
-  record {
-    rounded = pos 128;
-    rounds = record { at_most = le_z_yes tt; next_above = lt_z_yes tt };
-    settles = record { in_word = record { low = le_z_yes tt; high = le_z_yes tt }; congruent = record { turns = negsuc 0; equal = refl } };
-  },
-)
+sum_wraps = (Num true 9 (pos 0), two_bytes_full, record { rounded = pos 128; rounds = down tt tt; settles = wrapped true 8 (negsuc 0) tt tt refl })
 
 sum_saturates : OpGives (operation_of Sum (false ∷ false ∷ []) (int8 ∷ int8 ∷ []) int8 true) (pos 127 ∷ pos 1 ∷ []) (pos 127)
 sum_saturates = (
@@ -40,7 +32,7 @@ sum_saturates = (
   two_bytes_full,
   record {
     rounded = pos 128;
-    rounds = record { at_most = le_z_yes tt; next_above = lt_z_yes tt };
+    rounds = down tt tt;
     settles = record { inside = λ h. absurd h.high.le; below = λ h. absurd h.lt; above = λ h. refl };
   },
 )
@@ -51,15 +43,7 @@ wide_full : IsFullProduct (Num true 64 (pos 0)) (Num true 64 (pos 0)) (Num true 
 wide_full = record { valid = ((lit≤ tt, lit≤ tt), le_z_yes tt, le_z_yes tt); number = tt; width = refl; frac = refl; sign = refl }
 
 wide_product : OpGives (operation_of Product [] (Num true 64 (pos 0) ∷ Num true 64 (pos 0) ∷ []) (Num true 128 (pos 0)) false) (negsuc 9223372036854775807 ∷ negsuc 9223372036854775807 ∷ []) (pos 85070591730234615865843651857942052864)
-wide_product = (
-  Num true 128 (pos 0),
-  wide_full,
-  record {
-    rounded = pos 85070591730234615865843651857942052864;
-    rounds = record { at_most = le_z_yes tt; next_above = lt_z_yes tt };
-    settles = record { in_word = record { low = le_z_yes tt; high = le_z_yes tt }; congruent = record { turns = pos 0; equal = refl } };
-  },
-)
+wide_product = (Num true 128 (pos 0), wide_full, record { rounded = pos 85070591730234615865843651857942052864; rounds = down tt tt; settles = wrapped true 128 (pos 0) tt tt refl })
 
 -- the product of types of 65 and 64 bits is none
 no_wider_product : (type : FxType) → IsFullProduct (Num true 65 (pos 0)) (Num true 64 (pos 0)) type → ⊥
@@ -84,11 +68,7 @@ gain : OpGives (operation_of (Gain (pos 3277) (Num true 16 (pos 15))) [] (int8 �
 gain = (
   Num true 24 (pos 15),
   record { valid = ((lit≤ tt, lit≤ tt), le_z_yes tt, le_z_yes tt); number = tt; width = refl; frac = refl; sign = refl },
-  record {
-    rounded = pos 6554;
-    rounds = record { at_most = le_z_yes tt; next_above = lt_z_yes tt };
-    settles = record { in_word = record { low = le_z_yes tt; high = le_z_yes tt }; congruent = record { turns = pos 0; equal = refl } };
-  },
+  record { rounded = pos 6554; rounds = down tt tt; settles = wrapped true 24 (pos 0) tt tt refl },
 )
 
 -- ---- relations compare real values: -1 is below 255 of another type, and one half below 1

@@ -14,7 +14,7 @@ use Rattle.dg_model.specs.declared.kind.Kind.{Kind}
 use Rattle.dg_model.specs.declared.kind.Kind.TheVariants.{Inport, Outport, Product, Relational, Delay, Mux}
 use Rattle.dg_model.specs.declared.kind.Relation.TheVariants.{Lt}
 use Rattle.dg_model.specs.declared.rule.Rule.{Rule}
-use Rattle.dg_model.specs.Faults.{AllKeep, fault_of}
+use Rattle.dg_model.specs.Faults.{AllKeep, IsFirstBroken, path_of, fault_of}
 use Rattle.dg_model.specs.TypeRounds.{input_types, types_of}
 use Rattle.dg_model.specs.TypeRule.{IsNotWide, HasTypes, HasAgreeing, BreaksType}
 use Rattle.dg_model.proofs.WidthRounds.{block_of, edge_of}
@@ -138,36 +138,25 @@ differing_inputs type (suc zero) b below is = let same : b ≡ input_of 2 int16 
     subst (λ b. HasAgreeing (differing type) (types_of (differing type)) 1 b) (sym same) (record { written = tt; inside = tt })
 differing_inputs type (suc (suc other)) b below is = absurd (omega (arith, below))
 
+-- the first block whose types differ is told
+differs_at : (type : FxType) (place : ℕ) (block : Block) → IsFirstBroken (differing type) (HasAgreeing (differing type) (types_of (differing type))) place block →
+    BreaksType (differing type) (fault_of Rule.Type (path_of (differing type) place) (Word (codes "differs")))
+differs_at type place block first = inr (inr (record { narrow = differing_narrow type; known = differing_known type; differ = record { place = place; block = block; first = first; fault_is = refl } }))
+
 outport_breaks : BreaksType (differing int8) (fault_of Rule.Type (codes "m/y") (Word (codes "differs")))
-outport_breaks = inr (inr (record {
-  narrow = differing_narrow int8;
-  known = differing_known int8;
-  differ = record {
-    place = 2;
-    block = named (codes "m/y") (Outport 1) (Fixed int8) 1 0;
-    first = record { there = refl; broken = λ keeps. sixteen_is_not_eight (keeps.written 0 (Some int8) (omega arith)); before = differing_inputs int8 };
-    fault_is = refl;
-  };
-}))
+outport_breaks = differs_at int8 2 (named (codes "m/y") (Outport 1) (Fixed int8) 1 0)
+    (record { there = refl; broken = λ keeps. sixteen_is_not_eight (keeps.written 0 (Some int8) (omega arith)); before = differing_inputs int8 })
 
 -- where the Outport's type is its driver's, the Mux is the first
 mux_breaks : BreaksType (differing int16) (fault_of Rule.Type (codes "m/m") (Word (codes "differs")))
-mux_breaks = inr (inr (record {
-  narrow = differing_narrow int16;
-  known = differing_known int16;
-  differ = record {
-    place = 3;
-    block = named (codes "m/m") (Mux []) Auto 2 1;
-    first = record { there = refl; broken = λ keeps. sixteen_is_not_eight (keeps.inside 0 (Some int8) (omega arith)); before = before };
-    fault_is = refl;
-  };
-})) where
-  agrees : HasAgreeing (differing int16) (types_of (differing int16)) 2 (named (codes "m/y") (Outport 1) (Fixed int16) 1 0)
-  agrees = record { written = all_of (λ input. input ≡ Some int16) (Some int16 ∷ []) (refl, tt); inside = tt }
+mux_breaks = differs_at int16 3 (named (codes "m/m") (Mux []) Auto 2 1)
+    (record { there = refl; broken = λ keeps. sixteen_is_not_eight (keeps.inside 0 (Some int8) (omega arith)); before = before }) where
+      agrees : HasAgreeing (differing int16) (types_of (differing int16)) 2 (named (codes "m/y") (Outport 1) (Fixed int16) 1 0)
+      agrees = record { written = all_of (λ input. input ≡ Some int16) (Some int16 ∷ []) (refl, tt); inside = tt }
 
-  before : (other : ℕ) (b : Block) → other < 3 → slice_get (differing int16).blocks other ≡ Some b → HasAgreeing (differing int16) (types_of (differing int16)) other b
-  before zero b below is = differing_inputs int16 0 b (omega arith) is
-  before (suc zero) b below is = differing_inputs int16 1 b (omega arith) is
-  before (suc (suc zero)) b below is = let same : b ≡ named (codes "m/y") (Outport 1) (Fixed int16) 1 0 = cc is in
-      subst (λ b. HasAgreeing (differing int16) (types_of (differing int16)) 2 b) (sym same) agrees
-  before (suc (suc (suc other))) b below is = absurd (omega (arith, below))
+      before : (other : ℕ) (b : Block) → other < 3 → slice_get (differing int16).blocks other ≡ Some b → HasAgreeing (differing int16) (types_of (differing int16)) other b
+      before zero b below is = differing_inputs int16 0 b (omega arith) is
+      before (suc zero) b below is = differing_inputs int16 1 b (omega arith) is
+      before (suc (suc zero)) b below is = let same : b ≡ named (codes "m/y") (Outport 1) (Fixed int16) 1 0 = cc is in
+          subst (λ b. HasAgreeing (differing int16) (types_of (differing int16)) 2 b) (sym same) agrees
+      before (suc (suc (suc other))) b below is = absurd (omega (arith, below))

@@ -1,6 +1,6 @@
 -- What holds of lists that are written out. Crates above may cite this file.
 use Rattle.std.specs.Prelude.{AllPairs, ⊤}
-use Rattle.std.proofs.Common.{◌≡◌, ℕ, zero, suc, List, [], ◌∷◌, All, Some, slice_get, subst, arith}
+use Rattle.std.proofs.Common.{◌≡◌, ℕ, zero, suc, ◌<◌, List, [], ◌∷◌, All, Some, slice_get, subst, arith}
 use Rattle.std.specs.List.{AllByRecursion}
 use Rattle.std.proofs.lemmas.List.Elements.{All-nil, All-cons}
 use Rattle.std.proofs.lemmas.List.Kept.{AllPairs-cons}
@@ -29,3 +29,13 @@ pub each_of : {A : Type 0} (P : ℕ → A → Type 0) (xs : List A) → EachByRe
 each_of P [] each k x at = absurd (none-some x at)
 each_of P (y ∷ xs) each zero x at = subst (P 0) (same_Some y x at) (each.0)
 each_of P (y ∷ xs) each (suc k) x at = each_of (λ k. P (suc k)) xs (each.1) k x at
+
+-- what holds of each number below a count
+abbrev pub BelowByRecursion : (ℕ → Type 0) → ℕ → Type 0
+BelowByRecursion P zero = ⊤
+BelowByRecursion P (suc n) = P 0 × BelowByRecursion (λ k. P (suc k)) n
+
+pub below_of : (P : ℕ → Type 0) (n : ℕ) → BelowByRecursion P n → (k : ℕ) → k < n → P k
+below_of P zero each k below = absurd (omega (arith, below))
+below_of P (suc n) each zero below = each.0
+below_of P (suc n) each (suc k) below = below_of (λ k. P (suc k)) n (each.1) k (omega (arith, below))
