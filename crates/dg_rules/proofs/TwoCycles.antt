@@ -10,7 +10,7 @@ use Rattle.dg_model.specs.declared.diagram.Edge.{Edge}
 use Rattle.dg_model.specs.declared.diagram.PeriodSpec.TheVariants.{Inherit}
 use Rattle.dg_model.specs.declared.fault.RuleFault.{RuleFault}
 use Rattle.dg_model.specs.declared.fault.Shown.{Shown}
-use Rattle.dg_model.specs.declared.fault.Shown.TheVariants.{Nothing, Word, Periods, Cycle, Latency, Budget, Size}
+use Rattle.dg_model.specs.declared.fault.Shown.TheVariants.{Cycle}
 use Rattle.dg_model.specs.declared.kind.Kind.{Kind}
 use Rattle.dg_model.specs.declared.kind.Kind.TheVariants.{Sum, Gain}
 use Rattle.dg_model.specs.declared.rule.Rule.{Rule}
@@ -69,13 +69,8 @@ breaks : (gain : ℕ) → 0 < gain → Leads 0 gain → Leads gain 0 → BreaksL
 breaks gain above there back = record { first = 0; more = gain ∷ []; is_cycle = cycle_of gain above there back; least = λ other is k d below. omega arith; fault_is = refl }
 
 abbrev second : Shown → ℕ
-second Nothing = 0
-second (Word word) = 0
-second (Periods own other) = 0
 second (Cycle blocks) = slice_index blocks 1
-second (Latency blocks total) = 0
-second (Budget period need have) = 0
-second (Size storage latency) = 0
+second other = 0
 
 differ : told 1 ≢ told 2
 differ same = let number : ◌≡◌ {A = ℕ} 1 2 = ap (λ (fault : RuleFault). second fault.shown) same in absurd (omega (arith, number))

@@ -30,9 +30,6 @@ pub fn next(may: bool, standing: Standing) -> Standing
 pub fn unseen(alloc: Global, count: usize) -> Result<Vec<Standing>, OutOfMemory>
     ensures { IfOk result (λ standings. standings.items ≡ replicate count Unseen) }
 {
-    let mut standings = Vec::new(alloc);
-    for _ in 0..count {
-        standings.push(Standing::Unseen)?;
-    }
+    let standings = vec![in alloc; Standing::Unseen; count]?;
     Ok(standings)
 }

@@ -11,36 +11,23 @@ use Rattle.dg_rules.proofs.checking.propagated.Goals as goal
 
 pub returns-in_err-widths-clause-broken : goal.returns-in_err-widths-clause-broken
 returns-in_err-widths-clause-broken c =
-    let diagram = c.args.diagram.now in
     let p = err_from_is_err_and c.from_residual.result c.from_residual.ensures.1 in
-    rw (p.1, p.2) (refused_as (BreaksDimension diagram) (BreaksRule diagram) c.in_err-widths.field-0.0 (λ fault broken. inl broken) c.in_err-widths.ensures.refused)
+    rw (p.1, p.2) (refused_as (BreaksDimension c.args.diagram.now) (BreaksRule c.args.diagram.now) c.in_err-widths.field-0.0 (λ fault broken. inl broken) c.in_err-widths.ensures.refused)
 
 pub returns-in_err-results-clause-broken : goal.returns-in_err-results-clause-broken
 returns-in_err-results-clause-broken c =
-    let diagram = c.args.diagram.now in
     let p = err_from_is_err_and c.from_residual-in_err-results.result c.from_residual-in_err-results.ensures.1 in
-    rw (p.1, p.2)
-    (refused_as (BreaksType diagram) (BreaksRule diagram) c.in_err-results.field-0.0
-    (λ fault broken. inr (inl (record { dimensions = c.in_ok-widths.ensures.kept; types = broken })))
-    c.in_err-results.ensures.refused)
+    rw (p.1, p.2) (refused_as (BreaksType c.args.diagram.now) (BreaksRule c.args.diagram.now) c.in_err-results.field-0.0 (λ fault broken. inr (inl (record { dimensions = c.in_ok-widths.ensures.kept; types = broken }))) c.in_err-results.ensures.refused)
 
 pub returns-in_err-periods-clause-broken : goal.returns-in_err-periods-clause-broken
 returns-in_err-periods-clause-broken c =
-    let diagram = c.args.diagram.now in
     let p = err_from_is_err_and c.from_residual-in_err-periods.result c.from_residual-in_err-periods.ensures.1 in
-    rw (p.1, p.2)
-    (refused_as (BreaksRate diagram) (BreaksRule diagram) c.in_err-periods.field-0.0
-    (λ fault broken. inr (inr (inl (record { dimensions = c.in_ok-widths.ensures.kept; types = c.in_ok-results.ensures.kept; rates = broken }))))
-    c.in_err-periods.ensures.refused)
+    rw (p.1, p.2) (refused_as (BreaksRate c.args.diagram.now) (BreaksRule c.args.diagram.now) c.in_err-periods.field-0.0 (λ fault broken. inr (inr (inl (record { dimensions = c.in_ok-widths.ensures.kept; types = c.in_ok-results.ensures.kept; rates = broken })))) c.in_err-periods.ensures.refused)
 
 pub returns-in_err-order-clause-broken : goal.returns-in_err-order-clause-broken
 returns-in_err-order-clause-broken c =
-    let diagram = c.args.diagram.now in
     let p = err_from_is_err_and c.from_residual-in_err-order.result c.from_residual-in_err-order.ensures.1 in
-    rw (p.1, p.2)
-    (refused_as (BreaksLoop diagram (attributes_of diagram)) (BreaksRule diagram) c.in_err-order.field-0.0
-    (λ fault broken. inr (inr (inr (record { dimensions = c.in_ok-widths.ensures.kept; types = c.in_ok-results.ensures.kept; rates = c.in_ok-periods.ensures.kept; loops = broken }))))
-    c.in_err-order.ensures.broken)
+    rw (p.1, p.2) (refused_as (BreaksLoop c.args.diagram.now (attributes_of c.args.diagram.now)) (BreaksRule c.args.diagram.now) c.in_err-order.field-0.0 (λ fault broken. inr (inr (inr (record { dimensions = c.in_ok-widths.ensures.kept; types = c.in_ok-results.ensures.kept; rates = c.in_ok-periods.ensures.kept; loops = broken })))) c.in_err-order.ensures.broken)
 
 pub returns : goal.returns
 returns c = record {
