@@ -1,5 +1,5 @@
 -- Lists of numbers, hits, and what a search finds. Crates above may cite this file.
-use Rattle.std.proofs.Common.{◌≡◌, ℕ, zero, suc, add-one, ◌+◌, ◌++◌, ◌-◌, ◌%◌, ◌<◌, ◌≤◌, ◌⊎◌, ◌||◌, cond, Bool, true, false, List, [], ◌∷◌, length, map, take, sum, filter, find, slice_get, slice_index, get_or, All, Option, Some, None, if◌then◌else◌, ◌==◌, inl, inr, ap, ap₂, sym, ◌∙◌, subst, refl, arith, le_refl, lit<}
+use Rattle.std.proofs.Common.{◌≡◌, ℕ, zero, suc, add-one, ◌+◌, ◌++◌, ◌-◌, ◌%◌, ◌<◌, ◌≤◌, ◌⊎◌, ◌||◌, cond, Bool, true, false, List, [], ◌∷◌, length, map, take, sum, filter, find, slice_get, slice_index, get_or, All, Option, Some, None, if◌then◌else◌, ◌==◌, inl, inr, ap, ap₂, sym, ◌∙◌, subst, refl, append_assoc, arith, le_refl, lit<}
 use Rattle.std.proofs.Math.Nat.{mod-le}
 use Rattle.std.specs.List.{list_any}
 use Rattle.std.proofs.lemmas.List.Elements.{All-nil, All-cons, All-head, All-tail, All-weaker, All-filter}
@@ -166,6 +166,11 @@ part_some (w ∷ ws) element h = go (cases_lt element w) (λ l. part_some ws (el
 
 pub map_end_zero : {A : Type 0} (f : ℕ → A) (n : ℕ) → map f (numbers_from 0 (suc n)) ≡ map f (numbers_from 0 n) ++ f n ∷ []
 map_end_zero f n = let e : 0 + n ≡ n = omega arith in numbers_suc f 0 n ∙ ap (λ (m : ℕ). map f (numbers_from 0 n) ++ f m ∷ []) e
+
+-- a list that had f of the first numbers pushed has one more pushed
+pub one_pushed : {X : Type 0} (f : ℕ → X) (n : ℕ) (before old new : List X) → old ≡ before ++ map f (numbers_from 0 n) → new ≡ old ++ f n ∷ [] → new ≡ before ++ map f (numbers_from 0 (n + 1))
+one_pushed {X} f n before old new is pushed =
+    rw add-one (pushed ∙ ap (λ (xs : List X). xs ++ f n ∷ []) is ∙ append_assoc before (map f (numbers_from 0 n)) (f n ∷ []) ∙ ap (λ (xs : List X). before ++ xs) (sym (map_end_zero f n)))
 
 pub map_last : {A : Type 0} (f : ℕ → A) (n : ℕ) → map f (numbers_from 1 (n + 1)) ≡ map f (numbers_from 1 n) ++ f (n + 1) ∷ []
 map_last f n = rw add-one (numbers_suc f 1 n ∙ (let e : 1 + n ≡ suc n = omega arith in ap (λ (m : ℕ). map f (numbers_from 1 n) ++ f m ∷ []) e))
