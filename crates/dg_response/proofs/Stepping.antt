@@ -66,10 +66,10 @@ module _ (checked : CheckedDiagram) (rows : Rows) (is : IsChecked checked.diagra
           by-places (λ (e : RootElement). table e.block 1 e.element t) elements out (long ∙ stood.wide ∙ length-map elements column_of)
           (λ place e there. (stepped (stimulus_of checked.diagram rows) rows.lines table (is-at table solves)).1 place e there ∙ ap (λ n. table e.block 1 e.element n) stood.samples)
 
-      pub row-at : IsRowAt checked rows t (row_of later)
+      row-at : IsRowAt checked rows t (row_of later)
       row-at = record { each = λ lines response. row_is ∙ shows-now response.table response.solves ∙ sym (response.lines_are t below) }
 
-      pub before-next : IsBefore checked rows later (t + 1)
+      before-next : IsBefore checked rows later (t + 1)
       before-next = record {
         columns = columns;
         fits = fits;
@@ -81,6 +81,9 @@ module _ (checked : CheckedDiagram) (rows : Rows) (is : IsChecked checked.diagra
             let next : suc before.sim.samples ≡ t + 1 = (let e = stood.samples in omega (arith, e)) in
             subst (λ (n : ℕ). Stands checked.diagram attributes later.sim table n) next (stepped (stimulus_of checked.diagram rows) rows.lines table (is-at table solves)).0;
       }
+
+      pub moved-on : IsBefore checked rows later (t + 1) × IsRowAt checked rows t (row_of later)
+      moved-on = (before-next, row-at)
 
 -- ---- the first sample
 

@@ -1,10 +1,11 @@
-use Rattle.std.proofs.Common.{◌≡◌, ◌*◌, ℤ, List, length, take, drop, sym, ap, subst, ◌∙◌}
+use Rattle.std.proofs.Common.{◌≡◌, ◌*◌, ◌+◌, ℤ, List, length, take, drop, sym, ap, subst, ◌∙◌}
 use Rattle.std.specs.Vec.{with_items}
 use Rattle.std.proofs.lemmas.List.{with_items_is}
 use Rattle.dg_sim.specs.Sim.{IsAt, IsStepped}
-use Rattle.dg_response.specs.Responding.{row_of}
+use Rattle.dg_response.specs.declared.responding.Responding.{Responding}
+use Rattle.dg_response.specs.Responding.{IsBefore, IsRowAt, row_of}
 use Rattle.dg_response.specs.Response.{stimulus_of}
-use Rattle.dg_response.proofs.Stepping.{before-next, is-at, part-is, row-at, stimulus-is}
+use Rattle.dg_response.proofs.Stepping.{is-at, moved-on, part-is, stimulus-is}
 use Rattle.dg_response.proofs.responding.Responding.step.Goals as goal
 use Rattle.dg_response.proofs.responding.Responding.step.Goals.{After-step}
 
@@ -38,18 +39,18 @@ stepped c =
     subst (λ (row : List ℤ). IsStepped c.args.checked.now c.args.self.now.sim c.step.new.self row c.step.new.out)
     (part-is (c.args.sample * rows.columns) rows.columns c.as_slice-numbers.result.now rows.cells c.as_slice-numbers.ensures) c.step.ensures.stepped
 
-pub returns-clause-before : goal.returns-clause-before
-returns-clause-before c =
-    let point = (goal.at.returns-clause-before c).After-step in
+-- the response with them stands before the next sample
+abbrev later : After-step → Responding
+later c = record { sim = c.step.new.self; row = with_items c.args.self.now.row c.step.new.out }
+
+moved : (c : After-step) → IsBefore c.args.checked.now c.args.rows.now (later c) (c.args.sample + 1) × IsRowAt c.args.checked.now c.args.rows.now c.args.sample (row_of (later c))
+moved c =
     let stood = c.requires.before in
-    let old = c.args.self.now in
-    before-next c.args.checked.now c.args.rows.now c.keeps_rules.ensures.checked stood.columns stood.fits c.columns_are_a_stimulus.ensures.made c.columns_are_a_stimulus.ensures.kept
-    old c.args.sample c.requires.within stood (record { sim = c.step.new.self; row = with_items old.row c.step.new.out }) c.step.new.out (row_is point) (long point) c.step.ensures.sim c.step.ensures.samples (stepped point)
+    moved-on c.args.checked.now c.args.rows.now c.keeps_rules.ensures.checked stood.columns stood.fits c.columns_are_a_stimulus.ensures.made c.columns_are_a_stimulus.ensures.kept
+    c.args.self.now c.args.sample c.requires.within stood (later c) c.step.new.out (row_is c) (long c) c.step.ensures.sim c.step.ensures.samples (stepped c)
+
+pub returns-clause-before : goal.returns-clause-before
+returns-clause-before c = (moved (goal.at.returns-clause-before c).After-step).0
 
 pub returns-clause-row : goal.returns-clause-row
-returns-clause-row c =
-    let point = (goal.at.returns-clause-row c).After-step in
-    let stood = c.requires.before in
-    let old = c.args.self.now in
-    row-at c.args.checked.now c.args.rows.now c.keeps_rules.ensures.checked stood.columns stood.fits c.columns_are_a_stimulus.ensures.made c.columns_are_a_stimulus.ensures.kept
-    old c.args.sample c.requires.within stood (record { sim = c.step.new.self; row = with_items old.row c.step.new.out }) c.step.new.out (row_is point) (long point) c.step.ensures.sim c.step.ensures.samples (stepped point)
+returns-clause-row c = (moved (goal.at.returns-clause-row c).After-step).1
