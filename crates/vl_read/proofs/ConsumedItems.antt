@@ -10,7 +10,7 @@ use Rattle.vl_ast.specs.Grammar.{comma, attr_tokens, attrs_tokens, signed_tokens
 use Rattle.vl_read.specs.declared.places.Frame.{Frame}
 use Rattle.vl_read.specs.inner.Places.{Spot, Goal, NetKind, AttrSpot, Place}
 use Rattle.vl_read.specs.inner.Places.Goal.{Assigned, Condition, Next}
-use Rattle.vl_read.specs.inner.Places.NetKind.{OfPort, OfWire, OfReg}
+use Rattle.vl_read.specs.inner.Places.NetKind.{OfPort, OfItem}
 use Rattle.vl_read.specs.declared.places.NetSpot.{NetSpot}
 use Rattle.vl_read.specs.declared.places.NetSpot.TheVariants.{Word, Signed, Ranged, Bound, Colon, Zero, Close, Named}
 use Rattle.vl_read.specs.inner.Places.AttrSpot.{AttrName, AttrSign, AttrValue, More}
@@ -18,7 +18,7 @@ use Rattle.vl_read.specs.inner.Places.Place.{Start, Attributes, Title, Ports, Po
 use Rattle.vl_read.specs.declared.places.Draft.{Draft}
 use Rattle.vl_read.specs.declared.places.HeadSpot.{HeadSpot}
 use Rattle.vl_read.specs.declared.places.HeadSpot.TheVariants.{Event, OpenEvent, Posedge, Clock, CloseEvent, Begin, Test, OpenTest, Reset, CloseTest}
-use Rattle.vl_read.proofs.ModuleTokens.{direction, named_tokens, always_tokens}
+use Rattle.vl_read.proofs.ModuleTokens.{direction, item_word, named_tokens, always_tokens}
 use Rattle.vl_read.proofs.Consumed.{before_next, Begun}
 
 -- the text before a spot of a list of attributes. After a number, both ways to go on are told
@@ -32,8 +32,7 @@ IsAttrText attrs More text =
 -- the words of a declaration
 abbrev pub net_words : NetKind → List Token
 net_words (OfPort attrs input) = Key (direction input) ∷ Key (codes "wire") ∷ []
-net_words OfWire = Key (codes "wire") ∷ []
-net_words OfReg = Key (codes "reg") ∷ []
+net_words (OfItem is_reg) = Key (item_word is_reg) ∷ []
 
 -- the text before a spot of a declaration
 abbrev pub IsNetText : NetKind → NetSpot → List Token → Type 0
@@ -176,8 +175,7 @@ pub record AttrsAt (most : ℕ) (draft : Draft) (of_port : Bool) (attrs : List A
 -- what stands around a declaration
 abbrev pub AroundNet : ℕ → Draft → NetKind → List Token → List Token → Type 0
 AroundNet most draft (OfPort attrs input) own text = AtPort most draft (attrs_tokens attrs ++ own) text
-AroundNet most draft OfWire own text = InItem most draft own text
-AroundNet most draft OfReg own text = InItem most draft own text
+AroundNet most draft (OfItem is_reg) own text = InItem most draft own text
 
 -- a declaration is begun up to a spot
 pub record NetAt (most : ℕ) (draft : Draft) (net : NetKind) (at : NetSpot) (text : List Token) : Type 0 where

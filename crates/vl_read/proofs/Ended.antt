@@ -1,16 +1,16 @@
 -- Each beginning of a text can be ended, so that the whole is one of a module.
-use Rattle.std.proofs.Common.{◌≡◌, ℕ, Bool, true, false, cond, List, [], ◌∷◌, ◌++◌, Some, None, refl, ◌∙◌, ap, subst, codes, option_and_then}
+use Rattle.std.proofs.Common.{◌≡◌, ℕ, zero, suc, Bool, true, false, cond, List, [], ◌∷◌, ◌++◌, Some, None, refl, sym, ◌∙◌, ap, subst, codes, option_and_then}
 use Rattle.vl_ast.specs.declared.expressions.Sized.{Sized}
 use Rattle.vl_ast.specs.declared.modules.Attr.{Attr}
 use Rattle.vl_ast.specs.declared.modules.Port.{Port}
 use Rattle.vl_ast.specs.declared.modules.ModItem.{ModItem}
-use Rattle.vl_ast.specs.declared.modules.ModItem.TheVariants.{Wire, Reg, Assign, Always}
+use Rattle.vl_ast.specs.declared.modules.ModItem.TheVariants.{Assign, Always}
 use Rattle.vl_ast.specs.declared.modules.Module.{Module}
 use Rattle.vl_read.specs.declared.scan.Mode.{Mode}
 use Rattle.vl_read.specs.declared.scan.Mode.TheVariants.{Between, Word as InWord, Mark as InMark, Slash, LineComment, BlockComment, Star}
 use Rattle.vl_read.specs.inner.Places.{Clocked, Goal, NetKind, AttrSpot, Place, Parser}
 use Rattle.vl_read.specs.inner.Places.Goal.{Assigned, Condition, Next}
-use Rattle.vl_read.specs.inner.Places.NetKind.{OfPort, OfWire, OfReg}
+use Rattle.vl_read.specs.inner.Places.NetKind.{OfPort, OfItem}
 use Rattle.vl_read.specs.declared.places.NetSpot.{NetSpot}
 use Rattle.vl_read.specs.declared.places.NetSpot.TheVariants.{Word, Signed, Ranged, Bound, Colon, Zero, Close, Named}
 use Rattle.vl_read.specs.inner.Places.AttrSpot.{AttrName, AttrSign, AttrValue, More}
@@ -20,7 +20,7 @@ use Rattle.vl_read.specs.declared.places.HeadSpot.{HeadSpot}
 use Rattle.vl_read.specs.declared.places.HeadSpot.TheVariants.{Event, OpenEvent, Posedge, Clock, CloseEvent, Begin, Test, OpenTest, Reset, CloseTest}
 use Rattle.vl_read.specs.inner.Lexemes.{class_of, extends, kind_of, dec_of, sized_of, Move, move, moved, lexemes_from}
 use Rattle.vl_read.specs.inner.Turns.{IsBeyond, feed, ahead}
-use Rattle.vl_read.specs.inner.Plain.{parser_at, goes, parse, start, head_word, after_head, step, attr_step, declared, net_step, goal_step, spot_step, step_at}
+use Rattle.vl_read.specs.inner.Plain.{parser_at, goes, parse, start, head_word, after_head, step, attr_step, net_item, declared, net_step, goal_step, spot_step, step_at}
 use Rattle.vl_read.proofs.LexemeKinds.{name_kind}
 use Rattle.vl_read.proofs.Scanned.{silent}
 use Rattle.vl_read.proofs.Lexed.{identifier_text}
@@ -139,50 +139,24 @@ head_word_is OpenTest = a_mark (codes "(") refl
 head_word_is Reset = a_key (codes "reset") refl
 head_word_is CloseTest = a_mark (codes ")") refl
 
-head_goes : (draft : Draft) (at : HeadSpot) → CanEnd (parser_at draft (after_head at)) → CanEnd (parser_at draft (Head at))
-head_goes draft at rest = by_lexeme _ _ (head_word at) (head_word_is at) (head_step draft at) rest
+-- the place after so many of them
+abbrev later : ℕ → Place → Place
+later zero place = place
+later (suc n) (Head at) = later n (after_head at)
+later (suc n) place = place
 
-close_test_ends : (draft : Draft) → CanEnd (parser_at draft (Head CloseTest))
-close_test_ends draft = head_goes draft CloseTest (clocked_name_ends draft)
+-- behind ten the name is next
+head_over : (at : HeadSpot) → later 10 (Head at) ≡ ClockedName
+head_over Event = refl
+head_over _ = refl
 
-reset_ends : (draft : Draft) → CanEnd (parser_at draft (Head Reset))
-reset_ends draft = head_goes draft Reset (close_test_ends draft)
-
-open_test_ends : (draft : Draft) → CanEnd (parser_at draft (Head OpenTest))
-open_test_ends draft = head_goes draft OpenTest (reset_ends draft)
-
-test_ends : (draft : Draft) → CanEnd (parser_at draft (Head Test))
-test_ends draft = head_goes draft Test (open_test_ends draft)
-
-begin_ends : (draft : Draft) → CanEnd (parser_at draft (Head Begin))
-begin_ends draft = head_goes draft Begin (test_ends draft)
-
-close_event_ends : (draft : Draft) → CanEnd (parser_at draft (Head CloseEvent))
-close_event_ends draft = head_goes draft CloseEvent (begin_ends draft)
-
-clock_ends : (draft : Draft) → CanEnd (parser_at draft (Head Clock))
-clock_ends draft = head_goes draft Clock (close_event_ends draft)
-
-posedge_ends : (draft : Draft) → CanEnd (parser_at draft (Head Posedge))
-posedge_ends draft = head_goes draft Posedge (clock_ends draft)
-
-open_event_ends : (draft : Draft) → CanEnd (parser_at draft (Head OpenEvent))
-open_event_ends draft = head_goes draft OpenEvent (posedge_ends draft)
-
-event_ends : (draft : Draft) → CanEnd (parser_at draft (Head Event))
-event_ends draft = head_goes draft Event (open_event_ends draft)
+head_goes : (n : ℕ) (draft : Draft) (place : Place) → CanEnd (parser_at draft (later n place)) → CanEnd (parser_at draft place)
+head_goes zero draft place rest = rest
+head_goes (suc n) draft (Head at) rest = by_lexeme _ _ (head_word at) (head_word_is at) (head_step draft at) (head_goes n draft (after_head at) rest)
+head_goes (suc n) draft place rest = rest
 
 head_ends : (draft : Draft) (at : HeadSpot) → CanEnd (parser_at draft (Head at))
-head_ends draft Event = event_ends draft
-head_ends draft OpenEvent = open_event_ends draft
-head_ends draft Posedge = posedge_ends draft
-head_ends draft Clock = clock_ends draft
-head_ends draft CloseEvent = close_event_ends draft
-head_ends draft Begin = begin_ends draft
-head_ends draft Test = test_ends draft
-head_ends draft OpenTest = open_test_ends draft
-head_ends draft Reset = reset_ends draft
-head_ends draft CloseTest = close_test_ends draft
+head_ends draft at = head_goes 10 draft (Head at) (subst (λ place. CanEnd (parser_at draft place)) (sym (head_over at)) (clocked_name_ends draft))
 
 -- ports and declarations
 
@@ -205,8 +179,7 @@ unfolding declared
 declares draft (OfPort attrs input) signed width name =
     let port : Port = record { attrs = attrs; input = input; signed = signed; width = width; name = name } in
     record { to = _; same = refl; ends = after_port_ends (record draft { ports = draft.ports ++ port ∷ [] }) }
-declares draft OfWire signed width name = record { to = _; same = refl; ends = semicolon_ends draft (Wire signed width name) }
-declares draft OfReg signed width name = record { to = _; same = refl; ends = semicolon_ends draft (Reg signed width name) }
+declares draft (OfItem is_reg) signed width name = record { to = _; same = refl; ends = semicolon_ends draft (net_item is_reg signed width name) }
 
 named_ends : (draft : Draft) (net : NetKind) (signed : Bool) (width : ℕ) → CanEnd (parser_at draft (Net net (Named signed width)))
 unfolding step step_at net_step kind_of class_of

@@ -1,5 +1,5 @@
 -- Each form of an expression is read, where its parts are.
-use Rattle.std.proofs.Common.{◌≡◌, ℕ, ◌+◌, ◌≤◌, Bool, true, false, List, [], ◌∷◌, ◌++◌, map, length, refl, sym, ◌∙◌, subst, codes, arith, append_assoc, length-append, max, fold}
+use Rattle.std.proofs.Common.{◌≡◌, ℕ, ◌+◌, ◌<◌, ◌≤◌, Bool, true, false, cond, List, [], ◌∷◌, ◌++◌, map, length, Some, refl, sym, ◌∙◌, subst, codes, arith, append_assoc, length-append, max, fold}
 use Rattle.std.specs.Prelude.{◌&&◌}
 use Rattle.std.specs.List.{list_all}
 use Rattle.std.proofs.lemmas.Bool.{and_parts}
@@ -12,7 +12,7 @@ use Rattle.vl_ast.specs.declared.expressions.Expr.TheOpen.{Expr-F}
 use Rattle.vl_ast.specs.declared.expressions.Expr.TheViews.{roll-Expr}
 use Rattle.vl_ast.specs.declared.expressions.Expr.TheFolds.{map-Expr, fold-roll-Expr}
 use Rattle.vl_ast.specs.Operators.{unary_text, binary_text, shift_text}
-use Rattle.vl_ast.specs.Tokens.{Token, Sign, Identifier, Number, Based}
+use Rattle.vl_ast.specs.Tokens.{Token, Key, Sign, Identifier, Number, Based}
 use Rattle.vl_ast.specs.Grammar.{tokens_step, expr_tokens, depth_step, depth, is_filled_step, is_filled}
 use Rattle.vl_read.specs.declared.places.Opening.TheVariants.{OpenParenthesis, OpenBrace}
 use Rattle.vl_read.specs.declared.places.Closing.TheVariants.{CloseParenthesis, CloseBrace, CloseBracket}
@@ -136,29 +136,27 @@ choose_read t c o read_t read_c read_o draft goal frames tokens lexemes deep fil
 
 -- casts and repetitions
 
-signed_read : (e : Expr) → IsRead e → IsRead (roll-Expr (Expr-F.AsSigned e))
+cast_read : (signed : Bool) (word : List ℕ) (e : Expr) → IsRead e → (draft : Draft) (goal : Goal) (frames : List Frame) (tokens : List Token) (lexemes : List (List ℕ)) →
+    (length frames < 256 → step (at draft goal frames Operand) word ≡ Some (at draft goal (frames ++ InCast signed ∷ []) (Begins OpenParenthesis))) →
+    depth e + 1 + length frames ≤ 256 → is_filled e ≡ true → Writes (Key word ∷ Sign (codes "(") ∷ (expr_tokens e ++ Sign (codes ")") ∷ tokens)) lexemes →
+    Reads (at draft goal frames Operand) lexemes (at draft goal frames (Value (cond signed (roll-Expr (Expr-F.AsSigned e)) (roll-Expr (Expr-F.AsUnsigned e))))) tokens
 unfolding frame_step
-signed_read e read draft goal frames tokens lexemes deep filled w =
-    let d : depth e + 1 + length frames ≤ 256 = layer_depth (Expr-F.AsSigned e) (length frames) deep in
-    let inner : List Frame = frames ++ InCast true ∷ [] in
-    next _ (at draft goal inner (Begins OpenParenthesis)) _ lexemes _ tokens
-    (key _ _ lexemes (codes "$signed") _ (signed_step draft goal frames (omega arith)) (layer_writes (Expr-F.AsSigned e) tokens _ lexemes (as_signed_tokens e tokens) w))
+cast_read signed word e read draft goal frames tokens lexemes goes d filled w =
+    let inner : List Frame = frames ++ InCast signed ∷ [] in
+    next _ (at draft goal inner (Begins OpenParenthesis)) _ lexemes _ tokens (key _ _ lexemes word _ (goes (omega arith)) w)
     (λ l1 w1. next _ (at draft goal inner Operand) _ l1 _ tokens (sign _ _ l1 (codes "(") _ (begins_paren draft goal inner) w1)
-    (λ l2 w2. next _ (at draft goal inner (Value e)) _ l2 _ tokens
-    (read draft goal inner _ l2 (deeper (depth e) (depth e) frames (InCast true) d (omega arith)) (layer_filled (Expr-F.AsSigned e) filled) w2)
-    (λ l3 w3. sign _ _ l3 (codes ")") tokens (in_frame draft goal frames (InCast true) e (codes ")") refl) w3)))
+    (λ l2 w2. next _ (at draft goal inner (Value e)) _ l2 _ tokens (read draft goal inner _ l2 (deeper (depth e) (depth e) frames (InCast signed) d (omega arith)) filled w2)
+    (λ l3 w3. sign _ _ l3 (codes ")") tokens (in_frame draft goal frames (InCast signed) e (codes ")") refl) w3)))
+
+signed_read : (e : Expr) → IsRead e → IsRead (roll-Expr (Expr-F.AsSigned e))
+signed_read e read draft goal frames tokens lexemes deep filled w =
+    cast_read true (codes "$signed") e read draft goal frames tokens lexemes (signed_step draft goal frames) (layer_depth (Expr-F.AsSigned e) (length frames) deep)
+    (layer_filled (Expr-F.AsSigned e) filled) (layer_writes (Expr-F.AsSigned e) tokens _ lexemes (as_signed_tokens e tokens) w)
 
 unsigned_read : (e : Expr) → IsRead e → IsRead (roll-Expr (Expr-F.AsUnsigned e))
-unfolding frame_step
 unsigned_read e read draft goal frames tokens lexemes deep filled w =
-    let d : depth e + 1 + length frames ≤ 256 = layer_depth (Expr-F.AsUnsigned e) (length frames) deep in
-    let inner : List Frame = frames ++ InCast false ∷ [] in
-    next _ (at draft goal inner (Begins OpenParenthesis)) _ lexemes _ tokens
-    (key _ _ lexemes (codes "$unsigned") _ (unsigned_step draft goal frames (omega arith)) (layer_writes (Expr-F.AsUnsigned e) tokens _ lexemes (as_unsigned_tokens e tokens) w))
-    (λ l1 w1. next _ (at draft goal inner Operand) _ l1 _ tokens (sign _ _ l1 (codes "(") _ (begins_paren draft goal inner) w1)
-    (λ l2 w2. next _ (at draft goal inner (Value e)) _ l2 _ tokens
-    (read draft goal inner _ l2 (deeper (depth e) (depth e) frames (InCast false) d (omega arith)) (layer_filled (Expr-F.AsUnsigned e) filled) w2)
-    (λ l3 w3. sign _ _ l3 (codes ")") tokens (in_frame draft goal frames (InCast false) e (codes ")") refl) w3)))
+    cast_read false (codes "$unsigned") e read draft goal frames tokens lexemes (unsigned_step draft goal frames) (layer_depth (Expr-F.AsUnsigned e) (length frames) deep)
+    (layer_filled (Expr-F.AsUnsigned e) filled) (layer_writes (Expr-F.AsUnsigned e) tokens _ lexemes (as_unsigned_tokens e tokens) w)
 
 repeat_read : (n : ℕ) (e : Expr) → IsRead e → IsRead (roll-Expr (Expr-F.Repeat n e))
 unfolding frame_step

@@ -1,7 +1,7 @@
 -- What bytes are divided into is laid in them: the other direction of `Lexed`.
 use Rattle.std.proofs.Common.{◌≡◌, ◌≢◌, ⊎_elim, ℕ, Bool, true, false, cond, List, [], ◌∷◌, ◌++◌, Option, Some, None, refl, sym, ◌∙◌, ap, subst, inl, inr, append_assoc, option_map, option_and_then}
 use Rattle.std.specs.Prelude.{⊤, ◌==◌, ◌&&◌}
-use Rattle.std.proofs.lemmas.Bool.{and_parts, eqb-true, eqb-false, cases_Bool, false≢true, true≢false}
+use Rattle.std.proofs.lemmas.Bool.{and_parts, eqb-true, eqb-false, cases_Bool, false≢true}
 use Rattle.std.proofs.lemmas.Option.{none-some, same_Some}
 use Rattle.vl_ast.specs.Tokens.{Token, Sign, Blank, is_blank, is_word, is_longest, IsWritten, IsLongest, Lays}
 use Rattle.vl_read.specs.declared.scan.ByteClass.{ByteClass}
@@ -18,27 +18,27 @@ use Rattle.vl_read.proofs.LaidMarks.{IsCut, longest_here}
 
 -- what a class says of its byte
 
-blank_test : (word blank comment mark : Bool) → cond word OfWord (cond blank OfBlank (cond comment OfComment (cond mark OfMark OfNone))) ≡ OfBlank → blank ≡ true
-blank_test true blank comment mark h = cc
-blank_test false true comment mark h = refl
-blank_test false false true mark h = cc
-blank_test false false false true h = cc
-blank_test false false false false h = cc
+abbrev Says : ByteClass → Bool → Bool → Type 0
+Says OfBlank blank comment = blank ≡ true
+Says OfComment blank comment = comment ≡ true
+Says class blank comment = ⊤
 
-comment_test : (word blank comment mark : Bool) → cond word OfWord (cond blank OfBlank (cond comment OfComment (cond mark OfMark OfNone))) ≡ OfComment → comment ≡ true
-comment_test true blank comment mark h = cc
-comment_test false true comment mark h = cc
-comment_test false false true mark h = refl
-comment_test false false false true h = cc
-comment_test false false false false h = cc
+class_says : (word blank comment mark : Bool) → Says (cond word OfWord (cond blank OfBlank (cond comment OfComment (cond mark OfMark OfNone)))) blank comment
+class_says true blank comment mark = tt
+class_says false true comment mark = refl
+class_says false false true mark = refl
+class_says false false false true = tt
+class_says false false false false = tt
+
+byte_says : (byte : ℕ) (class : ByteClass) → class_of byte ≡ class → Says class (is_blank byte) (byte == 47)
+unfolding class_of
+byte_says byte class is = subst (λ class. Says class (is_blank byte) (byte == 47)) is (class_says (is_word_byte byte) (is_blank byte) (byte == 47) (is_mark_byte byte))
 
 blank_byte : (byte : ℕ) → class_of byte ≡ OfBlank → is_blank byte ≡ true
-unfolding class_of
-blank_byte byte h = blank_test (is_word_byte byte) (is_blank byte) (byte == 47) (is_mark_byte byte) h
+blank_byte byte is = byte_says byte OfBlank is
 
 slash_byte : (byte : ℕ) → class_of byte ≡ OfComment → byte ≡ 47
-unfolding class_of
-slash_byte byte h = eqb-true byte 47 (comment_test (is_word_byte byte) (is_blank byte) (byte == 47) (is_mark_byte byte) h)
+slash_byte byte is = eqb-true byte 47 (byte_says byte OfComment is)
 
 -- the class of the first byte
 abbrev Begins : ByteClass → List ℕ → Type 0
@@ -128,42 +128,38 @@ first_token (token ∷ others) lexeme more are =
     }
 
 -- a lexeme with nothing before it, and then a layout of the other tokens
+put_first : (tokens : List Token) (lexeme rest : List ℕ) (more : List (List ℕ)) (after word : Bool) (first : FirstToken tokens lexeme more) → is_word first.token ≡ word → (after && word) ≡ false →
+    IsLongest first.token rest → ((others : List Token) → AreTokens others more → Lays word others rest) → Lays after tokens (lexeme ++ rest)
+put_first tokens lexeme rest more after word first is apart longest laid =
+    subst (λ t. Lays after t (lexeme ++ rest)) (sym first.split) (
+      [],
+      lexeme,
+      rest,
+      empty_gap,
+      λ e. absurd (false≢true (sym apart ∙ ap (λ w. after && w) (sym is) ∙ e)),
+      first.written,
+      longest,
+      subst (λ w. Lays w first.others rest) (sym is) (laid first.others first.rest),
+      refl,
+    )
+
 put_word : (tokens : List Token) (lexeme rest : List ℕ) (more : List (List ℕ)) → AreTokens tokens (lexeme ∷ more) → Begins OfWord lexeme →
     ((others : List Token) → AreTokens others more → Lays true others rest) → Lays false tokens (lexeme ++ rest)
 put_word tokens lexeme rest more are begins laid =
     let first = first_token tokens lexeme more are in
     let word : is_word first.token ≡ true = word_token first.token lexeme first.fine first.written begins in
-    subst (λ t. Lays false t (lexeme ++ rest)) (sym first.split) (
-      [],
-      lexeme,
-      rest,
-      empty_gap,
-      λ e. absurd (false≢true e),
-      first.written,
-      word_longest first.token rest word,
-      subst (λ after. Lays after first.others rest) (sym word) (laid first.others first.rest),
-      refl,
-    )
+    put_first tokens lexeme rest more false true first word refl (word_longest first.token rest word) laid
 
 put_mark : (tokens : List Token) (lexeme rest : List ℕ) (more : List (List ℕ)) (after : Bool) → AreTokens tokens (lexeme ∷ more) → Begins OfMark lexeme → IsCut lexeme rest →
     ((others : List Token) → AreTokens others more → Lays false others rest) → Lays after tokens (lexeme ++ rest)
 put_mark tokens lexeme rest more after are begins cut laid =
     let first = first_token tokens lexeme more are in
     let mark : is_word first.token ≡ false = mark_token first.token lexeme first.fine first.written begins in
-    subst (λ t. Lays after t (lexeme ++ rest)) (sym first.split) (
-      [],
-      lexeme,
-      rest,
-      empty_gap,
-      λ e. absurd (no after (is_word first.token) mark e),
-      first.written,
-      mark_longest first.token lexeme rest first.written (begins_some OfMark lexeme begins) cut,
-      subst (λ w. Lays w first.others rest) (sym mark) (laid first.others first.rest),
-      refl,
-    )
+    put_first tokens lexeme rest more after false first mark (apart after) (mark_longest first.token lexeme rest first.written (begins_some OfMark lexeme begins) cut) laid
   where
-    no : (a b : Bool) → b ≡ false → (a && b) ≡ true → ⊥
-    no a b e h = true≢false (sym (and_parts a b h).1 ∙ e)
+    apart : (after : Bool) → (after && false) ≡ false
+    apart true = refl
+    apart false = refl
 
 -- from this mode and lexeme the bytes make the lexemes of the tokens
 pub record AreDivided (mode : Mode) (lexeme bytes : List ℕ) (tokens : List Token) : Type 0 where

@@ -10,7 +10,6 @@ use Rattle.vl_ast.specs.declared.expressions.Expr.{Expr}
 use Rattle.vl_ast.specs.declared.expressions.Expr.TheOpen.{Expr-F}
 use Rattle.vl_ast.specs.declared.expressions.Expr.TheViews.{roll-Expr, out-Expr}
 use Rattle.vl_ast.specs.declared.modules.Attr.{Attr}
-use Rattle.vl_ast.specs.declared.modules.ModItem.TheVariants.{Wire, Reg}
 use Rattle.vl_names.specs.Identifiers.{is_identifier}
 use Rattle.vl_read.specs.declared.places.Opening.TheVariants.{OpenParenthesis, OpenBrace}
 use Rattle.vl_read.specs.declared.places.Closing.TheVariants.{CloseParenthesis, CloseBrace, CloseBracket}
@@ -21,7 +20,7 @@ use Rattle.vl_read.specs.declared.places.Frame.TheVariants.{InConcat, InRepeat, 
 use Rattle.vl_read.specs.inner.Places.{Spot, Goal, NetKind, AttrSpot, Place, Parser}
 use Rattle.vl_read.specs.inner.Places.Spot.{Operand, Opened, Braced, Begins, Value, Ends, Amount, Index, High, Low}
 use Rattle.vl_read.specs.inner.Places.Goal.{Assigned, Condition, Next}
-use Rattle.vl_read.specs.inner.Places.NetKind.{OfPort, OfWire, OfReg}
+use Rattle.vl_read.specs.inner.Places.NetKind.{OfPort, OfItem}
 use Rattle.vl_read.specs.declared.places.NetSpot.{NetSpot}
 use Rattle.vl_read.specs.declared.places.NetSpot.TheVariants.{Word, Signed, Ranged, Bound, Colon, Zero, Close, Named}
 use Rattle.vl_read.specs.inner.Places.AttrSpot.{AttrName, AttrSign, AttrValue, More}
@@ -31,7 +30,7 @@ use Rattle.vl_read.specs.declared.places.HeadSpot.{HeadSpot}
 use Rattle.vl_read.specs.declared.places.HeadSpot.TheVariants.{Event}
 use Rattle.vl_read.specs.inner.Lexemes.{kind_of}
 use Rattle.vl_read.specs.inner.Turns.{feed}
-use Rattle.vl_read.specs.inner.Plain.{goes, after_head, expect, spot_at, expect_spot, on_name, on_number, on_based, attr_step, declared, net_step, compound_step, operand_step, unary_or_left, opened_step, braced_step, innermost, left_by, left_step, frame_step, goal_step, value_step, name_of, indexed, spot_step, item_step, step_at, step, start}
+use Rattle.vl_read.specs.inner.Plain.{goes, after_head, expect, spot_at, expect_spot, on_name, on_number, on_based, attr_step, net_item, declared, net_step, compound_step, operand_step, unary_or_left, opened_step, braced_step, innermost, left_by, left_step, frame_step, goal_step, value_step, name_of, indexed, spot_step, item_step, step_at, step, start}
 use Rattle.vl_ast.specs.Operators.{unary_of, infix_of, shift_of}
 use Rattle.vl_read.proofs.KindSound.{then_some, name_sound}
 
@@ -98,8 +97,7 @@ attr_lives draft false attrs More kind lexeme = if_lives (bytes_eq lexeme (codes
 declared_lives : (draft : Draft) (net : NetKind) (signed : Bool) (width : ℕ) (name : List ℕ) → Lives (declared draft net signed width name)
 unfolding declared
 declared_lives draft (OfPort attrs input) signed width name = there _ AfterPort tt
-declared_lives draft OfWire signed width name = there draft (Semicolon (Wire signed width name)) tt
-declared_lives draft OfReg signed width name = there draft (Semicolon (Reg signed width name)) tt
+declared_lives draft (OfItem is_reg) signed width name = there draft (Semicolon (net_item is_reg signed width name)) tt
 
 net_lives : (draft : Draft) (net : NetKind) (at : NetSpot) (kind : Kind) (lexeme : List ℕ) → Lives (net_step draft net at kind lexeme)
 unfolding net_step
@@ -207,8 +205,8 @@ spot_lives draft goal frames (Low name high) kind lexeme g =
 item_lives : (draft : Draft) (lexeme : List ℕ) → Lives (item_step draft lexeme)
 unfolding item_step
 item_lives draft lexeme =
-    if_lives (bytes_eq lexeme (codes "wire")) _ _ (there draft (Net OfWire Signed) tt)
-    (if_lives (bytes_eq lexeme (codes "reg")) _ _ (there draft (Net OfReg Signed) tt) (if_lives (bytes_eq lexeme (codes "assign")) _ _ (there draft AssignName tt) (expect_lives (codes "always") lexeme draft (Head Event) tt)))
+    if_lives (bytes_eq lexeme (codes "wire")) _ _ (there draft (Net (OfItem false) Signed) tt)
+    (if_lives (bytes_eq lexeme (codes "reg")) _ _ (there draft (Net (OfItem true) Signed) tt) (if_lives (bytes_eq lexeme (codes "assign")) _ _ (there draft AssignName tt) (expect_lives (codes "always") lexeme draft (Head Event) tt)))
 
 head_live : (at : HeadSpot) → IsLive (after_head at)
 head_live Event = tt

@@ -39,6 +39,9 @@ port_is port range tokens = ap (λ t. Key (direction port.input) ∷ Key (codes 
 
 -- wires and registers
 
+abbrev pub item_word : Bool → List ℕ
+item_word is_reg = cond is_reg (codes "reg") (codes "wire")
+
 abbrev pub after_declaration : Bool → List Token → List ℕ → List Token → List Token
 after_declaration signed range n tokens = signed_tokens signed ++ (range ++ Identifier n ∷ Sign (codes ";") ∷ tokens)
 

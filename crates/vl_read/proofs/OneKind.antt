@@ -6,6 +6,7 @@ use Rattle.std.proofs.lemmas.Bool.{and_left, true≢false, cond_both}
 use Rattle.std.proofs.lemmas.Slice.Eq.{bytes_eq-Decides}
 use Rattle.vl_ast.specs.declared.expressions.Sized.{Sized}
 use Rattle.vl_names.specs.Identifiers.{is_identifier}
+use Rattle.vl_read.specs.declared.scan.Kind.{Kind}
 use Rattle.vl_read.specs.declared.scan.Kind.TheVariants.{Name, Fixed}
 use Rattle.vl_read.specs.inner.Lexemes.{begins_number, kind_of, kind_by, dec_of, sized_of, sized_in, is_nonempty, number_after, around_quote}
 use Rattle.vl_read.specs.inner.Plain.{is_name, count_of, constant_of}
@@ -23,35 +24,32 @@ pub name_is : (lexeme : List ℕ) → is_name (kind_of lexeme) ≡ is_identifier
 unfolding kind_of
 name_is lexeme = named (is_identifier lexeme) (dec_of lexeme) (sized_of lexeme)
 
+-- what a number is read as, where there is one and where there is none
+read_as : {A : Type 0} (read : Kind → Option A) (kind : Option A → Kind) (o : Option A) → ((x : A) → o ≡ Some x → read (kind o) ≡ Some x) → read (kind None) ≡ None → read (kind o) ≡ o
+read_as read kind None some none = none
+read_as read kind (Some x) some none = some x refl
+
 uncounted : (t : Bool) (s : Option Sized) → count_of (cond t Name (kind_by None s)) ≡ None
 uncounted true s = refl
 uncounted false (Some s) = refl
 uncounted false None = refl
-
-pub count_is : (lexeme : List ℕ) → count_of (kind_of lexeme) ≡ dec_of lexeme
-unfolding kind_of
-count_is lexeme = by_number (dec_of lexeme) refl
-  where
-    by_number : (o : Option ℕ) → dec_of lexeme ≡ o → count_of (cond (is_identifier lexeme) Name (kind_by o (sized_of lexeme))) ≡ o
-    by_number None e = uncounted (is_identifier lexeme) (sized_of lexeme)
-    by_number (Some n) e =
-        ap (λ o. count_of (cond (is_identifier lexeme) Name (kind_by o (sized_of lexeme)))) (sym e)
-        ∙ ap count_of (dec_kind n lexeme (dec_sound lexeme n e))
 
 inconstant : (t : Bool) (o : Option ℕ) → constant_of (cond t Name (kind_by o None)) ≡ None
 inconstant true o = refl
 inconstant false (Some n) = refl
 inconstant false None = refl
 
+pub count_is : (lexeme : List ℕ) → count_of (kind_of lexeme) ≡ dec_of lexeme
+unfolding kind_of
+count_is lexeme =
+    read_as count_of (λ o. cond (is_identifier lexeme) Name (kind_by o (sized_of lexeme))) (dec_of lexeme)
+    (λ n e. ap count_of (dec_kind n lexeme (dec_sound lexeme n e))) (uncounted (is_identifier lexeme) (sized_of lexeme))
+
 pub constant_is : (lexeme : List ℕ) → constant_of (kind_of lexeme) ≡ sized_of lexeme
 unfolding kind_of
-constant_is lexeme = by_number (sized_of lexeme) refl
-  where
-    by_number : (o : Option Sized) → sized_of lexeme ≡ o → constant_of (cond (is_identifier lexeme) Name (kind_by (dec_of lexeme) o)) ≡ o
-    by_number None e = inconstant (is_identifier lexeme) (dec_of lexeme)
-    by_number (Some s) e =
-        ap (λ o. constant_of (cond (is_identifier lexeme) Name (kind_by (dec_of lexeme) o))) (sym e)
-        ∙ ap constant_of (based_kind s lexeme (sized_sound lexeme s e))
+constant_is lexeme =
+    read_as constant_of (λ o. cond (is_identifier lexeme) Name (kind_by (dec_of lexeme) o)) (sized_of lexeme)
+    (λ s e. ap constant_of (based_kind s lexeme (sized_sound lexeme s e))) (inconstant (is_identifier lexeme) (dec_of lexeme))
 
 -- `signed` is no name
 pub signed_is : (lexeme : List ℕ) → bytes_eq lexeme (codes "signed") ≡ true → is_name (kind_of lexeme) ≡ false

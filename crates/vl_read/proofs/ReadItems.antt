@@ -1,5 +1,5 @@
 -- Items are read from what is written for their tokens.
-use Rattle.std.proofs.Common.{◌≡◌, ℕ, ◌+◌, ◌<◌, ◌≤◌, Bool, false, cond, List, [], ◌∷◌, ◌++◌, length, Option, Some, None, refl, sym, ◌∙◌, ap, subst, codes, arith, append_assoc, append-nil, length-append, bytes_eq}
+use Rattle.std.proofs.Common.{◌≡◌, ℕ, ◌+◌, ◌<◌, ◌≤◌, Bool, true, false, cond, List, [], ◌∷◌, ◌++◌, length, Option, Some, None, refl, sym, ◌∙◌, ap, subst, codes, arith, append_assoc, append-nil, length-append, bytes_eq}
 use Rattle.std.specs.List.{AllZip, flat_map}
 use Rattle.std.proofs.lemmas.Bool.{lt-ltb}
 use Rattle.vl_ast.specs.declared.expressions.Sized.{Sized}
@@ -8,36 +8,33 @@ use Rattle.vl_ast.specs.declared.expressions.Expr.TheViews.{out-Expr}
 use Rattle.vl_ast.specs.declared.modules.ModItem.{ModItem}
 use Rattle.vl_ast.specs.declared.modules.ModItem.TheVariants.{Wire, Reg, Assign, Always}
 use Rattle.vl_ast.specs.Tokens.{Token, Key, Sign, Identifier, Based}
-use Rattle.vl_ast.specs.Grammar.{expr_tokens, IsExpr, condition_tokens, IsCondition, IsItemText}
+use Rattle.vl_ast.specs.Grammar.{expr_tokens, IsExpr, IsRange, declaration_tokens, condition_tokens, IsCondition, IsItemText}
 use Rattle.vl_read.specs.declared.scan.Kind.TheVariants.{Name, Constant}
 use Rattle.vl_read.specs.inner.Places.Spot.{Operand, Value}
 use Rattle.vl_read.specs.inner.Places.{Clocked, Goal}
 use Rattle.vl_read.specs.inner.Places.Goal.{Assigned, Condition, Next}
-use Rattle.vl_read.specs.inner.Places.NetKind.{OfWire, OfReg}
+use Rattle.vl_read.specs.inner.Places.NetKind.{OfItem}
 use Rattle.vl_read.specs.declared.places.NetSpot.TheVariants.{Signed}
 use Rattle.vl_read.specs.inner.Places.Place.{Net, Items, AssignName, AssignSign, Head, ClockedName, ClockedSign, First, AfterFirst, Else, Branch, If, Again, NextSign, Semicolon, End}
 use Rattle.vl_read.specs.declared.places.Draft.{Draft}
 use Rattle.vl_read.specs.declared.places.HeadSpot.{HeadSpot}
 use Rattle.vl_read.specs.declared.places.HeadSpot.TheVariants.{Event, OpenEvent, Posedge, Clock, CloseEvent, Begin, Test, OpenTest, Reset, CloseTest}
 use Rattle.vl_read.specs.inner.Lexemes.{kind_of, dec_of, sized_of}
-use Rattle.vl_read.specs.inner.Plain.{head_word, after_head, parser_at, goes, step, parse, name_of, goal_step, declared, item_step, attr_step, net_step, compound_step, operand_step, unary_or_left, opened_step, braced_step, left_step, frame_step, spot_step, step_at}
+use Rattle.vl_read.specs.inner.Plain.{head_word, after_head, parser_at, goes, step, parse, name_of, goal_step, net_item, declared, item_step, attr_step, net_step, compound_step, operand_step, unary_or_left, opened_step, braced_step, left_step, frame_step, spot_step, step_at}
 use Rattle.vl_read.proofs.Expressions.{at, no_index}
 use Rattle.vl_read.proofs.Forms.{expression_read}
 use Rattle.fx_io.proofs.Tests.{same_bytes}
 use Rattle.vl_read.proofs.Written.{Writes, Reads, writes_as, next, sign, key, name, based}
-use Rattle.vl_read.proofs.ModuleTokens.{declaration_is, assign_is, always_tail, always_is, condition_is}
+use Rattle.vl_read.proofs.ModuleTokens.{item_word, declaration_is, assign_is, always_tail, always_is, condition_is}
 use Rattle.vl_read.proofs.ReadPorts.{net_read}
 
 abbrev with_item : Draft → ModItem → Draft
 with_item draft item = record draft { items = draft.items ++ item ∷ [] }
 
-item_wire : (draft : Draft) → length draft.items < draft.most → step (parser_at draft Items) (codes "wire") ≡ Some (parser_at draft (Net OfWire Signed))
-unfolding step attr_step declared net_step compound_step operand_step unary_or_left opened_step braced_step left_step frame_step goal_step spot_step item_step step_at
-item_wire draft room = ap (λ t. cond t (item_step draft (codes "wire")) None) (lt-ltb (length draft.items) draft.most room)
-
-item_reg : (draft : Draft) → length draft.items < draft.most → step (parser_at draft Items) (codes "reg") ≡ Some (parser_at draft (Net OfReg Signed))
-unfolding step attr_step declared net_step compound_step operand_step unary_or_left opened_step braced_step left_step frame_step goal_step spot_step item_step step_at
-item_reg draft room = ap (λ t. cond t (item_step draft (codes "reg")) None) (lt-ltb (length draft.items) draft.most room)
+item_net : (draft : Draft) (is_reg : Bool) → length draft.items < draft.most → step (parser_at draft Items) (item_word is_reg) ≡ Some (parser_at draft (Net (OfItem is_reg) Signed))
+unfolding step item_step step_at
+item_net draft true room = ap (λ t. cond t (item_step draft (codes "reg")) None) (lt-ltb (length draft.items) draft.most room)
+item_net draft false room = ap (λ t. cond t (item_step draft (codes "wire")) None) (lt-ltb (length draft.items) draft.most room)
 
 item_assign : (draft : Draft) → length draft.items < draft.most → step (parser_at draft Items) (codes "assign") ≡ Some (parser_at draft (AssignName))
 unfolding step attr_step declared net_step compound_step operand_step unary_or_left opened_step braced_step left_step frame_step goal_step spot_step item_step step_at
@@ -75,19 +72,13 @@ abbrev IsItemRead : ModItem → List Token → Type 0
 IsItemRead item written = (draft : Draft) (tokens : List Token) (lexemes : List (List ℕ)) → length draft.items < draft.most → Writes (written ++ tokens) lexemes →
     Reads (parser_at draft Items) lexemes (parser_at (with_item draft item) Items) tokens
 
-wire_read : (signed : Bool) (width : ℕ) (n : List ℕ) (written : List Token) → IsItemText (Wire signed width n) written → IsItemRead (Wire signed width n) written
-wire_read signed width n written is draft tokens lexemes room w =
-    next _ (parser_at draft (Net OfWire Signed)) _ lexemes _ tokens
-    (key _ _ lexemes (codes "wire") _ (item_wire draft room) (writes_as _ _ lexemes (ap (λ t. t ++ tokens) is.2 ∙ declaration_is (codes "wire") signed is.0 n tokens) w))
-    (λ l1 w1. next _ (parser_at draft (Semicolon (Wire signed width n))) _ l1 _ tokens (net_read draft OfWire signed width is.0 n _ l1 is.1 w1)
-    (λ l2 w2. sign _ _ l2 (codes ";") tokens (semicolon_step draft (Wire signed width n)) w2))
-
-reg_read : (signed : Bool) (width : ℕ) (n : List ℕ) (written : List Token) → IsItemText (Reg signed width n) written → IsItemRead (Reg signed width n) written
-reg_read signed width n written is draft tokens lexemes room w =
-    next _ (parser_at draft (Net OfReg Signed)) _ lexemes _ tokens
-    (key _ _ lexemes (codes "reg") _ (item_reg draft room) (writes_as _ _ lexemes (ap (λ t. t ++ tokens) is.2 ∙ declaration_is (codes "reg") signed is.0 n tokens) w))
-    (λ l1 w1. next _ (parser_at draft (Semicolon (Reg signed width n))) _ l1 _ tokens (net_read draft OfReg signed width is.0 n _ l1 is.1 w1)
-    (λ l2 w2. sign _ _ l2 (codes ";") tokens (semicolon_step draft (Reg signed width n)) w2))
+net_item_read : (is_reg signed : Bool) (width : ℕ) (n : List ℕ) (range written : List Token) → IsRange width range →
+    written ≡ declaration_tokens (Key (item_word is_reg) ∷ []) signed range n ++ Sign (codes ";") ∷ [] → IsItemRead (net_item is_reg signed width n) written
+net_item_read is_reg signed width n range written ranged is draft tokens lexemes room w =
+    next _ (parser_at draft (Net (OfItem is_reg) Signed)) _ lexemes _ tokens
+    (key _ _ lexemes (item_word is_reg) _ (item_net draft is_reg room) (writes_as _ _ lexemes (ap (λ t. t ++ tokens) is ∙ declaration_is (item_word is_reg) signed range n tokens) w))
+    (λ l1 w1. next _ (parser_at draft (Semicolon (net_item is_reg signed width n))) _ l1 _ tokens (net_read draft (OfItem is_reg) signed width range n _ l1 ranged w1)
+    (λ l2 w2. sign _ _ l2 (codes ";") tokens (semicolon_step draft (net_item is_reg signed width n)) w2))
 
 assign_read : (n : List ℕ) (e : Expr) (written : List Token) → IsItemText (Assign n e) written → IsItemRead (Assign n e) written
 unfolding goal_step
@@ -198,8 +189,8 @@ always_read n first condition e written is draft tokens lexemes room w =
     (λ l11 w11. key _ _ l11 (codes "end") tokens (end_step draft item) w11)))))))))))
 
 item_read : (item : ModItem) (written : List Token) → IsItemText item written → IsItemRead item written
-item_read (Wire signed width n) written is = wire_read signed width n written is
-item_read (Reg signed width n) written is = reg_read signed width n written is
+item_read (Wire signed width n) written is = net_item_read false signed width n is.0 written is.1 is.2
+item_read (Reg signed width n) written is = net_item_read true signed width n is.0 written is.1 is.2
 item_read (Assign n e) written is = assign_read n e written is
 item_read (Always n first condition e) written is = always_read n first condition e written is
 

@@ -3,19 +3,18 @@ use Rattle.std.proofs.Common.{◌≡◌, inl, inr, ℕ, ◌+◌, ◌-◌, ◌<�
 use Rattle.std.specs.List.{AllZip, flat_map}
 use Rattle.vl_ast.specs.declared.modules.Attr.{Attr}
 use Rattle.vl_ast.specs.declared.modules.Port.{Port}
-use Rattle.vl_ast.specs.declared.modules.ModItem.TheVariants.{Wire, Reg}
 use Rattle.vl_ast.specs.Spelling.{joined}
 use Rattle.vl_ast.specs.Tokens.{Token, Key, Sign, Identifier, Number}
 use Rattle.vl_ast.specs.Grammar.{comma, attr_tokens, attrs_tokens, signed_tokens, IsRange, IsPortText}
 use Rattle.vl_read.specs.declared.scan.Kind.TheVariants.{Name, Count}
 use Rattle.vl_read.specs.inner.Places.{NetKind, Parser}
-use Rattle.vl_read.specs.inner.Places.NetKind.{OfPort, OfWire, OfReg}
+use Rattle.vl_read.specs.inner.Places.NetKind.{OfPort, OfItem}
 use Rattle.vl_read.specs.declared.places.NetSpot.TheVariants.{Word, Signed, Ranged, Bound, Colon, Zero, Close, Named}
 use Rattle.vl_read.specs.inner.Places.AttrSpot.{AttrName, AttrSign, AttrValue, More}
 use Rattle.vl_read.specs.inner.Places.Place.{Start, Attributes, Port as PortPlace, Net, AfterPort, Semicolon}
 use Rattle.vl_read.specs.declared.places.Draft.{Draft}
 use Rattle.vl_read.specs.inner.Lexemes.{kind_of, dec_of, sized_of}
-use Rattle.vl_read.specs.inner.Plain.{parser_at, step, parse, goal_step, declared, item_step, attr_step, net_step, compound_step, operand_step, unary_or_left, opened_step, braced_step, left_step, frame_step, spot_step, step_at}
+use Rattle.vl_read.specs.inner.Plain.{parser_at, step, parse, goal_step, net_item, declared, item_step, attr_step, net_step, compound_step, operand_step, unary_or_left, opened_step, braced_step, left_step, frame_step, spot_step, step_at}
 use Rattle.vl_read.proofs.Written.{Writes, Reads, writes_as, next, sign, key, name, number}
 use Rattle.vl_read.proofs.ModuleTokens.{more_attrs, attrs_rest, direction, port_text, port_words, port_is}
 
@@ -78,8 +77,7 @@ attrs_read attr attrs draft of_port tokens lexemes w =
 abbrev pub declared_at : Draft → NetKind → Bool → ℕ → List ℕ → Parser
 declared_at draft (OfPort attrs input) signed width n =
     parser_at (record draft { ports = draft.ports ++ record { attrs = attrs; input = input; signed = signed; width = width; name = n } ∷ [] }) AfterPort
-declared_at draft OfWire signed width n = parser_at draft (Semicolon (Wire signed width n))
-declared_at draft OfReg signed width n = parser_at draft (Semicolon (Reg signed width n))
+declared_at draft (OfItem is_reg) signed width n = parser_at draft (Semicolon (net_item is_reg signed width n))
 
 declared_is : (draft : Draft) (net : NetKind) (signed : Bool) (width : ℕ) (n : List ℕ) → declared draft net signed width n ≡ Some (declared_at draft net signed width n)
 unfolding declared

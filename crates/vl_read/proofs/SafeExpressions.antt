@@ -18,9 +18,9 @@ use Rattle.vl_ast.specs.Tokens.{Token, Key, Sign, Identifier, Number, Based}
 use Rattle.vl_ast.specs.Grammar.{tokens_step, expr_tokens}
 use Rattle.vl_read.specs.inner.Lexemes.{class_of, extends}
 use Rattle.vl_read.proofs.Layers.{by_layers}
-use Rattle.vl_read.proofs.Safe.{is_fine, follows, safe}
+use Rattle.vl_read.proofs.Safe.{is_key, is_fine, follows, safe}
 use Rattle.vl_read.proofs.FormTokens.{layer_tokens, unary_tokens, binary_tokens, shift_tokens, choose_tokens, as_signed_tokens, as_unsigned_tokens, repeat_tokens, more_tokens, concat_tokens}
-use Rattle.vl_read.proofs.SafeMarks.{fine_first, opens, after_closing, closes_square, closes_round, closes_opening, closes_identifier, closes_key, closes_number, closes_based, begun, opens_word, follows_identifier, follows_key, follows_based, opens_open, opens_brace, fine_open, fine_brace, comma_opens, round_ends, brace_ends}
+use Rattle.vl_read.proofs.SafeMarks.{fine_first, opens, after_closing, never, after_mark, closes_identifier, closes_key, closes_number, closes_based, begun, opens_word, follows_identifier, follows_key, follows_based, opens_open, opens_brace, fine_open, fine_brace, mark_opens, round_ends, brace_ends}
 
 -- an expression may stand after what lets it follow, and before any token that is fine
 abbrev pub IsSafe : Expr → Type 0
@@ -64,13 +64,13 @@ bit_safe : (n : List ℕ) (place : ℕ) → IsSafe (roll-Expr (Expr-F.Bit n plac
 unfolding follows extends is_fine class_of
 bit_safe n place before tokens opening after =
     layer_safe_as (Expr-F.Bit n place) tokens (Identifier n ∷ Sign (codes "[") ∷ Number place ∷ Sign (codes "]") ∷ tokens) before refl
-    (begun before (Identifier n) (Sign (codes "[") ∷ Number place ∷ Sign (codes "]") ∷ tokens) (follows_identifier before n) refl (after_closing (Sign (codes "]")) tokens closes_square after))
+    (begun before (Identifier n) (Sign (codes "[") ∷ Number place ∷ Sign (codes "]") ∷ tokens) (follows_identifier before n) refl (after_mark (codes "]") tokens never after))
 
 part_safe : (n : List ℕ) (high low : ℕ) → IsSafe (roll-Expr (Expr-F.Part n high low))
 unfolding follows extends is_fine class_of
 part_safe n high low before tokens opening after =
     layer_safe_as (Expr-F.Part n high low) tokens (Identifier n ∷ Sign (codes "[") ∷ Number high ∷ Sign (codes ":") ∷ Number low ∷ Sign (codes "]") ∷ tokens) before refl
-    (begun before (Identifier n) (Sign (codes "[") ∷ Number high ∷ Sign (codes ":") ∷ Number low ∷ Sign (codes "]") ∷ tokens) (follows_identifier before n) refl (after_closing (Sign (codes "]")) tokens closes_square after))
+    (begun before (Identifier n) (Sign (codes "[") ∷ Number high ∷ Sign (codes ":") ∷ Number low ∷ Sign (codes "]") ∷ tokens) (follows_identifier before n) refl (after_mark (codes "]") tokens never after))
 
 literal_safe : (n : Sized) → IsSafe (roll-Expr (Expr-F.Literal n))
 unfolding is_fine
@@ -78,27 +78,22 @@ literal_safe n before tokens opening after =
     layer_safe_as (Expr-F.Literal n) tokens (Based n ∷ tokens) before refl
     (begun before (Based n) tokens (follows_based before n) refl (after_closing (Based n) tokens (closes_based n) after))
 
-signed_safe : (word : List ℕ) → is_fine (Key word) ≡ true → (e : Expr) → IsSafe e → (before : Token) (tokens : List Token) → fine_first tokens ≡ true →
+signed_safe : (word : List ℕ) → is_key word ≡ true → (e : Expr) → IsSafe e → (before : Token) (tokens : List Token) → fine_first tokens ≡ true →
     safe before (Key word ∷ Sign (codes "(") ∷ (expr_tokens e ++ Sign (codes ")") ∷ tokens)) ≡ true
+unfolding is_fine
 signed_safe word fine e is before tokens after =
     begun before (Key word) (Sign (codes "(") ∷ (expr_tokens e ++ Sign (codes ")") ∷ tokens)) (follows_key before word) fine
     (begun (Key word) (Sign (codes "(")) _ (closes_key word (Sign (codes "("))) fine_open (is (Sign (codes "(")) (Sign (codes ")") ∷ tokens) opens_open (round_ends tokens after)))
 
-fine_signed : is_fine (Key (codes "$signed")) ≡ true
-unfolding is_fine class_of
-fine_signed = refl
-
-fine_unsigned : is_fine (Key (codes "$unsigned")) ≡ true
-unfolding is_fine class_of
-fine_unsigned = refl
-
 as_signed_safe : (e : Expr) → IsSafe e → IsSafe (roll-Expr (Expr-F.AsSigned e))
+unfolding class_of
 as_signed_safe e is before tokens opening after =
-    layer_safe_as (Expr-F.AsSigned e) tokens _ before (as_signed_tokens e tokens) (signed_safe (codes "$signed") fine_signed e is before tokens after)
+    layer_safe_as (Expr-F.AsSigned e) tokens _ before (as_signed_tokens e tokens) (signed_safe (codes "$signed") refl e is before tokens after)
 
 as_unsigned_safe : (e : Expr) → IsSafe e → IsSafe (roll-Expr (Expr-F.AsUnsigned e))
+unfolding class_of
 as_unsigned_safe e is before tokens opening after =
-    layer_safe_as (Expr-F.AsUnsigned e) tokens _ before (as_unsigned_tokens e tokens) (signed_safe (codes "$unsigned") fine_unsigned e is before tokens after)
+    layer_safe_as (Expr-F.AsUnsigned e) tokens _ before (as_unsigned_tokens e tokens) (signed_safe (codes "$unsigned") refl e is before tokens after)
 
 unary_safe : (op : UnOp) (e : Expr) → IsSafe e → IsSafe (roll-Expr (Expr-F.Unary op e))
 unary_safe op e is before tokens opening after =
@@ -115,8 +110,8 @@ binary_safe op l r is_l is_r before tokens opening after =
     (is_l (Sign (codes "(")) _ opens_open (and_from _ _ f.0 (is_r (Sign (binary_text op)) _ f.1 (round_ends tokens after)))))
 
 based_ends : (n : Sized) (tokens : List Token) → fine_first tokens ≡ true → fine_first (Based n ∷ Sign (codes ")") ∷ tokens) ≡ true
-unfolding is_fine class_of follows
-based_ends n tokens after = after_closing (Sign (codes ")")) tokens closes_round after
+unfolding is_fine class_of follows extends
+based_ends n tokens after = after_mark (codes ")") tokens never after
 
 shift_safe : (op : ShiftOp) (e : Expr) (n : Sized) → IsSafe e → IsSafe (roll-Expr (Expr-F.Shift op e n))
 shift_safe op e n is before tokens opening after =
@@ -125,18 +120,11 @@ shift_safe op e n is before tokens opening after =
     (is (Sign (codes "(")) _ opens_open (and_from _ _ (fine_shift op)
     (let parts = and_parts _ _ (based_ends n tokens after) in begun (Sign (shift_text op)) (Based n) (Sign (codes ")") ∷ tokens) (follows_based (Sign (shift_text op)) n) parts.0 parts.1))))
 
-question_opens : (is_fine (Sign (codes "?")) && opens (Sign (codes "?"))) ≡ true
-unfolding follows extends is_fine class_of
-question_opens = refl
-
-colon_opens : (is_fine (Sign (codes ":")) && opens (Sign (codes ":"))) ≡ true
-unfolding follows extends is_fine class_of
-colon_opens = refl
-
 choose_safe : (t c o : Expr) → IsSafe t → IsSafe c → IsSafe o → IsSafe (roll-Expr (Expr-F.Choose t c o))
+unfolding class_of extends
 choose_safe t c o is_t is_c is_o before tokens opening after =
-    let q = and_parts _ _ question_opens in
-    let n = and_parts _ _ colon_opens in
+    let q = and_parts _ _ (mark_opens (codes "?") refl) in
+    let n = and_parts _ _ (mark_opens (codes ":") refl) in
     layer_safe_as (Expr-F.Choose t c o) tokens _ before (choose_tokens t c o tokens)
     (begun before (Sign (codes "(")) _ (opens_word before opening).0 fine_open
     (is_t (Sign (codes "(")) _ opens_open (and_from _ _ q.0
@@ -164,14 +152,16 @@ abbrev exprs_of : Parts → List Expr
 exprs_of ps = map (λ (p : (e : Expr) × IsSafe e). p.0) ps
 
 more_safe : (ps : Parts) (tokens : List Token) → fine_first tokens ≡ true → fine_first (more_tokens (exprs_of ps) tokens) ≡ true
+unfolding class_of extends
 more_safe [] tokens after = brace_ends tokens after
 more_safe (p ∷ ps) tokens after =
-    let f = and_parts _ _ comma_opens in and_from _ _ f.0 (p.1 (Sign (codes ",")) _ f.1 (more_safe ps tokens after))
+    let f = and_parts _ _ (mark_opens (codes ",") refl) in and_from _ _ f.0 (p.1 (Sign (codes ",")) _ f.1 (more_safe ps tokens after))
 
 concat_safe : (ps : Parts) → IsSafe (roll-Expr (Expr-F.Concat (exprs_of ps)))
+unfolding extends
 concat_safe [] before tokens opening after =
     layer_safe_as (Expr-F.Concat []) tokens (Sign (codes "{") ∷ Sign (codes "}") ∷ tokens) before refl
-    (begun before (Sign (codes "{")) (Sign (codes "}") ∷ tokens) (opens_word before opening).1 fine_brace (after_closing (Sign (codes "{")) (Sign (codes "}") ∷ tokens) closes_opening (brace_ends tokens after)))
+    (begun before (Sign (codes "{")) (Sign (codes "}") ∷ tokens) (opens_word before opening).1 fine_brace (after_mark (codes "{") (Sign (codes "}") ∷ tokens) never (brace_ends tokens after)))
 concat_safe (p ∷ ps) before tokens opening after =
     layer_safe_as (Expr-F.Concat (p.0 ∷ exprs_of ps)) tokens _ before (concat_tokens p.0 (exprs_of ps) tokens)
     (begun before (Sign (codes "{")) _ (opens_word before opening).1 fine_brace (p.1 (Sign (codes "{")) _ opens_brace (more_safe ps tokens after)))

@@ -5,7 +5,7 @@ use Rattle.std.proofs.lemmas.Bool.{and_parts, and_from}
 use Rattle.vl_ast.specs.declared.expressions.Sized.{Sized}
 use Rattle.vl_ast.specs.Tokens.{Token, Key, Sign, Identifier, Number, Based}
 use Rattle.vl_read.specs.inner.Lexemes.{class_of, extends}
-use Rattle.vl_read.proofs.Safe.{is_fine, follows, safe}
+use Rattle.vl_read.proofs.Safe.{is_mark, is_fine, joins, follows, safe}
 
 -- every token may follow
 abbrev pub fine_first : List Token → Bool
@@ -28,7 +28,7 @@ pub after_closing : (before : Token) (tokens : List Token) → Closes before →
 after_closing before [] closes h = refl
 after_closing before (token ∷ tokens) closes h = let parts = and_parts (is_fine token) (safe token tokens) h in and_from (follows before token && is_fine token) (safe token tokens) (and_from _ _ (closes token) parts.0) parts.1
 
-never : (byte : ℕ) → cond (byte == 42) false (cond (byte == 41) false (cond (byte == 61) false (cond (byte == 60) false (cond (byte == 62) false (cond (byte == 38) false (cond (byte == 124) false false)))))) ≡ false
+pub never : (byte : ℕ) → cond (byte == 42) false (cond (byte == 41) false (cond (byte == 61) false (cond (byte == 60) false (cond (byte == 62) false (cond (byte == 38) false (cond (byte == 124) false false)))))) ≡ false
 never byte = simp same_cond
 
 -- what no byte goes on with
@@ -37,33 +37,8 @@ unfolding follows
 closes_mark mark ends (Sign (b ∷ bs)) = ap not (ends b)
 closes_mark mark ends _ = refl
 
-pub closes_square : Closes (Sign (codes "]"))
-unfolding extends
-closes_square = closes_mark (codes "]") never
-
-pub closes_brace : Closes (Sign (codes "}"))
-unfolding extends
-closes_brace = closes_mark (codes "}") never
-
-pub closes_round : Closes (Sign (codes ")"))
-unfolding extends
-closes_round = closes_mark (codes ")") never
-
-pub closes_semicolon : Closes (Sign (codes ";"))
-unfolding extends
-closes_semicolon = closes_mark (codes ";") never
-
-pub closes_comma : Closes (Sign (codes ","))
-unfolding extends
-closes_comma = closes_mark (codes ",") never
-
-pub closes_attrs : Closes (Sign (codes "*)"))
-unfolding extends
-closes_attrs = closes_mark (codes "*)") never
-
-pub closes_opening : Closes (Sign (codes "{"))
-unfolding extends
-closes_opening = closes_mark (codes "{") never
+pub after_mark : (mark : List ℕ) (tokens : List Token) → ((byte : ℕ) → extends mark byte ≡ false) → fine_first tokens ≡ true → safe (Sign mark) tokens ≡ true
+after_mark mark tokens ends h = after_closing (Sign mark) tokens (closes_mark mark ends) h
 
 pub closes_identifier : (name : List ℕ) → Closes (Identifier name)
 unfolding follows
@@ -119,15 +94,16 @@ pub fine_brace : is_fine (Sign (codes "{")) ≡ true
 unfolding is_fine class_of extends
 fine_brace = refl
 
-pub comma_opens : (is_fine (Sign (codes ",")) && opens (Sign (codes ","))) ≡ true
-unfolding follows extends is_fine class_of
-comma_opens = refl
+-- an expression may follow a mark that goes on with no bracket
+pub mark_opens : (mark : List ℕ) → (is_mark mark && (joins mark (codes "(") && joins mark (codes "{"))) ≡ true → (is_fine (Sign mark) && opens (Sign mark)) ≡ true
+unfolding follows is_fine
+mark_opens mark h = h
 
 -- what ends with a bracket
 pub round_ends : (tokens : List Token) → fine_first tokens ≡ true → fine_first (Sign (codes ")") ∷ tokens) ≡ true
-unfolding is_fine class_of
-round_ends tokens after = after_closing (Sign (codes ")")) tokens closes_round after
+unfolding is_fine class_of extends
+round_ends tokens after = after_mark (codes ")") tokens never after
 
 pub brace_ends : (tokens : List Token) → fine_first tokens ≡ true → fine_first (Sign (codes "}") ∷ tokens) ≡ true
-unfolding is_fine class_of
-brace_ends tokens after = after_closing (Sign (codes "}")) tokens closes_brace after
+unfolding is_fine class_of extends
+brace_ends tokens after = after_mark (codes "}") tokens never after

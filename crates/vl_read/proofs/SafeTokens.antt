@@ -1,6 +1,5 @@
 -- The tokens of a module may follow each other with nothing between them.
 use Rattle.std.proofs.Common.{◌≡◌, ◌≢◌, inl, inr, ℕ, Bool, true, false, List, [], ◌∷◌, ◌++◌, map, Option, Some, None, refl, ◌∙◌, ap, codes, append_assoc}
-use Rattle.std.specs.Prelude.{◌&&◌}
 use Rattle.std.specs.List.{AllZip, flat_map}
 use Rattle.std.proofs.lemmas.Bool.{and_parts, and_from}
 use Rattle.vl_ast.specs.declared.expressions.Sized.{Sized}
@@ -14,16 +13,16 @@ use Rattle.vl_ast.specs.Spelling.{joined}
 use Rattle.vl_ast.specs.Tokens.{Token, Key, Sign, Identifier, Number}
 use Rattle.vl_ast.specs.Grammar.{comma, expr_tokens, attr_tokens, attrs_tokens, signed_tokens, IsRange, declaration_tokens, IsPortText, condition_tokens, IsItemText, IsModuleText}
 use Rattle.vl_read.specs.inner.Lexemes.{class_of, extends}
-use Rattle.vl_read.proofs.Safe.{is_fine, follows, safe}
+use Rattle.vl_read.proofs.Safe.{is_key, is_fine, follows, safe}
 use Rattle.vl_read.proofs.ModuleTokens.{more_attrs, attrs_rest, direction, port_text, port_words, port_is, declaration_is, assign_is, always_tokens, always_is, condition_is}
-use Rattle.vl_read.proofs.SafeMarks.{fine_first, opens, after_closing, closes_square, closes_semicolon, closes_comma, closes_attrs, closes_identifier, closes_key, closes_number, begun, follows_key, opens_open, fine_open, comma_opens, round_ends}
+use Rattle.vl_read.proofs.SafeMarks.{fine_first, after_closing, never, after_mark, closes_identifier, closes_key, closes_number, begun, follows_key, opens_open, fine_open, mark_opens, round_ends}
 use Rattle.vl_read.proofs.SafeExpressions.{expr_safe}
 
 -- attributes
 
 more_attrs_fine : (attrs : List Attr) (tokens : List Token) → fine_first tokens ≡ true → fine_first (more_attrs attrs tokens) ≡ true
 unfolding follows extends is_fine class_of
-more_attrs_fine [] tokens h = after_closing (Sign (codes "*)")) tokens closes_attrs h
+more_attrs_fine [] tokens h = after_mark (codes "*)") tokens never h
 more_attrs_fine (attr ∷ attrs) tokens h = after_closing (Number attr.value) (more_attrs attrs tokens) (closes_number attr.value) (more_attrs_fine attrs tokens h)
 
 attrs_fine : (attrs : List Attr) (tokens : List Token) → fine_first tokens ≡ true → fine_first (attrs_tokens attrs ++ tokens) ≡ true
@@ -39,36 +38,26 @@ name_fine : (n : List ℕ) (tokens : List Token) → fine_first tokens ≡ true 
 unfolding is_fine
 name_fine n tokens h = after_closing (Identifier n) tokens (closes_identifier n) h
 
-key_fine : (word : List ℕ) (tokens : List Token) → is_fine (Key word) ≡ true → fine_first tokens ≡ true → fine_first (Key word ∷ tokens) ≡ true
-key_fine word tokens fine h = and_from _ _ fine (after_closing (Key word) tokens (closes_key word) h)
+key_fine : (word : List ℕ) (tokens : List Token) → is_key word ≡ true → fine_first tokens ≡ true → fine_first (Key word ∷ tokens) ≡ true
+unfolding is_fine
+key_fine word tokens fine h = and_from (is_key word) (safe (Key word) tokens) fine (after_closing (Key word) tokens (closes_key word) h)
 
 range_fine : (width : ℕ) (range tokens : List Token) → IsRange width range → fine_first tokens ≡ true → fine_first (range ++ tokens) ≡ true
 unfolding follows extends is_fine class_of
 range_fine width range tokens (inl e) h = ap (λ r. fine_first (r ++ tokens)) e.1 ∙ h
-range_fine width range tokens (inr e) h = ap (λ r. fine_first (r ++ tokens)) e.1 ∙ after_closing (Sign (codes "]")) tokens closes_square h
-
-fine_word_signed : is_fine (Key (codes "signed")) ≡ true
-unfolding is_fine class_of
-fine_word_signed = refl
+range_fine width range tokens (inr e) h = ap (λ r. fine_first (r ++ tokens)) e.1 ∙ after_mark (codes "]") tokens never h
 
 signed_fine : (signed : Bool) (tokens : List Token) → fine_first tokens ≡ true → fine_first (signed_tokens signed ++ tokens) ≡ true
-signed_fine true tokens h = key_fine (codes "signed") tokens fine_word_signed h
+unfolding class_of
+signed_fine true tokens h = key_fine (codes "signed") tokens refl h
 signed_fine false tokens h = h
 
 net_fine : (signed : Bool) (width : ℕ) (range : List Token) (n : List ℕ) (tokens : List Token) → IsRange width range → fine_first tokens ≡ true →
     fine_first (signed_tokens signed ++ (range ++ Identifier n ∷ tokens)) ≡ true
 net_fine signed width range n tokens is h = signed_fine signed _ (range_fine width range _ is (name_fine n tokens h))
 
-fine_wire : is_fine (Key (codes "wire")) ≡ true
-unfolding is_fine class_of
-fine_wire = refl
-
-fine_reg : is_fine (Key (codes "reg")) ≡ true
-unfolding is_fine class_of
-fine_reg = refl
-
-fine_direction : (input : Bool) → is_fine (Key (direction input)) ≡ true
-unfolding is_fine class_of
+fine_direction : (input : Bool) → is_key (direction input) ≡ true
+unfolding class_of
 fine_direction true = refl
 fine_direction false = refl
 
@@ -81,8 +70,9 @@ attributed_is : (port : Port) (range tokens : List Token) → (attrs_tokens port
 attributed_is port range tokens = append_assoc (attrs_tokens port.attrs) (port_text port range) tokens ∙ ap (λ t. attrs_tokens port.attrs ++ t) (port_is port range tokens)
 
 words_fine : (port : Port) (range tokens : List Token) → IsRange port.width range → fine_first tokens ≡ true → fine_first (port_words port range tokens) ≡ true
+unfolding class_of
 words_fine port range tokens is h =
-    key_fine (direction port.input) (Key (codes "wire") ∷ (signed_tokens port.signed ++ ◌++◌ {A = Token} range (Identifier port.name ∷ tokens))) (fine_direction port.input) (key_fine (codes "wire") _ fine_wire (net_fine port.signed port.width range port.name tokens is h))
+    key_fine (direction port.input) (Key (codes "wire") ∷ (signed_tokens port.signed ++ ◌++◌ {A = Token} range (Identifier port.name ∷ tokens))) (fine_direction port.input) (key_fine (codes "wire") _ refl (net_fine port.signed port.width range port.name tokens is h))
 
 port_fine : (port : Port) (written tokens : List Token) → IsPortText port written → fine_first tokens ≡ true → fine_first (written ++ tokens) ≡ true
 port_fine port written tokens is h =
@@ -102,12 +92,13 @@ first_port_safe port written tokens is h =
     ∙ after_open port.attrs (direction port.input) _ (attrs_fine port.attrs _ (words_fine port is.0 tokens is.1 h))
 
 more_ports_fine : (ports : List Port) (written : List (List Token)) (tokens : List Token) → AllZip IsPortText ports written → fine_first tokens ≡ true → fine_first (flat_map (λ more. comma ++ more) written ++ tokens) ≡ true
+unfolding class_of extends
 more_ports_fine [] [] tokens all h = h
 more_ports_fine [] (text ∷ written) tokens all h = absurd all
 more_ports_fine (port ∷ ports) [] tokens all h = absurd all
 more_ports_fine (port ∷ ports) (text ∷ written) tokens all h =
     ap (λ t. fine_first (Sign (codes ",") ∷ t)) (append_assoc text (flat_map (λ more. comma ++ more) written) tokens)
-    ∙ and_from _ _ (and_parts _ _ comma_opens).0 (after_closing (Sign (codes ",")) _ closes_comma (port_fine port text _ all.0 (more_ports_fine ports written tokens all.1 h)))
+    ∙ and_from _ _ (and_parts _ _ (mark_opens (codes ",") refl)).0 (after_mark (codes ",") _ never (port_fine port text _ all.0 (more_ports_fine ports written tokens all.1 h)))
 
 ports_safe : (ports : List Port) (written : List (List Token)) (tokens : List Token) → ports ≢ [] → AllZip IsPortText ports written → fine_first tokens ≡ true → safe (Sign (codes "(")) (joined comma written ++ tokens) ≡ true
 ports_safe [] written tokens some all h = absurd (some refl)
@@ -119,63 +110,47 @@ ports_safe (port ∷ ports) (text ∷ written) tokens some all h =
 -- items
 
 semicolon_fine : (tokens : List Token) → fine_first tokens ≡ true → fine_first (Sign (codes ";") ∷ tokens) ≡ true
-unfolding is_fine class_of
-semicolon_fine tokens h = after_closing (Sign (codes ";")) tokens closes_semicolon h
+unfolding is_fine class_of extends
+semicolon_fine tokens h = after_mark (codes ";") tokens never h
 
-net_item_fine : (word : List ℕ) → is_fine (Key word) ≡ true → (signed : Bool) (width : ℕ) (range : List Token) (n : List ℕ) (written tokens : List Token) → IsRange width range →
+net_item_fine : (word : List ℕ) → is_key word ≡ true → (signed : Bool) (width : ℕ) (range : List Token) (n : List ℕ) (written tokens : List Token) → IsRange width range →
     written ≡ declaration_tokens (Key word ∷ []) signed range n ++ Sign (codes ";") ∷ [] → fine_first tokens ≡ true → fine_first (written ++ tokens) ≡ true
 net_item_fine word fine signed width range n written tokens is same h =
     ap fine_first (ap (λ t. t ++ tokens) same ∙ declaration_is word signed range n tokens)
     ∙ key_fine word _ fine (net_fine signed width range n _ is (semicolon_fine tokens h))
 
-opens_equals : (is_fine (Sign (codes "=")) && opens (Sign (codes "="))) ≡ true
-unfolding follows extends is_fine class_of
-opens_equals = refl
-
-opens_arrow : (is_fine (Sign (codes "<=")) && opens (Sign (codes "<="))) ≡ true
-unfolding follows extends is_fine class_of
-opens_arrow = refl
-
-fine_assign : is_fine (Key (codes "assign")) ≡ true
-unfolding is_fine class_of
-fine_assign = refl
-
 assign_fine : (n : List ℕ) (e : Expr) (written tokens : List Token) → written ≡ Key (codes "assign") ∷ Identifier n ∷ Sign (codes "=") ∷ (expr_tokens e ++ Sign (codes ";") ∷ []) → fine_first tokens ≡ true → fine_first (written ++ tokens) ≡ true
+unfolding class_of extends
 assign_fine n e written tokens same h =
-    let f = and_parts _ _ opens_equals in
+    let f = and_parts _ _ (mark_opens (codes "=") refl) in
     ap fine_first (ap (λ t. t ++ tokens) same ∙ assign_is n e tokens)
-    ∙ key_fine (codes "assign") (Identifier n ∷ Sign (codes "=") ∷ (expr_tokens e ++ Sign (codes ";") ∷ tokens)) fine_assign (name_fine n (Sign (codes "=") ∷ (expr_tokens e ++ Sign (codes ";") ∷ tokens)) (and_from _ _ f.0 (expr_safe e (Sign (codes "=")) (Sign (codes ";") ∷ tokens) f.1 (semicolon_fine tokens h))))
-
-fine_end : is_fine (Key (codes "end")) ≡ true
-unfolding is_fine class_of
-fine_end = refl
-
-fine_if : is_fine (Key (codes "if")) ≡ true
-unfolding is_fine class_of
-fine_if = refl
+    ∙ key_fine (codes "assign") (Identifier n ∷ Sign (codes "=") ∷ (expr_tokens e ++ Sign (codes ";") ∷ tokens)) refl (name_fine n (Sign (codes "=") ∷ (expr_tokens e ++ Sign (codes ";") ∷ tokens)) (and_from _ _ f.0 (expr_safe e (Sign (codes "=")) (Sign (codes ";") ∷ tokens) f.1 (semicolon_fine tokens h))))
 
 open_fine : (tokens : List Token) → safe (Sign (codes "(")) tokens ≡ true → fine_first (Sign (codes "(") ∷ tokens) ≡ true
 open_fine tokens h = and_from _ _ fine_open h
 
 condition_fine : (condition : Option Expr) (tokens : List Token) → fine_first tokens ≡ true → fine_first (condition_tokens condition ++ tokens) ≡ true
+unfolding class_of
 condition_fine None tokens h = h
 condition_fine (Some e) tokens h =
     ap fine_first (condition_is e tokens)
-    ∙ key_fine (codes "if") (Sign (codes "(") ∷ (expr_tokens e ++ Sign (codes ")") ∷ tokens)) fine_if (open_fine _ (expr_safe e (Sign (codes "(")) (Sign (codes ")") ∷ tokens) opens_open (round_ends tokens h)))
+    ∙ key_fine (codes "if") (Sign (codes "(") ∷ (expr_tokens e ++ Sign (codes ")") ∷ tokens)) refl (open_fine _ (expr_safe e (Sign (codes "(")) (Sign (codes ")") ∷ tokens) opens_open (round_ends tokens h)))
 
 clocked_fine : (n : List ℕ) (first : Sized) (tokens : List Token) → fine_first tokens ≡ true → fine_first (always_tokens n first tokens) ≡ true
 unfolding follows extends is_fine class_of
 clocked_fine n first tokens h = after_closing (Key (codes "else")) tokens (closes_key (codes "else")) h
 
 always_fine : (n : List ℕ) (first : Sized) (condition : Option Expr) (e : Expr) (written tokens : List Token) → IsItemText (Always n first condition e) written → fine_first tokens ≡ true → fine_first (written ++ tokens) ≡ true
+unfolding class_of extends
 always_fine n first condition e written tokens is h =
-    let f = and_parts _ _ opens_arrow in
+    let f = and_parts _ _ (mark_opens (codes "<=") refl) in
     ap fine_first (ap (λ t. t ++ tokens) is.2 ∙ always_is n first condition e tokens)
-    ∙ clocked_fine n first _ (condition_fine condition _ (name_fine n (Sign (codes "<=") ∷ (expr_tokens e ++ Sign (codes ";") ∷ Key (codes "end") ∷ tokens)) (and_from _ _ f.0 (expr_safe e (Sign (codes "<=")) (Sign (codes ";") ∷ Key (codes "end") ∷ tokens) f.1 (semicolon_fine (Key (codes "end") ∷ tokens) (key_fine (codes "end") tokens fine_end h))))))
+    ∙ clocked_fine n first _ (condition_fine condition _ (name_fine n (Sign (codes "<=") ∷ (expr_tokens e ++ Sign (codes ";") ∷ Key (codes "end") ∷ tokens)) (and_from _ _ f.0 (expr_safe e (Sign (codes "<=")) (Sign (codes ";") ∷ Key (codes "end") ∷ tokens) f.1 (semicolon_fine (Key (codes "end") ∷ tokens) (key_fine (codes "end") tokens refl h))))))
 
 item_fine : (item : ModItem) (written tokens : List Token) → IsItemText item written → fine_first tokens ≡ true → fine_first (written ++ tokens) ≡ true
-item_fine (Wire signed width n) written tokens is h = net_item_fine (codes "wire") fine_wire signed width is.0 n written tokens is.1 is.2 h
-item_fine (Reg signed width n) written tokens is h = net_item_fine (codes "reg") fine_reg signed width is.0 n written tokens is.1 is.2 h
+unfolding class_of
+item_fine (Wire signed width n) written tokens is h = net_item_fine (codes "wire") refl signed width is.0 n written tokens is.1 is.2 h
+item_fine (Reg signed width n) written tokens is h = net_item_fine (codes "reg") refl signed width is.0 n written tokens is.1 is.2 h
 item_fine (Assign n e) written tokens is h = assign_fine n e written tokens is.1 h
 item_fine (Always n first condition e) written tokens is h = always_fine n first condition e written tokens is h
 
@@ -186,19 +161,12 @@ items_fine (item ∷ items) [] tokens all h = absurd all
 items_fine (item ∷ items) (text ∷ written) tokens all h =
     ap fine_first (append_assoc text (flat_map (λ item. item) written) tokens) ∙ item_fine item text _ all.0 (items_fine items written tokens all.1 h)
 
-fine_module : is_fine (Key (codes "module")) ≡ true
-unfolding is_fine class_of
-fine_module = refl
-
-fine_endmodule : fine_first (Key (codes "endmodule") ∷ []) ≡ true
-unfolding is_fine class_of
-fine_endmodule = refl
-
 -- the tokens of a module
 pub module_safe : (m : Module) (tokens : List Token) → IsModuleText m tokens → safe (Key []) tokens ≡ true
+unfolding class_of
 module_safe m tokens is =
     ap (safe (Key [])) is.text
     ∙ after_closing (Key []) _ (closes_key [])
-    (attrs_fine m.attrs _ (key_fine (codes "module") (Identifier m.name ∷ Sign (codes "(") ∷ (joined comma is.ports ++ Sign (codes ")") ∷ Sign (codes ";") ∷ (flat_map {X = List Token} {A = Token} (λ item. item) is.items ++ Key (codes "endmodule") ∷ []))) fine_module (name_fine m.name (Sign (codes "(") ∷ (joined comma is.ports ++ Sign (codes ")") ∷ Sign (codes ";") ∷ (flat_map {X = List Token} {A = Token} (λ item. item) is.items ++ Key (codes "endmodule") ∷ [])))
+    (attrs_fine m.attrs _ (key_fine (codes "module") (Identifier m.name ∷ Sign (codes "(") ∷ (joined comma is.ports ++ Sign (codes ")") ∷ Sign (codes ";") ∷ (flat_map {X = List Token} {A = Token} (λ item. item) is.items ++ Key (codes "endmodule") ∷ []))) refl (name_fine m.name (Sign (codes "(") ∷ (joined comma is.ports ++ Sign (codes ")") ∷ Sign (codes ";") ∷ (flat_map {X = List Token} {A = Token} (λ item. item) is.items ++ Key (codes "endmodule") ∷ [])))
     (open_fine _ (ports_safe m.ports is.ports (Sign (codes ")") ∷ Sign (codes ";") ∷ (flat_map {X = List Token} {A = Token} (λ item. item) is.items ++ Key (codes "endmodule") ∷ [])) is.has_port is.each_port
-    (round_ends (Sign (codes ";") ∷ (flat_map {X = List Token} {A = Token} (λ item. item) is.items ++ Key (codes "endmodule") ∷ [])) (semicolon_fine _ (items_fine m.items is.items (Key (codes "endmodule") ∷ []) is.each_item fine_endmodule))))))))
+    (round_ends (Sign (codes ";") ∷ (flat_map {X = List Token} {A = Token} (λ item. item) is.items ++ Key (codes "endmodule") ∷ [])) (semicolon_fine _ (items_fine m.items is.items (Key (codes "endmodule") ∷ []) is.each_item (key_fine (codes "endmodule") [] refl refl)))))))))

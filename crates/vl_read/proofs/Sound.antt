@@ -26,7 +26,7 @@ use Rattle.vl_read.proofs.KindSound.{then_some, IsOfKind, kind_means}
 use Rattle.vl_read.proofs.ConsumedItems.{clocked_tokens, opened_tokens, BeforePorts, AtPort, InBody, ItemAt, module_of, Whole, Has}
 use Rattle.vl_read.proofs.SoundFrames.{same_word, either_way, either_word, nowhere, twice, grow}
 use Rattle.vl_read.proofs.SoundSpots.{on_constant}
-use Rattle.vl_read.proofs.SoundNets.{Onward, onward_to, onward_sign, onward_key, on_name_or, grow_port, attr_sound, net_sound}
+use Rattle.vl_read.proofs.SoundNets.{Onward, onward_to, onward_sign, onward_key, onward_name, on_name_or, grow_port, attr_sound, net_sound}
 use Rattle.vl_read.proofs.SoundItems.{more_item, item_read, item_sound, head_sound, again_sound, expression_starts, expression_sound}
 
 -- before the ports
@@ -51,10 +51,8 @@ title_sound : (most : ℕ) (draft : Draft) (kind : Kind) (lexeme : List ℕ) (te
     step_at draft Title kind lexeme ≡ Some q → Onward most text lexeme q
 unfolding step_at
 title_sound most draft kind lexeme text q before is named =
-    on_name_or kind lexeme _ None q named
-    (λ name e. onward_to most text lexeme q (record draft { name = lexeme }) Ports (Identifier lexeme) (refl, name)
-    (record { no_ports = before.no_ports; no_items = before.no_items; kept = before.kept }, grow (attrs_tokens draft.attrs) (Key (codes "module") ∷ []) _ text (Identifier lexeme) is refl) e)
-    (nowhere q)
+    onward_name most text lexeme q (record draft { name = lexeme }) Ports kind named
+    (record { no_ports = before.no_ports; no_items = before.no_items; kept = before.kept }, grow (attrs_tokens draft.attrs) (Key (codes "module") ∷ []) _ text (Identifier lexeme) is refl)
 
 ports_begin : (most : ℕ) (draft : Draft) (text : List Token) → BeforePorts most draft → text ≡ attrs_tokens draft.attrs ++ (Key (codes "module") ∷ Identifier draft.name ∷ []) → AtPort most draft [] (text ++ Sign (codes "(") ∷ [])
 ports_begin most draft text before is =
@@ -144,20 +142,14 @@ place_sound most draft AfterPort kind lexeme text q has is e = after_port most d
 place_sound most draft AfterPorts kind lexeme text q has is e = onward_sign most text lexeme q draft Items (codes ";") has e
 place_sound most draft Items kind lexeme text q has is e = items_sound most draft lexeme text q has e
 place_sound most draft AssignName kind lexeme text q has is e =
-    on_name_or kind lexeme _ None q is
-    (λ named e. onward_to most text lexeme q draft (AssignSign lexeme) (Identifier lexeme) (refl, named)
-    (more_item most draft has.own text (Identifier lexeme) (AssignSign lexeme) has.around (ap (λ t. t ++ Identifier lexeme ∷ []) has.is)) e)
-    (nowhere q) e
+    onward_name most text lexeme q draft (AssignSign lexeme) kind is (more_item most draft has.own text (Identifier lexeme) (AssignSign lexeme) has.around (ap (λ t. t ++ Identifier lexeme ∷ []) has.is)) e
 place_sound most draft (AssignSign name) kind lexeme text q has is e =
     onward_sign most text lexeme q draft (Expression (Assigned name) [] Operand) (codes "=")
     (more_item most draft has.own text (Sign (codes "=")) (Expression (Assigned name) [] Operand) has.around
     (expression_starts (Assigned name) (has.own ++ Sign (codes "=") ∷ []) tt (ap (λ t. t ++ Sign (codes "=") ∷ []) has.is))) e
 place_sound most draft (Head at) kind lexeme text q has is e = head_sound most draft at lexeme text q has e
 place_sound most draft ClockedName kind lexeme text q has is e =
-    on_name_or kind lexeme _ None q is
-    (λ named e. onward_to most text lexeme q draft (ClockedSign lexeme) (Identifier lexeme) (refl, named)
-    (more_item most draft has.own text (Identifier lexeme) (ClockedSign lexeme) has.around (ap (λ t. t ++ Identifier lexeme ∷ []) has.is)) e)
-    (nowhere q) e
+    onward_name most text lexeme q draft (ClockedSign lexeme) kind is (more_item most draft has.own text (Identifier lexeme) (ClockedSign lexeme) has.around (ap (λ t. t ++ Identifier lexeme ∷ []) has.is)) e
 place_sound most draft (ClockedSign name) kind lexeme text q has is e =
     onward_sign most text lexeme q draft (First name) (codes "<=") (more_item most draft has.own text (Sign (codes "<=")) (First name) has.around (ap (λ t. t ++ Sign (codes "<=") ∷ []) has.is)) e
 place_sound most draft (First name) kind lexeme text q has is e =

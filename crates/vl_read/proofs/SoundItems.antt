@@ -1,5 +1,5 @@
 -- What each lexeme adds to an item.
-use Rattle.std.proofs.Common.{◌≡◌, ℕ, ◌<◌, true, cond, List, [], ◌∷◌, ◌++◌, take, length, Some, None, ⊎_elim, refl, sym, ◌∙◌, ap, subst, codes, arith, append_assoc, append-nil, length-append, bytes_eq}
+use Rattle.std.proofs.Common.{◌≡◌, ℕ, ◌<◌, true, false, cond, List, [], ◌∷◌, ◌++◌, take, length, Some, None, ⊎_elim, refl, sym, ◌∙◌, ap, subst, codes, arith, append_assoc, append-nil, length-append, bytes_eq}
 use Rattle.std.specs.List.{flat_map}
 use Rattle.std.proofs.lemmas.Grind.{flat_map-append}
 use Rattle.vl_ast.specs.declared.modules.ModItem.{ModItem}
@@ -13,7 +13,7 @@ use Rattle.vl_read.specs.declared.places.Frame.{Frame}
 use Rattle.vl_read.specs.inner.Places.{Spot, Clocked, Goal, Place, Parser}
 use Rattle.vl_read.specs.inner.Places.Spot.{Operand}
 use Rattle.vl_read.specs.inner.Places.Goal.{Assigned, Condition, Next}
-use Rattle.vl_read.specs.inner.Places.NetKind.{OfWire, OfReg}
+use Rattle.vl_read.specs.inner.Places.NetKind.{OfItem}
 use Rattle.vl_read.specs.declared.places.NetSpot.TheVariants.{Signed}
 use Rattle.vl_read.specs.inner.Places.Place.{Net, Items, AssignName, Head, ClockedName, Again, NextSign, Expression, End}
 use Rattle.vl_read.specs.declared.places.Draft.{Draft}
@@ -63,9 +63,9 @@ pub item_sound : (most : ℕ) (draft : Draft) (lexeme : List ℕ) (text : List T
 unfolding item_step
 item_sound most draft lexeme text q body room =
     either_word lexeme (codes "wire") _ _ q
-    (λ h e. onward_to most text lexeme q draft (Net OfWire Signed) (Key (codes "wire")) h (record { own = Key (codes "wire") ∷ []; around = first_word most draft text (Key (codes "wire")) body room; is = refl }) e)
+    (λ h e. onward_to most text lexeme q draft (Net (OfItem false) Signed) (Key (codes "wire")) h (record { own = Key (codes "wire") ∷ []; around = first_word most draft text (Key (codes "wire")) body room; is = refl }) e)
     (either_word lexeme (codes "reg") _ _ q
-    (λ h e. onward_to most text lexeme q draft (Net OfReg Signed) (Key (codes "reg")) h (record { own = Key (codes "reg") ∷ []; around = first_word most draft text (Key (codes "reg")) body room; is = refl }) e)
+    (λ h e. onward_to most text lexeme q draft (Net (OfItem true) Signed) (Key (codes "reg")) h (record { own = Key (codes "reg") ∷ []; around = first_word most draft text (Key (codes "reg")) body room; is = refl }) e)
     (either_word lexeme (codes "assign") _ _ q
     (λ h e. onward_to most text lexeme q draft AssignName (Key (codes "assign")) h (record { own = Key (codes "assign") ∷ []; around = first_word most draft text (Key (codes "assign")) body room; is = refl }) e)
     (onward_key most text lexeme q draft (Head Event) (codes "always")

@@ -4,21 +4,20 @@ use Rattle.std.specs.List.{AllZip, flat_map}
 use Rattle.std.proofs.lemmas.List.{map-append}
 use Rattle.vl_ast.specs.declared.modules.Attr.{Attr}
 use Rattle.vl_ast.specs.declared.modules.Port.{Port}
-use Rattle.vl_ast.specs.declared.modules.ModItem.TheVariants.{Wire, Reg}
 use Rattle.vl_ast.specs.Spelling.{joined}
 use Rattle.vl_ast.specs.Tokens.{Token, Key, Sign, Identifier, Number, IsWritten}
 use Rattle.vl_names.specs.Identifiers.{is_identifier}
-use Rattle.vl_ast.specs.Grammar.{comma, attr_tokens, attrs_tokens, signed_tokens, IsRange, IsPortText, IsItemText}
+use Rattle.vl_ast.specs.Grammar.{comma, attr_tokens, attrs_tokens, signed_tokens, IsRange, declaration_tokens, IsPortText, IsItemText}
 use Rattle.vl_read.specs.declared.scan.Kind.{Kind}
 use Rattle.vl_read.specs.declared.scan.Kind.TheVariants.{Name}
 use Rattle.vl_read.specs.inner.Places.{NetKind, AttrSpot, Place, Parser}
-use Rattle.vl_read.specs.inner.Places.NetKind.{OfPort, OfWire, OfReg}
+use Rattle.vl_read.specs.inner.Places.NetKind.{OfPort, OfItem}
 use Rattle.vl_read.specs.declared.places.NetSpot.{NetSpot}
 use Rattle.vl_read.specs.declared.places.NetSpot.TheVariants.{Word, Signed, Ranged, Bound, Colon, Zero, Close, Named}
 use Rattle.vl_read.specs.inner.Places.AttrSpot.{AttrName, AttrSign, AttrValue, More}
 use Rattle.vl_read.specs.inner.Places.Place.{Start, Attributes, Port as PortPlace, Net, AfterPort, Semicolon}
 use Rattle.vl_read.specs.declared.places.Draft.{Draft}
-use Rattle.vl_read.specs.inner.Plain.{parser_at, goes, is_name, attr_step, declared, net_step}
+use Rattle.vl_read.specs.inner.Plain.{parser_at, goes, is_name, attr_step, net_item, declared, net_step}
 use Rattle.vl_read.proofs.ModuleTokens.{three_before}
 use Rattle.vl_read.proofs.KindSound.{IsOfKind}
 use Rattle.vl_read.proofs.Consumed.{before_next, before_push, joined_push}
@@ -56,6 +55,11 @@ pub on_name_or : {R : Type 0} (kind : Kind) (lexeme : List ℕ) (x other : Optio
     cond (is_name kind) x other ≡ Some q → R
 on_name_or Name lexeme x other q is first second e = first is e
 on_name_or _ lexeme x other q is first second e = second e
+
+pub onward_name : (most : ℕ) (text : List Token) (lexeme : List ℕ) (q : Parser) (draft : Draft) (place : Place) (kind : Kind) → IsOfKind kind lexeme → Has most draft place (text ++ Identifier lexeme ∷ []) →
+    cond (is_name kind) (goes draft place) None ≡ Some q → Onward most text lexeme q
+onward_name most text lexeme q draft place kind is has e =
+    on_name_or kind lexeme _ None q is (λ named e. onward_to most text lexeme q draft place (Identifier lexeme) (refl, named) has e) (nowhere q) e
 
 -- what stands around grows
 
@@ -156,8 +160,7 @@ attr_sound most draft of_port attrs More kind lexeme text q at is e =
 grow_net : (most : ℕ) (draft : Draft) (net : NetKind) (own text : List Token) (token : Token) → AroundNet most draft net own text → AroundNet most draft net (own ++ token ∷ []) (text ++ token ∷ [])
 grow_net most draft (OfPort attrs input) own text token at =
     subst (λ t. AtPort most draft t (text ++ token ∷ [])) (append_assoc (attrs_tokens attrs) own (token ∷ [])) (grow_port most draft (attrs_tokens attrs ++ own) text token at)
-grow_net most draft OfWire own text token at = grow_item most draft own text token at
-grow_net most draft OfReg own text token at = grow_item most draft own text token at
+grow_net most draft (OfItem is_reg) own text token at = grow_item most draft own text token at
 
 more_net : (most : ℕ) (draft : Draft) (net : NetKind) (at other : NetSpot) (lexeme : List ℕ) (text : List Token) (q : Parser) (token : Token) →
     (is_at : NetAt most draft net at text) → IsWritten token lexeme → IsNetText net other (is_at.own ++ token ∷ []) → goes draft (Net net other) ≡ Some q → Onward most text lexeme q
@@ -207,6 +210,12 @@ port_read most draft port own text token at is =
       },
     )
 
+-- the text of a register, or else of a wire
+item_text : (is_reg signed : Bool) (width : ℕ) (name : List ℕ) (range written : List Token) → IsRange width range →
+    written ≡ declaration_tokens (net_words (OfItem is_reg)) signed range name ++ Sign (codes ";") ∷ [] → IsItemText (net_item is_reg signed width name) written
+item_text true signed width name range written ranged is = (range, ranged, is)
+item_text false signed width name range written ranged is = (range, ranged, is)
+
 -- the name ends a declaration
 declared_sound : (most : ℕ) (draft : Draft) (net : NetKind) (signed : Bool) (width : ℕ) (lexeme : List ℕ) (own text range : List Token) (q : Parser) → AroundNet most draft net own text →
     own ≡ net_words net ++ (signed_tokens signed ++ range) → IsRange width range → is_identifier lexeme ≡ true → declared draft net signed width lexeme ≡ Some q → Onward most text lexeme q
@@ -216,19 +225,12 @@ declared_sound most draft (OfPort attrs input) signed width lexeme own text rang
     onward_to most text lexeme q (record draft { ports = draft.ports ++ port ∷ [] }) AfterPort (Identifier lexeme) (refl, named)
     (port_read most draft port (attrs_tokens attrs ++ own) text (Identifier lexeme) around
     (range, ranged, append_assoc (attrs_tokens attrs) own (Identifier lexeme ∷ []) ∙ ap (λ t. attrs_tokens attrs ++ t) (declaration (net_words (OfPort attrs input)) (signed_tokens signed) range own (Identifier lexeme) is))) e
-declared_sound most draft OfWire signed width lexeme own text range q around is ranged named e =
-    onward_to most text lexeme q draft (Semicolon (Wire signed width lexeme)) (Identifier lexeme) (refl, named)
+declared_sound most draft (OfItem is_reg) signed width lexeme own text range q around is ranged named e =
+    onward_to most text lexeme q draft (Semicolon (net_item is_reg signed width lexeme)) (Identifier lexeme) (refl, named)
     (record {
       own = own ++ Identifier lexeme ∷ [];
       around = grow_item most draft own text (Identifier lexeme) around;
-      is = (range, ranged, ap (λ t. t ++ Sign (codes ";") ∷ []) (declaration (net_words OfWire) (signed_tokens signed) range own (Identifier lexeme) is));
-    }) e
-declared_sound most draft OfReg signed width lexeme own text range q around is ranged named e =
-    onward_to most text lexeme q draft (Semicolon (Reg signed width lexeme)) (Identifier lexeme) (refl, named)
-    (record {
-      own = own ++ Identifier lexeme ∷ [];
-      around = grow_item most draft own text (Identifier lexeme) around;
-      is = (range, ranged, ap (λ t. t ++ Sign (codes ";") ∷ []) (declaration (net_words OfReg) (signed_tokens signed) range own (Identifier lexeme) is));
+      is = item_text is_reg signed width lexeme range _ ranged (ap (λ t. t ++ Sign (codes ";") ∷ []) (declaration (net_words (OfItem is_reg)) (signed_tokens signed) range own (Identifier lexeme) is));
     }) e
 
 one_bit : IsRange 1 []

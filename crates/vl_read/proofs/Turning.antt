@@ -55,11 +55,18 @@ begun_with mode byte = []
 abbrev pub silently : Mode → List ℕ → Move
 silently mode lexeme = record { lexemes = []; mode = mode; lexeme = lexeme }
 
+abbrev turned : ℕ → Option Mode → Option Move
+turned byte = option_map (λ to. silently to (begun_with to byte))
+
+of_cond : {A B : Type 0} (f : A → B) (t : Bool) (x y : A) → f (cond t x y) ≡ cond t (f x) (f y)
+of_cond f true x y = refl
+of_cond f false x y = refl
+
 -- a byte that goes on with no lexeme
-pub turn_is : (mode : Mode) (byte : ℕ) → IsBeyond mode → option_map (λ to. silently to (begun_with to byte)) (mode_after mode byte) ≡ move mode [] byte
+pub turn_is : (mode : Mode) (byte : ℕ) → IsBeyond mode → turned byte (mode_after mode byte) ≡ move mode [] byte
 turn_is Between byte h = of (class_of byte)
   where
-    of : (class : ByteClass) → option_map (λ to. silently to (begun_with to byte)) (mode_by class) ≡ outside Between [] class byte
+    of : (class : ByteClass) → turned byte (mode_by class) ≡ outside Between [] class byte
     of OfWord = refl
     of OfBlank = refl
     of OfComment = refl
@@ -67,32 +74,14 @@ turn_is Between byte h = of (class_of byte)
     of OfNone = refl
 turn_is Word byte h = absurd h
 turn_is Mark byte h = absurd h
-turn_is Slash byte h = of (byte == 47) (byte == 42)
-  where
-    of : (slash star : Bool) → option_map (λ to. silently to (begun_with to byte)) (cond slash (Some LineComment) (cond star (Some BlockComment) None))
-        ≡ cond slash (moved [] LineComment []) (cond star (moved [] BlockComment []) None)
-    of true star = refl
-    of false true = refl
-    of false false = refl
-turn_is LineComment byte h = of (byte == 10)
-  where
-    of : (newline : Bool) → option_map (λ to. silently to (begun_with to byte)) (cond newline (Some Between) (Some LineComment))
-        ≡ cond newline (moved [] Between []) (moved [] LineComment [])
-    of true = refl
-    of false = refl
-turn_is BlockComment byte h = of (byte == 42)
-  where
-    of : (star : Bool) → option_map (λ to. silently to (begun_with to byte)) (cond star (Some Star) (Some BlockComment))
-        ≡ cond star (moved [] Star []) (moved [] BlockComment [])
-    of true = refl
-    of false = refl
-turn_is Star byte h = of (byte == 47) (byte == 42)
-  where
-    of : (slash star : Bool) → option_map (λ to. silently to (begun_with to byte)) (cond slash (Some Between) (cond star (Some Star) (Some BlockComment)))
-        ≡ cond slash (moved [] Between []) (cond star (moved [] Star []) (moved [] BlockComment []))
-    of true star = refl
-    of false true = refl
-    of false false = refl
+turn_is Slash byte h =
+    of_cond (turned byte) (byte == 47) (Some LineComment) (cond (byte == 42) (Some BlockComment) None)
+    ∙ ap (λ o. cond (byte == 47) (moved [] LineComment []) o) (of_cond (turned byte) (byte == 42) (Some BlockComment) None)
+turn_is LineComment byte h = of_cond (turned byte) (byte == 10) (Some Between) (Some LineComment)
+turn_is BlockComment byte h = of_cond (turned byte) (byte == 42) (Some Star) (Some BlockComment)
+turn_is Star byte h =
+    of_cond (turned byte) (byte == 47) (Some Between) (cond (byte == 42) (Some Star) (Some BlockComment))
+    ∙ ap (λ o. cond (byte == 47) (moved [] Between []) o) (of_cond (turned byte) (byte == 42) (Some Star) (Some BlockComment))
 
 -- a byte that goes on with the lexeme
 pub grows : (mode : Mode) (lexeme : List ℕ) (byte : ℕ) → IsWithin mode → continues mode (class_of byte) lexeme byte ≡ true →

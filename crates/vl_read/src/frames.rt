@@ -6,7 +6,7 @@ ghost use Rattle.vl_read.specs.declared.scan.Kind.TheVariants.{Fixed};
 ghost use Rattle.vl_read.specs.inner.Lexemes.{kind_of};
 ghost use Rattle.vl_read.specs.inner.Places.{Value, High, Low, Amount};
 ghost use Rattle.vl_read.specs.inner.Plain.{expect_spot, left_step, frame_step, goal_step, spot_step, indexed, name_of};
-ghost use Rattle.vl_read.specs.inner.Seen.{seen, goal_of, frames_of, spot_of, spot_seen};
+ghost use Rattle.vl_read.specs.inner.Seen.{seen, goal_of, goal_in, frames_of, spot_of, spot_seen};
 ghost use Rattle.vl_read.specs.inner.Turns.{stepped};
 
 use crate::numbers::{constant_of, count_of, kind_of};
@@ -14,36 +14,29 @@ use crate::pieces::{binary, bit, cast, choose, concat, innermost, part, repeat, 
 use crate::places::{Closing, Frame, Goal, Place, Reader, Spot};
 use crate::scan::is;
 use fx_io::{Boxed, OutOfMemory};
-use std::alloc::Global;
 use vl_ast::{BinOp, Expr, Exprs, ModItem, ShiftOp};
 
 impl Reader {
     /// An operator after the first operand of what is in parentheses.
     #[tactic(auto, unfolding(crate::specs::inner::Plain::left_step))]
-    fn left_step(
-        &mut self,
-        alloc: Global,
-        goal: Goal,
-        value: Expr,
-        lexeme: &[u8],
-    ) -> Result<bool, OutOfMemory>
+    fn left_step(&mut self, value: Expr, lexeme: &[u8]) -> Result<bool, OutOfMemory>
         ensures { IfOk result (λ said. stepped said (seen self.new)
-            ≡ left_step self.old.draft (goal_of self.old goal)
+            ≡ left_step self.old.draft (goal_in self.old)
             (frames_of self.old) value lexeme.now) }
     {
         if is(lexeme, "?") {
-            let test = Boxed::new(alloc, value)?;
-            return self.inside(goal, Frame::InChosen(test), Spot::Operand);
+            let test = Boxed::new(self.alloc, value)?;
+            return self.inside(Frame::InChosen(test), Spot::Operand);
         }
         match BinOp::of_text(lexeme) {
             Some(op) => {
-                let left = Boxed::new(alloc, value)?;
-                self.inside(goal, Frame::InRight(op, left), Spot::Operand)
+                let left = Boxed::new(self.alloc, value)?;
+                self.inside(Frame::InRight(op, left), Spot::Operand)
             }
             None => match ShiftOp::of_text(lexeme) {
                 Some(op) => {
                     self.hold(value);
-                    Ok(self.spot(goal, Spot::Amount(op)))
+                    Ok(self.spot(Spot::Amount(op)))
                 }
                 None => {
                     drop(value);
@@ -57,46 +50,42 @@ impl Reader {
     #[tactic(auto, unfolding(crate::specs::inner::Plain::frame_step))]
     fn concat_step(
         &mut self,
-        goal: Goal,
         mut parts: Exprs,
         value: Expr,
         lexeme: &[u8],
     ) -> Result<bool, OutOfMemory>
         ensures { IfOk result (λ said. stepped said (seen self.new)
-            ≡ frame_step self.old.draft (goal_of self.old goal) (frames_of self.old)
+            ≡ frame_step self.old.draft (goal_in self.old) (frames_of self.old)
             (InConcat parts) value lexeme.now) }
     {
         parts.push(value)?;
         if is(lexeme, ",") {
-            return self.inside(goal, Frame::InConcat(parts), Spot::Operand);
+            return self.inside(Frame::InConcat(parts), Spot::Operand);
         }
         self.hold(concat(parts));
-        Ok(self.expect_spot(b'}', lexeme, goal, Spot::Value))
+        Ok(self.expect_spot(b'}', lexeme, Spot::Value))
     }
 
     /// After the second operand of a choice.
     #[tactic(auto, unfolding(crate::specs::inner::Plain::frame_step))]
     fn chosen_step(
         &mut self,
-        alloc: Global,
-        goal: Goal,
         test: Boxed<Expr>,
         value: Expr,
         lexeme: &[u8],
     ) -> Result<bool, OutOfMemory>
         ensures { IfOk result (λ said. stepped said (seen self.new)
-            ≡ frame_step self.old.draft (goal_of self.old goal) (frames_of self.old)
+            ≡ frame_step self.old.draft (goal_in self.old) (frames_of self.old)
             (InChosen test) value lexeme.now) }
     {
-        let chosen = Boxed::new(alloc, value)?;
+        let chosen = Boxed::new(self.alloc, value)?;
         self.held.frames.push(Frame::InOther(test, chosen))?;
-        Ok(self.expect_spot(b':', lexeme, goal, Spot::Operand))
+        Ok(self.expect_spot(b':', lexeme, Spot::Operand))
     }
 
     /// After the mark that ends what an operand was made of. What was made may have wanted memory.
     fn ended_step(
         &mut self,
-        goal: Goal,
         made: Result<Expr, OutOfMemory>,
         lexeme: &[u8],
         mark: u8,
@@ -104,53 +93,45 @@ impl Reader {
     ) -> Result<bool, OutOfMemory>
         ensures { (value : Expr) → IfOk made (λ e. e ≡ value)
             → IfOk result (λ said. stepped said (seen self.new)
-            ≡ expect_spot mark lexeme.now self.old.draft (goal_of self.old goal)
+            ≡ expect_spot mark lexeme.now self.old.draft (goal_in self.old)
             (frames_of self.old) (spot_seen self.old.held.operand value spot)) }
     {
         self.hold(made?);
-        Ok(self.expect_spot(mark, lexeme, goal, spot))
+        Ok(self.expect_spot(mark, lexeme, spot))
     }
 
     /// After an operand in a frame.
     #[tactic(auto, unfolding(crate::specs::inner::Plain::frame_step))]
-    fn frame_step(
-        &mut self,
-        alloc: Global,
-        goal: Goal,
-        frame: Frame,
-        value: Expr,
-        lexeme: &[u8],
-    ) -> Result<bool, OutOfMemory>
+    fn frame_step(&mut self, frame: Frame, value: Expr, lexeme: &[u8]) -> Result<bool, OutOfMemory>
         ensures { IfOk result (λ said. stepped said (seen self.new)
-            ≡ frame_step self.old.draft (goal_of self.old goal)
+            ≡ frame_step self.old.draft (goal_in self.old)
             (frames_of self.old) frame value lexeme.now) }
     {
         match frame {
-            Frame::InConcat(parts) => self.concat_step(goal, parts, value, lexeme),
-            Frame::InLeft => self.left_step(alloc, goal, value, lexeme),
-            Frame::InChosen(test) => self.chosen_step(alloc, goal, test, value, lexeme),
+            Frame::InConcat(parts) => self.concat_step(parts, value, lexeme),
+            Frame::InLeft => self.left_step(value, lexeme),
+            Frame::InChosen(test) => self.chosen_step(test, value, lexeme),
             Frame::InRepeat(count) => {
-                let made = repeat(alloc, count, value);
-                self.ended_step(goal, made, lexeme, b'}', Spot::Ends(Closing::CloseBrace))
+                let made = repeat(self.alloc, count, value);
+                self.ended_step(made, lexeme, b'}', Spot::Ends(Closing::CloseBrace))
             }
             Frame::InCast(signed) => {
-                self.ended_step(goal, cast(alloc, signed, value), lexeme, b')', Spot::Value)
+                self.ended_step(cast(self.alloc, signed, value), lexeme, b')', Spot::Value)
             }
             Frame::InUnary(op) => {
-                self.ended_step(goal, unary(alloc, op, value), lexeme, b')', Spot::Value)
+                self.ended_step(unary(self.alloc, op, value), lexeme, b')', Spot::Value)
             }
             Frame::InRight(op, left) => {
                 self.ended_step(
-                    goal,
-                    binary(alloc, op, left, value),
+                    binary(self.alloc, op, left, value),
                     lexeme,
                     b')',
                     Spot::Value,
                 )
             }
             Frame::InOther(test, chosen) => {
-                let made = choose(alloc, test, chosen, value);
-                self.ended_step(goal, made, lexeme, b')', Spot::Value)
+                let made = choose(self.alloc, test, chosen, value);
+                self.ended_step(made, lexeme, b')', Spot::Value)
             }
         }
     }
@@ -178,15 +159,15 @@ impl Reader {
 
     /// `[` after an operand.
     #[tactic(auto, unfolding(crate::specs::inner::Plain::spot_step))]
-    fn index_step(&mut self, goal: Goal, value: Expr) -> bool
+    fn index_step(&mut self, value: Expr) -> bool
         ensures { stepped result (seen self.new)
-            ≡ indexed self.old.draft (goal_of self.old goal) (frames_of self.old)
+            ≡ indexed self.old.draft (goal_in self.old) (frames_of self.old)
             (name_of (out-Expr value)) }
     {
         match value {
             Expr::Name(name) => {
                 self.held.operand = name;
-                self.spot(goal, Spot::Index)
+                self.spot(Spot::Index)
             }
             other => {
                 drop(other);
@@ -197,68 +178,62 @@ impl Reader {
 
     /// After an operand.
     #[tactic(auto, unfolding(crate::specs::inner::Plain::spot_step))]
-    fn value_step(&mut self, alloc: Global, goal: Goal, lexeme: &[u8]) -> Result<bool, OutOfMemory>
+    fn value_step(&mut self, lexeme: &[u8]) -> Result<bool, OutOfMemory>
         ensures { IfOk result (λ said. stepped said (seen self.new)
-            ≡ spot_step self.old.draft (goal_of self.old goal) (frames_of self.old)
+            ≡ spot_step self.old.draft (goal_in self.old) (frames_of self.old)
             (Value self.old.held.value) Fixed lexeme.now) }
     {
         if is(lexeme, "[") {
             let value = self.take_value();
-            return Ok(self.index_step(goal, value));
+            return Ok(self.index_step(value));
         }
         match innermost(&mut self.held.frames) {
-            None => self.goal_step(goal, lexeme),
+            None => self.goal_step(self.held.goal, lexeme),
             Some(frame) => {
                 let value = self.take_value();
-                self.frame_step(alloc, goal, frame, value, lexeme)
+                self.frame_step(frame, value, lexeme)
             }
         }
     }
 
     /// After a name, `[` and a number.
     #[tactic(auto, unfolding(crate::specs::inner::Plain::spot_step))]
-    fn high_step(&mut self, goal: Goal, place: u32, lexeme: &[u8]) -> bool
+    fn high_step(&mut self, place: u32, lexeme: &[u8]) -> bool
         ensures { stepped result (seen self.new)
-            ≡ spot_step self.old.draft (goal_of self.old goal) (frames_of self.old)
+            ≡ spot_step self.old.draft (goal_in self.old) (frames_of self.old)
             (High self.old.held.operand place) Fixed lexeme.now }
     {
         if is(lexeme, "]") {
             let name = self.take_operand();
             self.hold(bit(name, place));
-            self.spot(goal, Spot::Value)
+            self.spot(Spot::Value)
         } else {
-            self.expect_spot(b':', lexeme, goal, Spot::Low(place))
+            self.expect_spot(b':', lexeme, Spot::Low(place))
         }
     }
 
     /// The amount of a shift.
     #[tactic(auto, unfolding(crate::specs::inner::Plain::spot_step))]
-    fn amount_step(
-        &mut self,
-        alloc: Global,
-        goal: Goal,
-        op: ShiftOp,
-        lexeme: &[u8],
-    ) -> Result<bool, OutOfMemory>
+    fn amount_step(&mut self, op: ShiftOp, lexeme: &[u8]) -> Result<bool, OutOfMemory>
         ensures { IfOk result (λ said. stepped said (seen self.new)
-            ≡ spot_step self.old.draft (goal_of self.old goal) (frames_of self.old)
+            ≡ spot_step self.old.draft (goal_in self.old) (frames_of self.old)
             (Amount op self.old.held.value) (kind_of lexeme.now) lexeme.now) }
     {
         match constant_of(lexeme) {
             None => Ok(false),
             Some(amount) => {
                 let value = self.take_value();
-                self.hold(shift(alloc, op, value, amount)?);
-                Ok(self.spot(goal, Spot::Ends(Closing::CloseParenthesis)))
+                self.hold(shift(self.alloc, op, value, amount)?);
+                Ok(self.spot(Spot::Ends(Closing::CloseParenthesis)))
             }
         }
     }
 
     /// The lower bound of a part.
     #[tactic(auto, unfolding(crate::specs::inner::Plain::spot_step))]
-    fn low_step(&mut self, goal: Goal, high: u32, lexeme: &[u8]) -> bool
+    fn low_step(&mut self, high: u32, lexeme: &[u8]) -> bool
         ensures { stepped result (seen self.new)
-            ≡ spot_step self.old.draft (goal_of self.old goal) (frames_of self.old)
+            ≡ spot_step self.old.draft (goal_in self.old) (frames_of self.old)
             (Low self.old.held.operand high) (kind_of lexeme.now) lexeme.now }
     {
         match count_of(lexeme) {
@@ -266,38 +241,32 @@ impl Reader {
             Some(low) => {
                 let name = self.take_operand();
                 self.hold(part(name, high, low));
-                self.spot(goal, Spot::Ends(Closing::CloseBracket))
+                self.spot(Spot::Ends(Closing::CloseBracket))
             }
         }
     }
 
     /// The next lexeme in an expression (IEEE 1364-2005, clause 5).
     #[tactic(auto, unfolding(crate::specs::inner::Plain::spot_step))]
-    pub fn spot_step(
-        &mut self,
-        alloc: Global,
-        goal: Goal,
-        spot: Spot,
-        lexeme: &[u8],
-    ) -> Result<bool, OutOfMemory>
+    pub fn spot_step(&mut self, spot: Spot, lexeme: &[u8]) -> Result<bool, OutOfMemory>
         ensures { IfOk result (λ said. stepped said (seen self.new)
-            ≡ spot_step self.old.draft (goal_of self.old goal) (frames_of self.old)
+            ≡ spot_step self.old.draft (goal_in self.old) (frames_of self.old)
             (spot_of self.old spot) (kind_of lexeme.now) lexeme.now) }
     {
         match spot {
-            Spot::Operand => self.operand_step(alloc, goal, kind_of(lexeme), lexeme),
-            Spot::Opened => self.opened_step(alloc, goal, lexeme),
-            Spot::Braced => self.braced_step(alloc, goal, lexeme),
-            Spot::Begins(mark) => Ok(self.expect_spot(mark.byte(), lexeme, goal, Spot::Operand)),
-            Spot::Value => self.value_step(alloc, goal, lexeme),
-            Spot::Ends(mark) => Ok(self.expect_spot(mark.byte(), lexeme, goal, Spot::Value)),
-            Spot::Amount(op) => self.amount_step(alloc, goal, op, lexeme),
+            Spot::Operand => self.operand_step(kind_of(lexeme), lexeme),
+            Spot::Opened => self.opened_step(kind_of(lexeme), lexeme),
+            Spot::Braced => self.braced_step(kind_of(lexeme), lexeme),
+            Spot::Begins(mark) => Ok(self.expect_spot(mark.byte(), lexeme, Spot::Operand)),
+            Spot::Value => self.value_step(lexeme),
+            Spot::Ends(mark) => Ok(self.expect_spot(mark.byte(), lexeme, Spot::Value)),
+            Spot::Amount(op) => self.amount_step(op, lexeme),
             Spot::Index => match count_of(lexeme) {
                 None => Ok(false),
-                Some(place) => Ok(self.spot(goal, Spot::High(place))),
+                Some(place) => Ok(self.spot(Spot::High(place))),
             },
-            Spot::High(place) => Ok(self.high_step(goal, place, lexeme)),
-            Spot::Low(high) => Ok(self.low_step(goal, high, lexeme)),
+            Spot::High(place) => Ok(self.high_step(place, lexeme)),
+            Spot::Low(high) => Ok(self.low_step(high, lexeme)),
         }
     }
 }

@@ -1,6 +1,6 @@
 ghost use Rattle.std.specs.Prelude.{◌≡◌, true, false, bytes_eq, codes, IfOk, None};
 ghost use Rattle.vl_read.specs.declared.scan.Kind.TheVariants.{Fixed};
-ghost use Rattle.vl_read.specs.declared.places.NetSpot.TheVariants.{Signed, Ranged, Bound, Named};
+ghost use Rattle.vl_read.specs.declared.places.NetSpot.TheVariants.{Signed, Ranged, Bound};
 ghost use Rattle.vl_read.specs.inner.Lexemes.{kind_of};
 ghost use Rattle.vl_read.specs.inner.Places.{Net, AttrValue, More};
 ghost use Rattle.vl_read.specs.inner.Plain.{attr_step, has_none, is_name, declared, net_step, expect, goes, on_name};
@@ -11,7 +11,6 @@ use crate::numbers::{count_of, is_name};
 use crate::places::{AttrSpot, NetKind, NetSpot, Place, Reader};
 use crate::scan::is;
 use fx_io::{OutOfMemory, Text};
-use std::alloc::Global;
 use std::mem;
 use vl_ast::{Attr, Attrs, Port};
 
@@ -33,12 +32,7 @@ fn is_signed(lexeme: &[u8]) -> bool
 
 impl Reader {
     /// A name, which is held.
-    pub fn name_step(
-        &mut self,
-        alloc: Global,
-        lexeme: &[u8],
-        place: Place,
-    ) -> Result<bool, OutOfMemory>
+    pub fn name_step(&mut self, lexeme: &[u8], place: Place) -> Result<bool, OutOfMemory>
         ensures { IfOk result (λ said. stepped said (seen self.new)
             ≡ on_name (kind_of lexeme.now)
             (goes self.old.draft
@@ -47,13 +41,13 @@ impl Reader {
         if !is_name(lexeme) {
             return Ok(false);
         }
-        self.hold_name(Text::copy(alloc, lexeme)?);
+        self.hold_name(Text::copy(self.alloc, lexeme)?);
         Ok(self.goes(place))
     }
 
     /// After an attribute.
     #[tactic(auto, unfolding(crate::specs::inner::Plain::attr_step))]
-    fn after_attribute(&mut self, alloc: Global, of_port: bool, lexeme: &[u8]) -> bool
+    fn after_attribute(&mut self, of_port: bool, lexeme: &[u8]) -> bool
         ensures { stepped result (seen self.new)
             ≡ attr_step self.old.draft of_port self.old.held.attrs More Fixed lexeme.now }
     {
@@ -63,7 +57,7 @@ impl Reader {
         } else if of_port {
             self.expect("*)", lexeme, Place::Port)
         } else {
-            self.draft.attrs = mem::replace(&mut self.held.attrs, Attrs::new(alloc));
+            self.draft.attrs = mem::replace(&mut self.held.attrs, Attrs::new(self.alloc));
             self.expect("*)", lexeme, Place::Start)
         }
     }
@@ -91,7 +85,6 @@ impl Reader {
     #[tactic(auto, unfolding(crate::specs::inner::Plain::attr_step))]
     pub fn attr_step(
         &mut self,
-        alloc: Global,
         of_port: bool,
         at: AttrSpot,
         lexeme: &[u8],
@@ -103,14 +96,14 @@ impl Reader {
         match at {
             AttrSpot::AttrName => {
                 let at = AttrSpot::AttrSign;
-                self.name_step(alloc, lexeme, Place::Attributes { of_port, at })
+                self.name_step(lexeme, Place::Attributes { of_port, at })
             }
             AttrSpot::AttrSign => {
                 let at = AttrSpot::AttrValue;
                 Ok(self.expect("=", lexeme, Place::Attributes { of_port, at }))
             }
             AttrSpot::AttrValue => self.attribute_value(of_port, lexeme),
-            AttrSpot::More => Ok(self.after_attribute(alloc, of_port, lexeme)),
+            AttrSpot::More => Ok(self.after_attribute(of_port, lexeme)),
         }
     }
 
@@ -118,7 +111,6 @@ impl Reader {
     #[tactic(auto, unfolding(crate::specs::inner::Plain::declared))]
     fn port_declared(
         &mut self,
-        alloc: Global,
         input: bool,
         signed: bool,
         width: u32,
@@ -128,8 +120,8 @@ impl Reader {
             ≡ declared self.old.draft (net_seen self.old.held.attrs (NetKind.OfPort input))
             signed width name.now) }
     {
-        let name = Text::copy(alloc, name)?;
-        let attrs = mem::replace(&mut self.held.attrs, Attrs::new(alloc));
+        let name = Text::copy(self.alloc, name)?;
+        let attrs = mem::replace(&mut self.held.attrs, Attrs::new(self.alloc));
         self.draft.ports.push(Port {
             attrs,
             input,
@@ -144,7 +136,6 @@ impl Reader {
     #[tactic(auto, unfolding(crate::specs::inner::Plain::declared))]
     fn declared(
         &mut self,
-        alloc: Global,
         net: NetKind,
         signed: bool,
         width: u32,
@@ -154,14 +145,14 @@ impl Reader {
             ≡ declared self.old.draft (net_seen self.old.held.attrs net) signed width name.now) }
     {
         match net {
-            NetKind::OfPort { input } => self.port_declared(alloc, input, signed, width, name),
-            NetKind::OfWire => {
-                self.hold_name(Text::copy(alloc, name)?);
-                Ok(self.goes(Place::AfterWire { signed, width }))
-            }
-            NetKind::OfReg => {
-                self.hold_name(Text::copy(alloc, name)?);
-                Ok(self.goes(Place::AfterReg { signed, width }))
+            NetKind::OfPort { input } => self.port_declared(input, signed, width, name),
+            NetKind::OfItem { is_reg } => {
+                self.hold_name(Text::copy(self.alloc, name)?);
+                Ok(self.goes(Place::AfterNet {
+                    is_reg,
+                    signed,
+                    width,
+                }))
             }
         }
     }
@@ -194,7 +185,7 @@ impl Reader {
 
     /// After the kind of a net: `signed`, `[` or the name.
     #[tactic(auto, unfolding(crate::specs::inner::Plain::net_step))]
-    fn kind_end(&mut self, alloc: Global, net: NetKind, lexeme: &[u8]) -> Result<bool, OutOfMemory>
+    fn kind_end(&mut self, net: NetKind, lexeme: &[u8]) -> Result<bool, OutOfMemory>
         ensures { IfOk result (λ said. stepped said (seen self.new)
             ≡ net_step self.old.draft (net_seen self.old.held.attrs net) Signed
             (kind_of lexeme.now) lexeme.now) }
@@ -203,48 +194,21 @@ impl Reader {
             let at = NetSpot::Ranged { signed: true };
             Ok(self.goes(Place::Net { kind: net, at }))
         } else {
-            self.range_or_name(alloc, net, false, lexeme)
+            self.ranged(net, false, lexeme)
         }
     }
 
     /// `[` or the name.
     #[tactic(auto, unfolding(crate::specs::inner::Plain::net_step))]
-    fn range_or_name(
-        &mut self,
-        alloc: Global,
-        net: NetKind,
-        signed: bool,
-        lexeme: &[u8],
-    ) -> Result<bool, OutOfMemory>
+    fn ranged(&mut self, net: NetKind, signed: bool, lexeme: &[u8]) -> Result<bool, OutOfMemory>
         ensures { IfOk result (λ said. stepped said (seen self.new)
             ≡ net_step self.old.draft (net_seen self.old.held.attrs net) (Ranged signed)
             (kind_of lexeme.now) lexeme.now) }
     {
         if is_name(lexeme) {
-            self.declared(alloc, net, signed, 1, lexeme)
+            self.declared(net, signed, 1, lexeme)
         } else {
             Ok(self.fixed(net, "[", lexeme, NetSpot::Bound { signed }))
-        }
-    }
-
-    /// The name after a range.
-    #[tactic(auto, unfolding(crate::specs::inner::Plain::net_step))]
-    fn net_name(
-        &mut self,
-        alloc: Global,
-        net: NetKind,
-        signed: bool,
-        width: u32,
-        lexeme: &[u8],
-    ) -> Result<bool, OutOfMemory>
-        ensures { IfOk result (λ said. stepped said (seen self.new)
-            ≡ net_step self.old.draft (net_seen self.old.held.attrs net) (Named signed width)
-            (kind_of lexeme.now) lexeme.now) }
-    {
-        if is_name(lexeme) {
-            self.declared(alloc, net, signed, width, lexeme)
-        } else {
-            Ok(false)
         }
     }
 
@@ -252,7 +216,6 @@ impl Reader {
     #[tactic(auto, unfolding(crate::specs::inner::Plain::net_step))]
     pub fn net_step(
         &mut self,
-        alloc: Global,
         net: NetKind,
         at: NetSpot,
         lexeme: &[u8],
@@ -263,8 +226,8 @@ impl Reader {
     {
         match at {
             NetSpot::Word => Ok(self.fixed(net, "wire", lexeme, NetSpot::Signed)),
-            NetSpot::Signed => self.kind_end(alloc, net, lexeme),
-            NetSpot::Ranged { signed } => self.range_or_name(alloc, net, signed, lexeme),
+            NetSpot::Signed => self.kind_end(net, lexeme),
+            NetSpot::Ranged { signed } => self.ranged(net, signed, lexeme),
             NetSpot::Bound { signed } => Ok(self.bound(net, signed, lexeme)),
             NetSpot::Colon { signed, width } => {
                 let at = NetSpot::Zero { signed, width };
@@ -278,7 +241,13 @@ impl Reader {
                 let at = NetSpot::Named { signed, width };
                 Ok(self.fixed(net, "]", lexeme, at))
             }
-            NetSpot::Named { signed, width } => self.net_name(alloc, net, signed, width, lexeme),
+            NetSpot::Named { signed, width } => {
+                if is_name(lexeme) {
+                    self.declared(net, signed, width, lexeme)
+                } else {
+                    Ok(false)
+                }
+            }
         }
     }
 }

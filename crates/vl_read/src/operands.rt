@@ -1,18 +1,15 @@
 ghost use Rattle.std.specs.Prelude.{◌≡◌, ◌++◌, ◌∷◌, [], IfOk};
 ghost use Rattle.vl_read.specs.declared.places.Frame.TheVariants.{InConcat};
 ghost use Rattle.vl_read.specs.declared.scan.Kind.TheVariants.{Fixed};
-ghost use Rattle.vl_read.specs.inner.Lexemes.{kind_of};
 ghost use Rattle.vl_read.specs.inner.Places.{Value};
 ghost use Rattle.vl_read.specs.inner.Plain.{spot_at, expect_spot, compound_step, operand_step, opened_step, braced_step};
-ghost use Rattle.vl_read.specs.inner.Seen.{seen, goal_of, frames_of, spot_of};
+ghost use Rattle.vl_read.specs.inner.Seen.{seen, goal_in, frames_of, spot_of};
 ghost use Rattle.vl_read.specs.inner.Turns.{stepped};
 
-use crate::numbers::kind_of;
 use crate::pieces::{literal, named, no_operands};
-use crate::places::{Frame, Goal, Opening, Place, Reader, Spot};
+use crate::places::{Frame, Opening, Place, Reader, Spot};
 use crate::scan::{Kind, is};
 use fx_io::{OutOfMemory, Text};
-use std::alloc::Global;
 use vl_ast::UnOp;
 
 /// How deep expressions nest at most (own).
@@ -20,61 +17,53 @@ const DEEPEST: usize = 256;
 
 impl Reader {
     /// The reading goes on in the expression.
-    pub fn spot(&mut self, goal: Goal, spot: Spot) -> bool
+    pub fn spot(&mut self, spot: Spot) -> bool
         ensures { stepped result (seen self.new)
-            ≡ spot_at self.old.draft (goal_of self.old goal) (frames_of self.old)
+            ≡ spot_at self.old.draft (goal_in self.old) (frames_of self.old)
             (spot_of self.old spot) }
     {
-        self.goes(Place::Expression { goal, spot })
+        self.goes(Place::Expression(spot))
     }
 
     /// The reading goes on in the expression, if the lexeme is this mark.
-    pub fn expect_spot(&mut self, mark: u8, lexeme: &[u8], goal: Goal, spot: Spot) -> bool
+    pub fn expect_spot(&mut self, mark: u8, lexeme: &[u8], spot: Spot) -> bool
         ensures { stepped result (seen self.new)
-            ≡ expect_spot mark lexeme.now self.old.draft (goal_of self.old goal)
+            ≡ expect_spot mark lexeme.now self.old.draft (goal_in self.old)
             (frames_of self.old) (spot_of self.old spot) }
     {
         match lexeme {
-            [byte] if *byte == mark => self.spot(goal, spot),
+            [byte] if *byte == mark => self.spot(spot),
             _ => false,
         }
     }
 
     /// The reading goes on in a further frame.
-    pub fn inside(&mut self, goal: Goal, frame: Frame, spot: Spot) -> Result<bool, OutOfMemory>
+    pub fn inside(&mut self, frame: Frame, spot: Spot) -> Result<bool, OutOfMemory>
         ensures { IfOk result (λ said. stepped said (seen self.new)
-            ≡ spot_at self.old.draft (goal_of self.old goal) (frames_of self.old
+            ≡ spot_at self.old.draft (goal_in self.old) (frames_of self.old
             ++ frame ∷ []) (spot_of self.old spot)) }
     {
         self.held.frames.push(frame)?;
-        Ok(self.spot(goal, spot))
+        Ok(self.spot(spot))
     }
 
     /// An operand that is no name and no number.
     #[tactic(auto, unfolding(crate::specs::inner::Plain::compound_step))]
-    fn compound_step(&mut self, goal: Goal, lexeme: &[u8]) -> Result<bool, OutOfMemory>
+    fn compound_step(&mut self, lexeme: &[u8]) -> Result<bool, OutOfMemory>
         ensures { IfOk result (λ said. stepped said (seen self.new)
-            ≡ compound_step self.old.draft (goal_of self.old goal)
+            ≡ compound_step self.old.draft (goal_in self.old)
             (frames_of self.old) lexeme.now) }
     {
         if self.held.frames.len() >= DEEPEST {
             Ok(false)
         } else if is(lexeme, "(") {
-            Ok(self.spot(goal, Spot::Opened))
+            Ok(self.spot(Spot::Opened))
         } else if is(lexeme, "{") {
-            Ok(self.spot(goal, Spot::Braced))
+            Ok(self.spot(Spot::Braced))
         } else if is(lexeme, "$signed") {
-            self.inside(
-                goal,
-                Frame::InCast(true),
-                Spot::Begins(Opening::OpenParenthesis),
-            )
+            self.inside(Frame::InCast(true), Spot::Begins(Opening::OpenParenthesis))
         } else if is(lexeme, "$unsigned") {
-            self.inside(
-                goal,
-                Frame::InCast(false),
-                Spot::Begins(Opening::OpenParenthesis),
-            )
+            self.inside(Frame::InCast(false), Spot::Begins(Opening::OpenParenthesis))
         } else {
             Ok(false)
         }
@@ -82,99 +71,67 @@ impl Reader {
 
     /// Where an operand begins.
     #[tactic(auto, unfolding(crate::specs::inner::Plain::operand_step))]
-    pub fn operand_step(
-        &mut self,
-        alloc: Global,
-        goal: Goal,
-        kind: Kind,
-        lexeme: &[u8],
-    ) -> Result<bool, OutOfMemory>
+    pub fn operand_step(&mut self, kind: Kind, lexeme: &[u8]) -> Result<bool, OutOfMemory>
         ensures { IfOk result (λ said. stepped said (seen self.new)
-            ≡ operand_step self.old.draft (goal_of self.old goal)
+            ≡ operand_step self.old.draft (goal_in self.old)
             (frames_of self.old) kind lexeme.now) }
     {
         match kind {
             Kind::Name => {
-                self.hold(named(Text::copy(alloc, lexeme)?));
-                Ok(self.spot(goal, Spot::Value))
+                self.hold(named(Text::copy(self.alloc, lexeme)?));
+                Ok(self.spot(Spot::Value))
             }
             Kind::Constant(number) => {
                 self.hold(literal(number));
-                Ok(self.spot(goal, Spot::Value))
+                Ok(self.spot(Spot::Value))
             }
             Kind::Count(_) => Ok(false),
-            Kind::Fixed => self.compound_step(goal, lexeme),
+            Kind::Fixed => self.compound_step(lexeme),
         }
     }
 
     /// An operand in a further frame.
-    fn operand_in(
-        &mut self,
-        alloc: Global,
-        goal: Goal,
-        frame: Frame,
-        kind: Kind,
-        lexeme: &[u8],
-    ) -> Result<bool, OutOfMemory>
+    fn operand_in(&mut self, frame: Frame, kind: Kind, lexeme: &[u8]) -> Result<bool, OutOfMemory>
         ensures { IfOk result (λ said. stepped said (seen self.new)
-            ≡ operand_step self.old.draft (goal_of self.old goal) (frames_of self.old
+            ≡ operand_step self.old.draft (goal_in self.old) (frames_of self.old
             ++ frame ∷ []) kind lexeme.now) }
     {
         self.held.frames.push(frame)?;
-        self.operand_step(alloc, goal, kind, lexeme)
+        self.operand_step(kind, lexeme)
     }
 
     /// After `(`.
     #[tactic(auto, unfolding(crate::specs::inner::Plain::opened_step, crate::specs::inner::Plain::operand_step, crate::specs::inner::Plain::unary_or_left))]
-    pub fn opened_step(
-        &mut self,
-        alloc: Global,
-        goal: Goal,
-        lexeme: &[u8],
-    ) -> Result<bool, OutOfMemory>
+    pub fn opened_step(&mut self, kind: Kind, lexeme: &[u8]) -> Result<bool, OutOfMemory>
         ensures { IfOk result (λ said. stepped said (seen self.new)
-            ≡ opened_step self.old.draft (goal_of self.old goal) (frames_of self.old)
-            (kind_of lexeme.now) lexeme.now) }
+            ≡ opened_step self.old.draft (goal_in self.old)
+            (frames_of self.old) kind lexeme.now) }
     {
-        let kind = kind_of(lexeme);
         match kind {
-            Kind::Name | Kind::Constant(_) => self.operand_in(
-                alloc,
-                goal,
-                Frame::InLeft,
-                kind,
-                lexeme,
-            ),
+            Kind::Name | Kind::Constant(_) => self.operand_in(Frame::InLeft, kind, lexeme),
             Kind::Count(_) => Ok(false),
             Kind::Fixed => match UnOp::of_text(lexeme) {
-                Some(op) => self.inside(goal, Frame::InUnary(op), Spot::Operand),
-                None => self.operand_in(alloc, goal, Frame::InLeft, kind, lexeme),
+                Some(op) => self.inside(Frame::InUnary(op), Spot::Operand),
+                None => self.operand_in(Frame::InLeft, kind, lexeme),
             },
         }
     }
 
     /// After `{`.
     #[tactic(auto, unfolding(crate::specs::inner::Plain::braced_step, crate::specs::inner::Plain::operand_step))]
-    pub fn braced_step(
-        &mut self,
-        alloc: Global,
-        goal: Goal,
-        lexeme: &[u8],
-    ) -> Result<bool, OutOfMemory>
+    pub fn braced_step(&mut self, kind: Kind, lexeme: &[u8]) -> Result<bool, OutOfMemory>
         ensures { IfOk result (λ said. stepped said (seen self.new)
-            ≡ braced_step self.old.draft (goal_of self.old goal) (frames_of self.old)
-            (kind_of lexeme.now) lexeme.now) }
+            ≡ braced_step self.old.draft (goal_in self.old)
+            (frames_of self.old) kind lexeme.now) }
     {
-        let kind = kind_of(lexeme);
         match kind {
             Kind::Count(number) => self.inside(
-                goal,
                 Frame::InRepeat(number),
                 Spot::Begins(Opening::OpenBrace),
             ),
             Kind::Name | Kind::Constant(_) | Kind::Fixed => {
-                let frame = Frame::InConcat(no_operands(alloc)?);
-                self.operand_in(alloc, goal, frame, kind, lexeme)
+                let frame = Frame::InConcat(no_operands(self.alloc)?);
+                self.operand_in(frame, kind, lexeme)
             }
         }
     }

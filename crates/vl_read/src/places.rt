@@ -1,4 +1,5 @@
 use fx_io::{Boxed, Text};
+use std::alloc::Global;
 use vl_ast::{Attrs, BinOp, Expr, Exprs, ModItems, Ports, ShiftOp, Sized, UnOp};
 
 /// An expression that is begun, without the part that is being read.
@@ -113,8 +114,8 @@ pub enum Goal {
 #[derive(Clone, Copy)]
 pub enum NetKind {
     OfPort { input: bool },
-    OfWire,
-    OfReg,
+    /// A register, or else a wire.
+    OfItem { is_reg: bool },
 }
 
 /// Where in a declaration the reading is.
@@ -223,7 +224,10 @@ pub enum Place {
     /// The module's attributes, where there are none yet, or `module` is next.
     Start,
     /// In the attributes of a port, or else of the module.
-    Attributes { of_port: bool, at: AttrSpot },
+    Attributes {
+        of_port: bool,
+        at: AttrSpot,
+    },
     /// The module's name is next.
     Title,
     /// `(` is next.
@@ -231,7 +235,10 @@ pub enum Place {
     /// The port's attributes, where there are none yet, or its direction is next.
     Port,
     /// In a declaration.
-    Net { kind: NetKind, at: NetSpot },
+    Net {
+        kind: NetKind,
+        at: NetSpot,
+    },
     /// `,` or `)` is next.
     AfterPort,
     /// `;` is next, and then the items.
@@ -263,11 +270,13 @@ pub enum Place {
     /// `<=` is next, and then the value.
     NextSign,
     /// In an expression.
-    Expression { goal: Goal, spot: Spot },
-    /// `;` is next, which ends a wire's declaration.
-    AfterWire { signed: bool, width: u32 },
-    /// `;` is next, which ends a register's declaration.
-    AfterReg { signed: bool, width: u32 },
+    Expression(Spot),
+    /// `;` is next, which ends the declaration of a register, or else of a wire.
+    AfterNet {
+        is_reg: bool,
+        signed: bool,
+        width: u32,
+    },
     /// `end` is next, which ends an item with a clock.
     End,
     /// The module is read.
@@ -296,6 +305,8 @@ pub struct Held {
     pub first: Sized,
     /// The condition of an item with a clock.
     pub condition: Option<Expr>,
+    /// What the expression is read for.
+    pub goal: Goal,
     /// The expressions that are begun, the innermost last.
     pub frames: Vec<Frame>,
     /// The name before `[`.
@@ -307,6 +318,8 @@ pub struct Held {
 /// What the lexemes so far say.
 #[derive(Drop)]
 pub struct Reader {
+    /// What has the memory for what is read.
+    pub alloc: Global,
     pub draft: Draft,
     pub place: Place,
     pub held: Held,

@@ -4,7 +4,7 @@ ghost use Rattle.vl_read.specs.inner.Plain.{expect, start, finish, goes};
 ghost use Rattle.vl_read.specs.inner.Seen.{seen, place_seen, nothing};
 ghost use Rattle.vl_read.specs.inner.Turns.{stepped};
 
-use crate::places::{Draft, Held, Place, Reader};
+use crate::places::{Draft, Goal, Held, Place, Reader};
 use crate::scan::is;
 use fx_io::{OutOfMemory, Text};
 use std::alloc::Global;
@@ -54,6 +54,7 @@ impl Reader {
         ensures { seen result ≡ start most }
     {
         Reader {
+            alloc,
             draft: Draft {
                 name: Text::new(),
                 attrs: Attrs::new(alloc),
@@ -67,6 +68,7 @@ impl Reader {
                 name: Text::new(),
                 first: unread(),
                 condition: None,
+                goal: Goal::Assigned,
                 frames: Vec::new(alloc),
                 operand: Text::new(),
                 value: Expr::Literal(unread()),
@@ -78,7 +80,12 @@ impl Reader {
     pub fn finish(self) -> Option<Module>
         ensures { result ≡ finish (seen self) }
     {
-        let Reader { draft, place, held } = self;
+        let Reader {
+            draft,
+            place,
+            held,
+            alloc: _,
+        } = self;
         drop(held);
         if matches!(place, Place::Done) {
             Some(draft.module())

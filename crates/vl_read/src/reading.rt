@@ -46,7 +46,7 @@ fn last(reader: Reader, mode: Mode) -> Option<Module>
 }
 
 /// Reads the lexemes of the bytes, and tells where the reading is behind them.
-fn read_lexemes(alloc: Global, bytes: &[u8], reader: &mut Reader) -> Result<Mode, VlSyntax>
+fn read_lexemes(bytes: &[u8], reader: &mut Reader) -> Result<Mode, VlSyntax>
     requires first { seen reader.old ≡ start most_items }
     ensures beyond { IfOk result IsBeyond }
     ensures ahead { IfOk result (λ mode. reading most_items bytes.now
@@ -70,7 +70,7 @@ fn read_lexemes(alloc: Global, bytes: &[u8], reader: &mut Reader) -> Result<Mode
             continue;
         }
         let end = lexeme_end(next, bytes, at);
-        if !reader.step(alloc, &bytes[at..end])? {
+        if !reader.step(&bytes[at..end])? {
             return Err(VlSyntax::Syntax {
                 line: line_at(&bytes[..end]),
             });
@@ -95,7 +95,7 @@ pub fn read(alloc: Global, bytes: &[u8]) -> Result<Module, VlSyntax>
     ensures line { IfSyntax result (λ line. IsVerilogFaultLine bytes.now line) }
 {
     let mut reader = Reader::new(alloc, MOST_ITEMS);
-    match read_lexemes(alloc, bytes, &mut reader) {
+    match read_lexemes(bytes, &mut reader) {
         Err(fault) => {
             drop(reader);
             Err(fault)

@@ -1,10 +1,10 @@
 ghost use Rattle.std.specs.Prelude.{◌≡◌, [], IfOk};
-ghost use Rattle.vl_ast.specs.declared.modules.ModItem.TheVariants.{Wire, Reg, Always};
+ghost use Rattle.vl_ast.specs.declared.modules.ModItem.TheVariants.{Always};
 ghost use Rattle.vl_read.specs.declared.scan.Kind.TheVariants.{Fixed};
 ghost use Rattle.vl_read.specs.inner.Lexemes.{kind_of};
 ghost use Rattle.vl_read.specs.inner.Places.{Items, Start, Port, AfterPort, Title, Branch, First, Expression, Operand, End, Semicolon};
-ghost use Rattle.vl_read.specs.inner.Plain.{expect, step, step_at, item_step, again_step};
-ghost use Rattle.vl_read.specs.inner.Seen.{seen, place_seen, goal_of};
+ghost use Rattle.vl_read.specs.inner.Plain.{expect, step, step_at, item_step, again_step, net_item};
+ghost use Rattle.vl_read.specs.inner.Seen.{seen, goal_of};
 ghost use Rattle.vl_read.specs.inner.Turns.{stepped};
 
 use crate::nets::has_none;
@@ -12,7 +12,6 @@ use crate::numbers::{constant_of, is_name};
 use crate::places::{AttrSpot, Goal, HeadSpot, NetKind, NetSpot, Place, Reader, Spot};
 use crate::scan::is;
 use fx_io::{OutOfMemory, Text};
-use std::alloc::Global;
 use vl_ast::{Attrs, ModItem};
 
 impl Reader {
@@ -23,10 +22,10 @@ impl Reader {
     {
         let at = NetSpot::Signed;
         if is(lexeme, "wire") {
-            let kind = NetKind::OfWire;
+            let kind = NetKind::OfItem { is_reg: false };
             self.goes(Place::Net { kind, at })
         } else if is(lexeme, "reg") {
-            let kind = NetKind::OfReg;
+            let kind = NetKind::OfItem { is_reg: true };
             self.goes(Place::Net { kind, at })
         } else if is(lexeme, "assign") {
             self.goes(Place::AssignName)
@@ -51,11 +50,11 @@ impl Reader {
 
     /// The attributes of the module, or its first word.
     #[tactic(auto, unfolding(crate::specs::inner::Plain::step_at))]
-    fn start_step(&mut self, alloc: Global, lexeme: &[u8]) -> bool
+    fn start_step(&mut self, lexeme: &[u8]) -> bool
         ensures { stepped result (seen self.new) ≡ step_at self.old.draft Start Fixed lexeme.now }
     {
         if is(lexeme, "(*") && has_none(&self.draft.attrs) {
-            self.hold_attrs(Attrs::new(alloc));
+            self.hold_attrs(Attrs::new(self.alloc));
             self.goes(Place::Attributes {
                 of_port: false,
                 at: AttrSpot::AttrName,
@@ -67,13 +66,13 @@ impl Reader {
 
     /// The attributes of a port, or its direction.
     #[tactic(auto, unfolding(crate::specs::inner::Plain::step_at))]
-    fn port_step(&mut self, alloc: Global, lexeme: &[u8]) -> bool
+    fn port_step(&mut self, lexeme: &[u8]) -> bool
         ensures { stepped result (seen self.new)
             ≡ step_at self.old.draft (Port self.old.held.attrs) Fixed lexeme.now }
     {
         let at = NetSpot::Word;
         if is(lexeme, "(*") && has_none(&self.held.attrs) {
-            self.hold_attrs(Attrs::new(alloc));
+            self.hold_attrs(Attrs::new(self.alloc));
             self.goes(Place::Attributes {
                 of_port: true,
                 at: AttrSpot::AttrName,
@@ -88,22 +87,22 @@ impl Reader {
     }
 
     /// A port begins, if the lexeme is this word.
-    fn first_port(&mut self, alloc: Global, word: &str, lexeme: &[u8]) -> bool
+    fn first_port(&mut self, word: &str, lexeme: &[u8]) -> bool
         ensures { stepped result (seen self.new)
             ≡ expect word.now lexeme.now self.old.draft (Port []) }
     {
-        self.hold_attrs(Attrs::new(alloc));
+        self.hold_attrs(Attrs::new(self.alloc));
         self.expect(word, lexeme, Place::Port)
     }
 
     /// After a port.
     #[tactic(auto, unfolding(crate::specs::inner::Plain::step_at))]
-    fn after_port(&mut self, alloc: Global, lexeme: &[u8]) -> bool
+    fn after_port(&mut self, lexeme: &[u8]) -> bool
         ensures { stepped result (seen self.new)
             ≡ step_at self.old.draft AfterPort Fixed lexeme.now }
     {
         if is(lexeme, ",") {
-            self.first_port(alloc, ",", lexeme)
+            self.first_port(",", lexeme)
         } else {
             self.expect(")", lexeme, Place::AfterPorts)
         }
@@ -115,21 +114,21 @@ impl Reader {
             ≡ expect word.now lexeme.now self.old.draft
             (Expression (goal_of self.old goal) [] Operand) }
     {
+        self.held.goal = goal;
         self.held.frames.clear();
-        let spot = Spot::Operand;
-        self.expect(word, lexeme, Place::Expression { goal, spot })
+        self.expect(word, lexeme, Place::Expression(Spot::Operand))
     }
 
     /// The name of the module.
     #[tactic(auto, unfolding(crate::specs::inner::Plain::step_at))]
-    fn title_step(&mut self, alloc: Global, lexeme: &[u8]) -> Result<bool, OutOfMemory>
+    fn title_step(&mut self, lexeme: &[u8]) -> Result<bool, OutOfMemory>
         ensures { IfOk result (λ said. stepped said (seen self.new)
             ≡ step_at self.old.draft Title (kind_of lexeme.now) lexeme.now) }
     {
         if !is_name(lexeme) {
             return Ok(false);
         }
-        self.draft.name = Text::copy(alloc, lexeme)?;
+        self.draft.name = Text::copy(self.alloc, lexeme)?;
         Ok(self.goes(Place::Ports))
     }
 
@@ -200,59 +199,57 @@ impl Reader {
         self.with_item("end", lexeme, item)
     }
 
-    /// A wire's declaration ends.
+    /// The declaration of a register, or else of a wire, ends.
     #[tactic(auto, unfolding(crate::specs::inner::Plain::step_at))]
-    fn wire_end(&mut self, signed: bool, width: u32, lexeme: &[u8]) -> Result<bool, OutOfMemory>
+    fn net_end(
+        &mut self,
+        is_reg: bool,
+        signed: bool,
+        width: u32,
+        lexeme: &[u8],
+    ) -> Result<bool, OutOfMemory>
         ensures { IfOk result (λ said. stepped said (seen self.new)
             ≡ step_at self.old.draft
-            (Semicolon (Wire signed width self.old.held.name)) Fixed lexeme.now) }
+            (Semicolon (net_item is_reg signed width self.old.held.name)) Fixed lexeme.now) }
     {
         let name = self.take_name();
-        let item = ModItem::Wire {
-            signed,
-            width,
-            name,
-        };
-        self.with_item(";", lexeme, item)
+        if is_reg {
+            let item = ModItem::Reg {
+                signed,
+                width,
+                name,
+            };
+            self.with_item(";", lexeme, item)
+        } else {
+            let item = ModItem::Wire {
+                signed,
+                width,
+                name,
+            };
+            self.with_item(";", lexeme, item)
+        }
     }
 
-    /// A register's declaration ends.
-    #[tactic(auto, unfolding(crate::specs::inner::Plain::step_at))]
-    fn register_end(&mut self, signed: bool, width: u32, lexeme: &[u8]) -> Result<bool, OutOfMemory>
+    /// Reads the next lexeme. `false` where no module goes on so; the reader is of no further use then.
+    #[tactic(auto, unfolding(crate::specs::inner::Plain::step, crate::specs::inner::Plain::step_at))]
+    pub fn step(&mut self, lexeme: &[u8]) -> Result<bool, OutOfMemory>
         ensures { IfOk result (λ said. stepped said (seen self.new)
-            ≡ step_at self.old.draft
-            (Semicolon (Reg signed width self.old.held.name)) Fixed lexeme.now) }
+            ≡ step (seen self.old) lexeme.now) }
     {
-        let name = self.take_name();
-        let item = ModItem::Reg {
-            signed,
-            width,
-            name,
-        };
-        self.with_item(";", lexeme, item)
-    }
-
-    /// The next lexeme, at a place.
-    #[tactic(auto, unfolding(crate::specs::inner::Plain::step_at))]
-    fn step_at(&mut self, alloc: Global, place: Place, lexeme: &[u8]) -> Result<bool, OutOfMemory>
-        ensures { IfOk result (λ said. stepped said (seen self.new)
-            ≡ step_at self.old.draft (place_seen self.old.held place)
-            (kind_of lexeme.now) lexeme.now) }
-    {
-        match place {
-            Place::Start => Ok(self.start_step(alloc, lexeme)),
-            Place::Attributes { of_port, at } => self.attr_step(alloc, of_port, at, lexeme),
-            Place::Title => self.title_step(alloc, lexeme),
-            Place::Ports => Ok(self.first_port(alloc, "(", lexeme)),
-            Place::Port => Ok(self.port_step(alloc, lexeme)),
-            Place::Net { kind, at } => self.net_step(alloc, kind, at, lexeme),
-            Place::AfterPort => Ok(self.after_port(alloc, lexeme)),
+        match self.place {
+            Place::Start => Ok(self.start_step(lexeme)),
+            Place::Attributes { of_port, at } => self.attr_step(of_port, at, lexeme),
+            Place::Title => self.title_step(lexeme),
+            Place::Ports => Ok(self.first_port("(", lexeme)),
+            Place::Port => Ok(self.port_step(lexeme)),
+            Place::Net { kind, at } => self.net_step(kind, at, lexeme),
+            Place::AfterPort => Ok(self.after_port(lexeme)),
             Place::AfterPorts => Ok(self.expect(";", lexeme, Place::Items)),
             Place::Items => Ok(self.items_step(lexeme)),
-            Place::AssignName => self.name_step(alloc, lexeme, Place::AssignSign),
+            Place::AssignName => self.name_step(lexeme, Place::AssignSign),
             Place::AssignSign => Ok(self.expression("=", lexeme, Goal::Assigned)),
             Place::Head(at) => Ok(self.expect(at.word(), lexeme, at.next())),
-            Place::ClockedName => self.name_step(alloc, lexeme, Place::ClockedSign),
+            Place::ClockedName => self.name_step(lexeme, Place::ClockedSign),
             Place::ClockedSign => Ok(self.expect("<=", lexeme, Place::First)),
             Place::First => Ok(self.first_step(lexeme)),
             Place::AfterFirst => Ok(self.expect(";", lexeme, Place::Else)),
@@ -261,20 +258,14 @@ impl Reader {
             Place::If => Ok(self.expression("(", lexeme, Goal::Condition)),
             Place::Again => Ok(is_name(lexeme) && self.again_step(lexeme)),
             Place::NextSign => Ok(self.expression("<=", lexeme, Goal::Next)),
-            Place::Expression { goal, spot } => self.spot_step(alloc, goal, spot, lexeme),
-            Place::AfterWire { signed, width } => self.wire_end(signed, width, lexeme),
-            Place::AfterReg { signed, width } => self.register_end(signed, width, lexeme),
+            Place::Expression(spot) => self.spot_step(spot, lexeme),
+            Place::AfterNet {
+                is_reg,
+                signed,
+                width,
+            } => self.net_end(is_reg, signed, width, lexeme),
             Place::End => self.clocked_end(lexeme),
             Place::Done => Ok(false),
         }
-    }
-
-    /// Reads the next lexeme. `false` where no module goes on so; the reader is of no further use then.
-    #[tactic(auto, unfolding(crate::specs::inner::Plain::step))]
-    pub fn step(&mut self, alloc: Global, lexeme: &[u8]) -> Result<bool, OutOfMemory>
-        ensures { IfOk result (λ said. stepped said (seen self.new)
-            ≡ step (seen self.old) lexeme.now) }
-    {
-        self.step_at(alloc, self.place, lexeme)
     }
 }

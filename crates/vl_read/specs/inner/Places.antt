@@ -68,8 +68,8 @@ pub data Goal : Type 0 where
 -- whose declaration is read
 pub data NetKind : Type 0 where
   OfPort : List Attr → Bool → NetKind
-  OfWire : NetKind
-  OfReg : NetKind
+  -- a register, or else a wire
+  OfItem : Bool → NetKind
 
 -- where in a list of attributes the reading is
 pub data AttrSpot : Type 0 where

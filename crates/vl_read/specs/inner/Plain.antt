@@ -10,6 +10,7 @@ use Rattle.vl_ast.specs.declared.expressions.Expr.{Expr}
 use Rattle.vl_ast.specs.declared.expressions.Expr.TheOpen.{Expr-F}
 use Rattle.vl_ast.specs.declared.expressions.Expr.TheViews.{roll-Expr, out-Expr}
 use Rattle.vl_ast.specs.declared.modules.Attr.{Attr}
+use Rattle.vl_ast.specs.declared.modules.ModItem.{ModItem}
 use Rattle.vl_ast.specs.declared.modules.ModItem.TheVariants.{Wire, Reg, Assign, Always}
 use Rattle.vl_ast.specs.Operators.{unary_of, infix_of, shift_of}
 use Rattle.vl_ast.specs.declared.modules.Module.{Module}
@@ -22,7 +23,7 @@ use Rattle.vl_read.specs.declared.places.Closing.TheVariants.{CloseParenthesis, 
 use Rattle.vl_read.specs.inner.Places.{Spot, Clocked, Goal, NetKind, AttrSpot, Place, Parser, opening_byte, closing_byte}
 use Rattle.vl_read.specs.inner.Places.Spot.{Operand, Opened, Braced, Begins, Value, Ends, Amount, Index, High, Low}
 use Rattle.vl_read.specs.inner.Places.Goal.{Assigned, Condition, Next}
-use Rattle.vl_read.specs.inner.Places.NetKind.{OfPort, OfWire, OfReg}
+use Rattle.vl_read.specs.inner.Places.NetKind.{OfPort, OfItem}
 use Rattle.vl_read.specs.declared.places.NetSpot.{NetSpot}
 use Rattle.vl_read.specs.declared.places.NetSpot.TheVariants.{Word, Signed, Ranged, Bound, Colon, Zero, Close, Named}
 use Rattle.vl_read.specs.declared.places.HeadSpot.{HeadSpot}
@@ -94,12 +95,16 @@ abbrev pub has_none : List Attr → Bool
 has_none [] = true
 has_none (attr ∷ attrs) = false
 
+-- a register, or else a wire
+abbrev pub net_item : Bool → Bool → ℕ → List ℕ → ModItem
+net_item true signed width name = Reg signed width name
+net_item false signed width name = Wire signed width name
+
 -- a port, a wire or a register is declared
 unfoldable pub declared : Draft → NetKind → Bool → ℕ → List ℕ → Option Parser
 declared draft (OfPort attrs input) signed width name =
     goes (record draft { ports = draft.ports ++ record { attrs = attrs; input = input; signed = signed; width = width; name = name } ∷ [] }) AfterPort
-declared draft OfWire signed width name = goes draft (Semicolon (Wire signed width name))
-declared draft OfReg signed width name = goes draft (Semicolon (Reg signed width name))
+declared draft (OfItem is_reg) signed width name = goes draft (Semicolon (net_item is_reg signed width name))
 
 -- the next lexeme in a declaration
 unfoldable pub net_step : Draft → NetKind → NetSpot → Kind → List ℕ → Option Parser
@@ -249,8 +254,8 @@ spot_step draft goal frames (Low name high) kind lexeme =
 -- the first word of an item
 unfoldable pub item_step : Draft → List ℕ → Option Parser
 item_step draft lexeme =
-    if bytes_eq lexeme (codes "wire") then goes draft (Net OfWire Signed)
-    else (if bytes_eq lexeme (codes "reg") then goes draft (Net OfReg Signed)
+    if bytes_eq lexeme (codes "wire") then goes draft (Net (OfItem false) Signed)
+    else (if bytes_eq lexeme (codes "reg") then goes draft (Net (OfItem true) Signed)
     else (if bytes_eq lexeme (codes "assign") then goes draft AssignName
     else expect (codes "always") lexeme draft (Head Event)))
 

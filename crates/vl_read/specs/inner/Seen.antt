@@ -5,21 +5,22 @@ use Rattle.vl_ast.specs.declared.expressions.Sized.{Sized}
 use Rattle.vl_ast.specs.declared.expressions.Expr.TheOpen.{Expr-F}
 use Rattle.vl_ast.specs.declared.expressions.Expr.TheViews.{roll-Expr}
 use Rattle.vl_ast.specs.declared.modules.Attr.{Attr}
-use Rattle.vl_ast.specs.declared.modules.ModItem.TheVariants.{Wire, Reg, Always}
+use Rattle.vl_ast.specs.declared.modules.ModItem.TheVariants.{Always}
 use Rattle.vl_read.specs.declared.places.Spot.{Spot}
 use Rattle.vl_read.specs.declared.places.Spot.TheVariants.{Operand, Opened, Braced, Begins, Value, Ends, Amount, Index, High, Low}
 use Rattle.vl_read.specs.declared.places.Goal.{Goal}
 use Rattle.vl_read.specs.declared.places.Goal.TheVariants.{Assigned, Condition, Next}
 use Rattle.vl_read.specs.declared.places.NetKind.{NetKind}
-use Rattle.vl_read.specs.declared.places.NetKind.TheVariants.{OfPort, OfWire, OfReg}
+use Rattle.vl_read.specs.declared.places.NetKind.TheVariants.{OfPort, OfItem}
 use Rattle.vl_read.specs.declared.places.AttrSpot.{AttrSpot}
 use Rattle.vl_read.specs.declared.places.AttrSpot.TheVariants.{AttrName, AttrSign, AttrValue, More}
 use Rattle.vl_read.specs.declared.places.Place.{Place}
-use Rattle.vl_read.specs.declared.places.Place.TheVariants.{Start, Attributes, Title, Ports, Port as PortPlace, Net, AfterPort, AfterPorts, Items, AssignName, AssignSign, Head, ClockedName, ClockedSign, First, AfterFirst, Else, Branch, If, Again, NextSign, Expression, AfterWire, AfterReg, End, Done}
+use Rattle.vl_read.specs.declared.places.Place.TheVariants.{Start, Attributes, Title, Ports, Port as PortPlace, Net, AfterPort, AfterPorts, Items, AssignName, AssignSign, Head, ClockedName, ClockedSign, First, AfterFirst, Else, Branch, If, Again, NextSign, Expression, AfterNet, End, Done}
 use Rattle.vl_read.specs.declared.places.Frame.{Frame}
 use Rattle.vl_read.specs.declared.places.Held.{Held}
 use Rattle.vl_read.specs.declared.places.Reader.{Reader}
 use Rattle.vl_read.specs.inner.Places as plain
+use Rattle.vl_read.specs.inner.Plain.{net_item}
 
 -- what the reader holds where no operand was read
 abbrev pub nothing : Expr
@@ -35,8 +36,7 @@ attr_spot_seen name More = plain.More
 -- whose declaration is read
 abbrev pub net_seen : List Attr → NetKind → plain.NetKind
 net_seen attrs (OfPort input) = plain.OfPort attrs input
-net_seen attrs OfWire = plain.OfWire
-net_seen attrs OfReg = plain.OfReg
+net_seen attrs (OfItem is_reg) = plain.OfItem is_reg
 
 -- what an expression is read for
 abbrev pub goal_seen : List ℕ → Sized → Option Expr → Goal → plain.Goal
@@ -80,10 +80,9 @@ place_seen held Branch = plain.Branch held.name held.first
 place_seen held If = plain.If held.name held.first
 place_seen held Again = plain.Again (record { name = held.name; first = held.first; condition = held.condition })
 place_seen held NextSign = plain.NextSign (record { name = held.name; first = held.first; condition = held.condition })
-place_seen held (Expression goal spot) =
-    plain.Expression (goal_seen held.name held.first held.condition goal) held.frames.items (spot_seen held.operand held.value spot)
-place_seen held (AfterWire signed width) = plain.Semicolon (Wire signed width held.name)
-place_seen held (AfterReg signed width) = plain.Semicolon (Reg signed width held.name)
+place_seen held (Expression spot) =
+    plain.Expression (goal_seen held.name held.first held.condition held.goal) held.frames.items (spot_seen held.operand held.value spot)
+place_seen held (AfterNet is_reg signed width) = plain.Semicolon (net_item is_reg signed width held.name)
 place_seen held End = plain.End (Always held.name held.first held.condition held.value)
 place_seen held Done = plain.Done
 
@@ -94,6 +93,10 @@ seen reader = record { draft = reader.draft; place = place_seen reader.held read
 -- what an expression is read for, as the reader holds it
 abbrev pub goal_of : Reader → Goal → plain.Goal
 goal_of reader goal = goal_seen reader.held.name reader.held.first reader.held.condition goal
+
+-- and that of the expression that is read
+abbrev pub goal_in : Reader → plain.Goal
+goal_in reader = goal_of reader reader.held.goal
 
 -- the expressions that are begun, as the reader holds them
 abbrev pub frames_of : Reader → List Frame

@@ -11,7 +11,7 @@ returns-in-Signed c = rw c.in-Signed.is c.kind_end.ensures
 
 pub returns-in-Ranged : goal.returns-in-Ranged
 unfolding net_step
-returns-in-Ranged c = rw c.in-Ranged.is c.range_or_name.ensures
+returns-in-Ranged c = rw c.in-Ranged.is c.ranged.ensures
 
 pub returns-in-Bound : goal.returns-in-Bound
 unfolding net_step
@@ -28,7 +28,3 @@ returns-in-Zero c = rw c.in-Zero.is c.fixed-in-Zero.ensures
 pub returns-in-Close : goal.returns-in-Close
 unfolding net_step
 returns-in-Close c = rw c.in-Close.is c.fixed-in-Close.ensures
-
-pub returns-in-Named : goal.returns-in-Named
-unfolding net_step
-returns-in-Named c = rw c.in-Named.is c.net_name.ensures

@@ -8,11 +8,11 @@ returns-in-Operand c = rw (c.in-Operand.is, sym c.kind_of.ensures) c.operand_ste
 
 pub returns-in-Opened : goal.returns-in-Opened
 unfolding spot_step
-returns-in-Opened c = rw c.in-Opened.is c.opened_step.ensures
+returns-in-Opened c = rw (c.in-Opened.is, sym c.kind_of-in-Opened.ensures) c.opened_step.ensures
 
 pub returns-in-Braced : goal.returns-in-Braced
 unfolding spot_step
-returns-in-Braced c = rw c.in-Braced.is c.braced_step.ensures
+returns-in-Braced c = rw (c.in-Braced.is, sym c.kind_of-in-Braced.ensures) c.braced_step.ensures
 
 pub returns-in-Value : goal.returns-in-Value
 unfolding spot_step

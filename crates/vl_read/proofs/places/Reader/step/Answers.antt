@@ -1,99 +1,95 @@
 use Rattle.std.proofs.Common.{sym}
-use Rattle.vl_read.specs.inner.Plain.{step_at}
-use Rattle.vl_read.proofs.places.Reader.step_at.Goals as goal
+use Rattle.vl_read.specs.inner.Plain.{step, step_at}
+use Rattle.vl_read.proofs.places.Reader.step.Goals as goal
 
 pub returns-in-Start : goal.returns-in-Start
-unfolding step_at
+unfolding step step_at
 returns-in-Start c = rw c.in-Start.is c.start_step.ensures
 
 pub returns-in-Attributes : goal.returns-in-Attributes
-unfolding step_at
+unfolding step step_at
 returns-in-Attributes c = rw c.in-Attributes.is c.attr_step.ensures
 
 pub returns-in-Title : goal.returns-in-Title
-unfolding step_at
+unfolding step step_at
 returns-in-Title c = rw c.in-Title.is c.title_step.ensures
 
 pub returns-in-Ports : goal.returns-in-Ports
-unfolding step_at
+unfolding step step_at
 returns-in-Ports c = rw c.in-Ports.is c.first_port.ensures
 
 pub returns-in-Port : goal.returns-in-Port
-unfolding step_at
+unfolding step step_at
 returns-in-Port c = rw c.in-Port.is c.port_step.ensures
 
 pub returns-in-Net : goal.returns-in-Net
-unfolding step_at
+unfolding step step_at
 returns-in-Net c = rw c.in-Net.is c.net_step.ensures
 
 pub returns-in-AfterPort : goal.returns-in-AfterPort
-unfolding step_at
+unfolding step step_at
 returns-in-AfterPort c = rw c.in-AfterPort.is c.after_port.ensures
 
 pub returns-in-AfterPorts : goal.returns-in-AfterPorts
-unfolding step_at
+unfolding step step_at
 returns-in-AfterPorts c = rw c.in-AfterPorts.is c.expect.ensures
 
 pub returns-in-Items : goal.returns-in-Items
-unfolding step_at
+unfolding step step_at
 returns-in-Items c = rw c.in-Items.is c.items_step.ensures
 
 pub returns-in-AssignName : goal.returns-in-AssignName
-unfolding step_at
+unfolding step step_at
 returns-in-AssignName c = rw c.in-AssignName.is c.name_step.ensures
 
 pub returns-in-AssignSign : goal.returns-in-AssignSign
-unfolding step_at
+unfolding step step_at
 returns-in-AssignSign c = rw c.in-AssignSign.is c.expression.ensures
 
 pub returns-in-Head : goal.returns-in-Head
-unfolding step_at
+unfolding step step_at
 returns-in-Head c = rw (c.in-Head.is, sym c.word.ensures, sym (c.next.ensures c.args.self.now.held)) c.expect-in-Head.ensures
 
 pub returns-in-ClockedName : goal.returns-in-ClockedName
-unfolding step_at
+unfolding step step_at
 returns-in-ClockedName c = rw c.in-ClockedName.is c.name_step-in-ClockedName.ensures
 
 pub returns-in-ClockedSign : goal.returns-in-ClockedSign
-unfolding step_at
+unfolding step step_at
 returns-in-ClockedSign c = rw c.in-ClockedSign.is c.expect-in-ClockedSign.ensures
 
 pub returns-in-First : goal.returns-in-First
-unfolding step_at
+unfolding step step_at
 returns-in-First c = rw c.in-First.is c.first_step.ensures
 
 pub returns-in-AfterFirst : goal.returns-in-AfterFirst
-unfolding step_at
+unfolding step step_at
 returns-in-AfterFirst c = rw c.in-AfterFirst.is c.expect-in-AfterFirst.ensures
 
 pub returns-in-Else : goal.returns-in-Else
-unfolding step_at
+unfolding step step_at
 returns-in-Else c = rw c.in-Else.is c.expect-in-Else.ensures
 
 pub returns-in-Branch : goal.returns-in-Branch
-unfolding step_at
+unfolding step step_at
 returns-in-Branch c = rw c.in-Branch.is c.branch_step.ensures
 
 pub returns-in-If : goal.returns-in-If
-unfolding step_at
+unfolding step step_at
 returns-in-If c = rw c.in-If.is c.expression-in-If.ensures
 
 pub returns-in-NextSign : goal.returns-in-NextSign
-unfolding step_at
+unfolding step step_at
 returns-in-NextSign c = rw c.in-NextSign.is c.expression-in-NextSign.ensures
 
 pub returns-in-Expression : goal.returns-in-Expression
-unfolding step_at
+unfolding step step_at
 returns-in-Expression c = rw c.in-Expression.is c.spot_step.ensures
 
-pub returns-in-AfterWire : goal.returns-in-AfterWire
-unfolding step_at
-returns-in-AfterWire c = rw c.in-AfterWire.is c.wire_end.ensures
-
-pub returns-in-AfterReg : goal.returns-in-AfterReg
-unfolding step_at
-returns-in-AfterReg c = rw c.in-AfterReg.is c.register_end.ensures
+pub returns-in-AfterNet : goal.returns-in-AfterNet
+unfolding step step_at
+returns-in-AfterNet c = rw c.in-AfterNet.is c.net_end.ensures
 
 pub returns-in-End : goal.returns-in-End
-unfolding step_at
+unfolding step step_at
 returns-in-End c = rw c.in-End.is c.clocked_end.ensures
