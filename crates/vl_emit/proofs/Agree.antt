@@ -33,20 +33,5 @@ module _ (w : ℕ) (ports : ℕ → Wire) (own : Wire) (a : ℕ → Wire) (x y z
 
 -- a slice lies within its operand
 pub within-first : (op : NetOp) (width own : ℕ) → (0 < arity op → width ≡ own) → IsWithin op own → IsWithin op width
-within-first (Input port) width own e w = tt
-within-first (Const value) width own e w = tt
-within-first Resize width own e w = tt
-within-first (ShiftUp places) width own e w = tt
-within-first (ShiftDown places) width own e w = tt
-within-first Add width own e w = tt
-within-first Subtract width own e w = tt
-within-first Negate width own e w = tt
-within-first Multiply width own e w = tt
-within-first And width own e w = tt
-within-first Or width own e w = tt
-within-first Xor width own e w = tt
-within-first Not width own e w = tt
-within-first Less width own e w = tt
-within-first Equal width own e w = tt
-within-first Choose width own e w = tt
 within-first (Slice high low) width own e w = (let same = e (omega arith) in (w.0, omega (arith, same, w.1)))
+within-first _ width own e w = tt

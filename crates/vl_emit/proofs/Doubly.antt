@@ -223,11 +223,7 @@ module _ (cycles count : ℕ) (naming : Naming) (net : ℕ → Net) (outputs : L
 
   no-drives : (k : ℕ) (kind : NetKind) → flat_map item_drives (declarers naming net k kind) ≡ []
   no-drives k (Comb op args) = refl
-  no-drives k (Unit left right) = refl
-  no-drives k (Counter frame) = refl
-  no-drives k (Reg frame slot first from) = refl
-  no-drives k (EnReg frame enable resets first from) = refl
-  no-drives k (Bridge frame live from) = refl
+  no-drives k _ = refl
 
   items-driven : flat_map driven_by (flat_map item_mentions m.items) ≡ all_units ++ (all_others ++ all_shown)
   items-driven =

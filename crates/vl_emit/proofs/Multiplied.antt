@@ -284,11 +284,7 @@ module _ (netlist : Circuit) (runs : IsNetlist netlist) (emits : IsEmittable net
 
   declared-none : (k : ℕ) (kind : NetKind) → flat_map (item_multiplications (nets_of (module_of netlist))) (declarers (naming_of netlist) (net_at netlist.nets) k kind) ≡ []
   declared-none k (Comb op args) = refl
-  declared-none k (Unit left right) = refl
-  declared-none k (Counter frame) = refl
-  declared-none k (Reg frame slot first from) = refl
-  declared-none k (EnReg frame enable resets first from) = refl
-  declared-none k (Bridge frame live from) = refl
+  declared-none k _ = refl
 
   shown-none : (output : NetPort) → Contains netlist.outputs output → item_multiplications (nets_of (module_of netlist)) (output_item (naming_of netlist) output) ≡ []
   shown-none output c =
@@ -329,28 +325,17 @@ module _ (netlist : Circuit) (runs : IsNetlist netlist) (emits : IsEmittable net
   -- the registers
   register-at : (k : ℕ) (kind : NetKind) → flat_map declared_register (declarers (naming_of netlist) (net_at netlist.nets) k kind) ≡ register_name netlist k kind
   register-at k (Comb op args) = refl
-  register-at k (Unit left right) = refl
-  register-at k (Counter frame) = refl
-  register-at k (Reg frame slot first from) = refl
-  register-at k (EnReg frame enable resets first from) = refl
-  register-at k (Bridge frame live from) = refl
+  register-at k _ = refl
 
   no-register : (k : ℕ) (kind : NetKind) → flat_map declared_register (unit_drivers netlist.cycles (naming_of netlist) (net_at netlist.nets) k kind) ≡ []
   no-register k (Comb op args) = refl
-  no-register k (Unit left right) = refl
-  no-register k (Counter frame) = refl
-  no-register k (Reg frame slot first from) = refl
-  no-register k (EnReg frame enable resets first from) = refl
-  no-register k (Bridge frame live from) = refl
+  no-register k _ = refl
 
   none-more : (k : ℕ) (kind : NetKind) → flat_map declared_register (other_drivers netlist.cycles (naming_of netlist) (net_at netlist.nets) k kind) ≡ []
   none-more k (Comb op args) = refl
-  none-more k (Unit left right) = refl
-  none-more k (Counter frame) = refl
-  none-more k (Reg frame slot first from) = refl
   none-more k (EnReg frame enable true first from) = refl
   none-more k (EnReg frame enable false first from) = refl
-  none-more k (Bridge frame live from) = refl
+  none-more k _ = refl
 
   empty-places : {X : Type 0} (f : ℕ → List ModItem) (g : ModItem → List X) → ((k : ℕ) → flat_map g (f k) ≡ []) → flat_map g (flat_map f (places (length netlist.nets))) ≡ []
   empty-places f g h =

@@ -25,7 +25,7 @@ use Rattle.vl_ast.proofs.Parts.{part-runs}
 use Rattle.vl_ast.proofs.Settled.{net-is}
 use Rattle.hw_net.specs.declared.netlist.NetPort.{NetPort}
 use Rattle.hw_net.specs.declared.netlist.NetKind.{NetKind}
-use Rattle.hw_net.specs.declared.netlist.NetKind.TheVariants.{Comb, Reg, EnReg, Bridge, Unit, Counter}
+use Rattle.hw_net.specs.declared.netlist.NetKind.TheVariants.{Comb, Reg}
 use Rattle.hw_net.specs.Circuit.{Circuit}
 use Rattle.hw_net.specs.Netlist.{IsNetlist}
 use Rattle.hw_net.specs.Emittable.{IsEmittable}
@@ -48,19 +48,11 @@ map-each g f (x ∷ xs) = map-append g (f x) (flat_map f xs) ∙ ap (λ ys. map 
 
 declarer-kept : (netlist : Circuit) (k : ℕ) (kind : NetKind) → map gated_item (declarers_at netlist k kind) ≡ declarers_at netlist k kind
 declarer-kept netlist k (Comb op args) = refl
-declarer-kept netlist k (Unit left right) = refl
-declarer-kept netlist k (Counter frame) = refl
-declarer-kept netlist k (Reg frame slot first from) = refl
-declarer-kept netlist k (EnReg frame enable reset first from) = refl
-declarer-kept netlist k (Bridge frame live from) = refl
+declarer-kept netlist k _ = refl
 
 unit-kept : (netlist : Circuit) (k : ℕ) (kind : NetKind) → map gated_item (units_at netlist k kind) ≡ units_at netlist k kind
 unit-kept netlist k (Comb op args) = refl
-unit-kept netlist k (Unit left right) = refl
-unit-kept netlist k (Counter frame) = refl
-unit-kept netlist k (Reg frame slot first from) = refl
-unit-kept netlist k (EnReg frame enable reset first from) = refl
-unit-kept netlist k (Bridge frame live from) = refl
+unit-kept netlist k _ = refl
 
 shown-kept : (netlist : Circuit) (outputs : List NetPort) → map gated_item (map (output_item (naming_of netlist)) outputs) ≡ map (output_item (naming_of netlist)) outputs
 shown-kept netlist [] = refl

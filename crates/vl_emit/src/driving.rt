@@ -8,7 +8,7 @@ ghost use Rattle.hw_net.specs.declared.netlist.NetOp.TheVariants.{Input};
 ghost use Rattle.hw_net.specs.declared.netlist.NetKind.TheVariants.{Comb, Reg, EnReg, Bridge};
 ghost use Rattle.hw_net.specs.declared.netlist.NetKind.TheVariants.{Unit, Counter};
 ghost use Rattle.vl_emit.specs.inner.Ready.{IsNet, HasArguments, HasKind, IsDriver, input_count};
-ghost use Rattle.vl_emit.specs.inner.Ready.{value_in, bridge_in, argument_in, input_in, wire_in};
+ghost use Rattle.vl_emit.specs.inner.Ready.{bridge_in, argument_in, input_in, wire_in};
 ghost use Rattle.vl_emit.specs.inner.Ready.{live_in, taken_in};
 ghost use Rattle.vl_emit.specs.inner.Emitted.{plain_number};
 ghost use Rattle.vl_emit.specs.inner.Operators.{test_of};
@@ -19,7 +19,7 @@ use crate::conditions::{clocks, enable, enabled_slot, enabled_taking, live_test}
 use crate::operands::{Operand, hold_text, named, text_of};
 use crate::operators::{binary, choose, constant, expression, in_width, plain, test_of};
 use crate::source::{Source, input_operand, operand};
-use fx_io::{OutOfMemory, Text};
+use fx_io::OutOfMemory;
 use hw_net::{Frame, NetOp};
 use std::alloc::Global;
 use vl_ast::{BinOp, Expr, ModItem, ModItems, Sized, assigned, register};
@@ -51,26 +51,6 @@ fn port<'a>(source: Source<'a>, op: NetOp, own: usize) -> Operand<'a>
     operand(source, own)
 }
 
-/// The value of a net that is an operation on others.
-fn operation(
-    alloc: Global,
-    source: Source,
-    own: usize,
-    op: NetOp,
-    args: &[u32],
-) -> Result<Expr, OutOfMemory>
-    requires { HasKind source own (Comb op args.now) }
-    ensures { IfOk result (λ e. e ≡ value_in source.entry own op args.now) }
-{
-    let net = &source.netlist.nets()[own];
-    let word = (net.width, net.signed);
-    let port = port(source, op, own);
-    let first = argument(source, args, 0, own);
-    let second = argument(source, args, 1, own);
-    let third = argument(source, args, 2, own);
-    expression(alloc, op, port, first, second, third, word)
-}
-
 /// Puts an item behind the others, which may have wanted memory.
 pub fn put(items: &mut ModItems, made: Result<ModItem, OutOfMemory>) -> Result<(), OutOfMemory>
     ensures { (driven : List ModItem) → IfOk made (λ item. item ∷ [] ≡ driven)
@@ -90,8 +70,17 @@ pub fn comb_item(
     requires { HasKind source own (Comb op args.now) }
     ensures { IfOk result (IsDriver source.entry own (Comb op args.now)) }
 {
+    let net = &source.netlist.nets()[own];
+    let word = (net.width, net.signed);
+    let port = port(source, op, own);
+    let first = argument(source, args, 0, own);
+    let second = argument(source, args, 1, own);
+    let third = argument(source, args, 2, own);
     let name = text_of(alloc, operand(source, own).called);
-    assigned(name, operation(alloc, source, own, op, args))
+    assigned(
+        name,
+        expression(alloc, op, port, first, second, third, word),
+    )
 }
 
 /// The item of a shared multiplier.

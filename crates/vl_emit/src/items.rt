@@ -3,7 +3,7 @@
 ghost use Rattle.std.specs.Prelude.{◌≡◌, ◌++◌, ◌∷◌, [], map, OnOk};
 ghost use Rattle.vl_ast.specs.Gated.{gated_item, shows_enable};
 ghost use Rattle.vl_emit.specs.inner.Emitted.{items_of};
-ghost use Rattle.vl_emit.specs.declared.items.Part.TheVariants.{Declarations, Units, Others};
+ghost use Rattle.vl_emit.specs.declared.items.Part.TheVariants.{Declarations, Others};
 ghost use Rattle.vl_emit.specs.inner.Ready.{IsNet, IsSource, circuit_of, net_count};
 ghost use Rattle.vl_emit.specs.inner.Ready.{net_items, first_in, all_shown};
 
@@ -49,26 +49,6 @@ fn declare(
             put(items, wire(net.signed, net.width, name))?;
             put(items, reg(net.signed, net.width, hold_text(alloc, own)))
         }
-    }
-}
-
-/// The driver of a Unit net, before those of the others.
-fn drive_unit(
-    alloc: Global,
-    source: Source,
-    items: &mut ModItems,
-    own: usize,
-) -> Result<(), OutOfMemory>
-    requires { IsNet source own }
-    ensures { OnOk result (items.new ≡ items.old ++ net_items source.entry Units own) }
-{
-    match &source.netlist.nets()[own].kind {
-        NetKind::Unit { left, right } => put(items, unit_item(alloc, source, own, *left, *right)),
-        NetKind::Comb { .. }
-        | NetKind::Reg { .. }
-        | NetKind::EnReg { .. }
-        | NetKind::Bridge { .. }
-        | NetKind::Counter { .. } => Ok(()),
     }
 }
 
@@ -121,7 +101,17 @@ fn put_net(
 {
     match part {
         Part::Declarations => declare(alloc, source, items, own),
-        Part::Units => drive_unit(alloc, source, items, own),
+        Part::Units => match &source.netlist.nets()[own].kind {
+            NetKind::Unit { left, right } => put(
+                items,
+                unit_item(alloc, source, own, *left, *right),
+            ),
+            NetKind::Comb { .. }
+            | NetKind::Reg { .. }
+            | NetKind::EnReg { .. }
+            | NetKind::Bridge { .. }
+            | NetKind::Counter { .. } => Ok(()),
+        },
         Part::Others => drive(alloc, source, items, own),
     }
 }

@@ -5,7 +5,6 @@ use Rattle.fx_num.specs.Word.{IsWord}
 use Rattle.hw_net.specs.declared.netlist.Frame.{Frame}
 use Rattle.hw_net.specs.declared.netlist.NetLabel.{NetLabel}
 use Rattle.hw_net.specs.declared.netlist.NetPort.{NetPort}
-use Rattle.hw_net.specs.declared.netlist.NetOp.{NetOp}
 use Rattle.hw_net.specs.declared.netlist.NetOp.TheVariants.{Input}
 use Rattle.hw_net.specs.declared.netlist.NetKind.{NetKind}
 use Rattle.hw_net.specs.declared.netlist.NetKind.TheVariants.{Comb, Reg, EnReg, Bridge, Unit}
@@ -28,7 +27,7 @@ use Rattle.vl_emit.specs.Names.{Wire, port_at, net_name, name_by, net_wire, inpu
 use Rattle.hw_net.specs.Products.{net_at, places}
 use Rattle.vl_emit.specs.inner.Emitted.{naming_of, counter_wire, slot_test, live_test, declarers_at}
 use Rattle.vl_emit.specs.inner.Emitted.{drivers_at, units_at, others_at, output_item}
-use Rattle.vl_emit.specs.inner.Operators.{expression_of, test_of}
+use Rattle.vl_emit.specs.inner.Operators.{test_of}
 use Rattle.vl_emit.specs.inner.Spoken.{IsWithin}
 
 abbrev pub label_at : List NetLabel → ℕ → NetLabel
@@ -141,12 +140,6 @@ counter_in source frame = counter_wire (circuit_of source) frame
 
 abbrev pub cycles_in : Source → ℕ
 cycles_in source = (circuit_of source).cycles
-
--- the value of an operation on others
-abbrev pub value_in : Source → ℕ → NetOp → List ℕ → Expr
-value_in source own op args =
-    expression_of op (input_in source) (λ j. wire_in source (get_or args j 0))
-    (net_at (circuit_of source).nets own).width
 
 -- an argument by its place
 abbrev pub argument_in : Source → List ℕ → ℕ → Wire
