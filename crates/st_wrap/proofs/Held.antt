@@ -69,6 +69,10 @@ counted-same one other (suc place) same =
     let before = counted-same one other place (λ j below. same j (omega (arith, below))) in
     (λ i. if here i then suc (before i) else before i)
 
+-- the word of a column
+abbrev pub word_of : Column → Net
+word_of column = record { width = column.width; signed = column.signed }
+
 -- what a module has of an input
 pub record HasInput (m : Module) (column : Column) : Type 0 where
   pub port : Contains m.ports (input_port (column_port column))
@@ -84,22 +88,19 @@ module _ {core m : Module} {counters : Counters} {window : Window} {start : Row}
   abbrev F : ℕ
   F = clocks_of core
 
-  abbrev word : Net
-  word = record { width = column.width; signed = column.signed }
-
   abbrev held : List ℕ
   held = held_name column.name
 
   d-of : (d : Declared) → Contains (mentions m) (Declares d) → nets_of m d.name ≡ d.net
   d-of d h = ap net_or_none (is-declared m s.acyclic.driven s.acyclic.once d h)
 
-  port-net : nets_of m column.name ≡ word
+  port-net : nets_of m column.name ≡ word_of column
   port-net = d-of (port_declared (input_port (column_port column))) (in-port m s.acyclic.driven s.acyclic.once (input_port (column_port column)) has.port)
 
-  held-net : nets_of m (held_name column.name) ≡ word
+  held-net : nets_of m (held_name column.name) ≡ word_of column
   held-net = d-of _ (reg-declared m s.acyclic.driven s.acyclic.once column.signed column.width (held_name column.name) has.held)
 
-  wire-net : nets_of m (inner_name column.inner) ≡ word
+  wire-net : nets_of m (inner_name column.inner) ≡ word_of column
   wire-net = d-of _ (wire-declared m s.acyclic.driven s.acyclic.once column.signed column.width (inner_name column.inner) has.wire)
 
   module _ (k : ℕ) (below : k < window.rows) where

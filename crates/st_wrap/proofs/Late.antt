@@ -21,7 +21,7 @@ use Rattle.st_wrap.specs.Transfers.{IsTransfer, out_side}
 use Rattle.st_wrap.specs.inner.Columns.{column_port, moving, plain, stage_declared, stage_driven, stage_name}
 use Rattle.st_wrap.specs.inner.Names.{end_name, inner_name, late_name}
 use Rattle.st_wrap.proofs.Controlled.{end-moves, ends, moves}
-use Rattle.st_wrap.proofs.Held.{assigned-Name}
+use Rattle.st_wrap.proofs.Held.{assigned-Name, word_of}
 use Rattle.st_wrap.proofs.Moving.{Setting, ends-is, out-clock}
 use Rattle.st_wrap.proofs.Samples.{next-same, next-sample, zero-sample}
 use Rattle.st_wrap.proofs.Shaking.{some-cycles}
@@ -41,9 +41,6 @@ module _ {core m : Module} {counters : Counters} {window : Window} {start : Row}
   abbrev F : ℕ
   F = clocks_of core
 
-  abbrev word : Net
-  word = record { width = column.width; signed = column.signed }
-
   stage-later : (place : ℕ) → stage_name column (place + 1) ≡ late_name column.name (place + 1)
   stage-later place = cond-false (place + 1 == 0) (inner_name column.inner) (late_name column.name (place + 1)) (ne_eqb (place + 1) 0 (λ e. omega (arith, e)))
 
@@ -52,7 +49,7 @@ module _ {core m : Module} {counters : Counters} {window : Window} {start : Row}
     declared : Declared
     there : Contains (mentions m) (Declares declared)
     name : declared.name ≡ stage_name column samples
-    net : declared.net ≡ word
+    net : declared.net ≡ word_of column
 
   stage-at : (samples : ℕ) → samples ≤ column.late → IsStage samples
   stage-at zero low = record { declared = _; there = wire-declared m s.acyclic.driven s.acyclic.once column.signed column.width (inner_name column.inner) has.wire; name = refl; net = refl }
@@ -65,7 +62,7 @@ module _ {core m : Module} {counters : Counters} {window : Window} {start : Row}
         net = refl;
       }
 
-  stage-net : (samples : ℕ) → samples ≤ column.late → nets_of m (stage_name column samples) ≡ word
+  stage-net : (samples : ℕ) → samples ≤ column.late → nets_of m (stage_name column samples) ≡ word_of column
   stage-net samples low =
       let t = stage-at samples low in
       ap (nets_of m) (sym t.name) ∙ ap net_or_none (is-declared m s.acyclic.driven s.acyclic.once t.declared t.there) ∙ t.net
@@ -76,7 +73,7 @@ module _ {core m : Module} {counters : Counters} {window : Window} {start : Row}
       let f = s.runs.fits k below t.declared (mention-listed m s.acyclic.driven s.acyclic.once t.declared t.there) in
       subst (λ n. rows k n < 2 ^ column.width) t.name (subst (λ (n : Net). rows k t.declared.name < 2 ^ n.width) t.net f)
 
-  port-net : nets_of m column.name ≡ word
+  port-net : nets_of m column.name ≡ word_of column
   port-net = ap net_or_none (is-declared m s.acyclic.driven s.acyclic.once (port_declared (output_port (column_port column))) (in-port m s.acyclic.driven s.acyclic.once (output_port (column_port column)) has.port))
 
   output-is : (k : ℕ) → k < window.rows → rows k column.name ≡ rows k (stage_name column column.late)
@@ -93,7 +90,7 @@ module _ {core m : Module} {counters : Counters} {window : Window} {start : Row}
       let zero-reset : rows k (codes "reset") ≡ 0 = subst (λ n. rows k n ≡ inputs k n) p.2 (s.runs.driven k below p.0 p.1 p.3) ∙ s.last.released k behind below in
       let off : (rows k (codes "reset") == 1) ≡ false = ap (λ n. n == 1) zero-reset in
       let own : List ℕ = late_name column.name (place + 1) in
-      let net : nets_of m own ≡ word = subst (λ n. nets_of m n ≡ word) (stage-later place) (stage-net (place + 1) (omega (arith, low))) in
+      let net : nets_of m own ≡ word_of column = subst (λ n. nets_of m n ≡ word_of column) (stage-later place) (stage-net (place + 1) (omega (arith, low))) in
       ap (rows (k + 1)) (stage-later place)
       ∙ s.runs.steps k more own (plain column.width 0) (Some (moving end_name)) (Name (stage_name column place)) (has.steps place low)
       ∙ cond-false (rows k (codes "reset") == 1) _ _ off

@@ -22,6 +22,7 @@ pub mod Structure
 pub mod Whole
 pub mod Once
 pub mod Driven
+pub mod Having
 pub mod Placed
 pub mod Drivers
 pub mod Needs

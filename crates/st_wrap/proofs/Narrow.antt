@@ -1,5 +1,5 @@
 -- No width, select or number of the wrapper is at fault.
-use Rattle.std.proofs.Common.{◌≡◌, ℕ, ◌+◌, ◌-◌, ◌*◌, ◌^◌, ◌<◌, ◌≤◌, ◌==◌, nat_le, max, ⊎_elim, Bool, true, false, not, ◌&&◌, if◌then◌else◌, List, [], ◌∷◌, ◌++◌, map, flat_map, find, length, drop, Contains, codes, Option, Some, None, refl, sym, ap, subst, ◌∙◌, arith, pow_pos}
+use Rattle.std.proofs.Common.{◌≡◌, ℕ, ◌+◌, ◌-◌, ◌*◌, ◌^◌, ◌<◌, ◌≤◌, ◌==◌, nat_le, max, ⊎_elim, Bool, true, false, not, ◌&&◌, if◌then◌else◌, List, [], ◌∷◌, ◌++◌, map, find, length, drop, Contains, codes, Option, Some, None, refl, sym, ap, subst, ◌∙◌, arith, pow_pos}
 use Rattle.std.specs.Prelude.{option_map}
 use Rattle.std.specs.List.{range_with_len}
 use Rattle.std.proofs.lemmas.Bool.{and_parts, cases_eq, cond-false, leb-true, ne_eqb}
@@ -25,11 +25,12 @@ use Rattle.st_wrap.specs.declared.pace.Counters.{Counters}
 use Rattle.st_wrap.specs.Header.{flag, named_inputs, named_outputs}
 use Rattle.st_wrap.specs.Names.{AreColumnNames}
 use Rattle.st_wrap.specs.Pace.{latest_in}
-use Rattle.st_wrap.specs.inner.Columns.{column_port, held_declared, held_driven, input_column, late_declared, late_driven, moving, output_column, stage_declared, stage_driven, stage_name}
-use Rattle.st_wrap.specs.inner.Control.{CountFor, both, control_declared, control_driven, is_due_now, is_last, is_zero, next_phase, next_wait, number, unless}
+use Rattle.st_wrap.specs.inner.Columns.{column_port, held_driven, input_column, late_driven, moving, output_column, stage_declared, stage_driven, stage_name}
+use Rattle.st_wrap.specs.inner.Control.{CountFor, both, control_driven, is_due_now, is_last, is_zero, next_phase, next_wait, number, unless}
 use Rattle.st_wrap.specs.inner.Names.{begin_name, end_name, due_name, fed_name, open_name, enable_name, held_name, inner_name, is_shared, late_name, phase_name, wait_name}
-use Rattle.st_wrap.specs.inner.Renamed.{core_items, renamed_item, wires_for, wires_of}
-use Rattle.st_wrap.specs.inner.Wrapped.{declared_items, driven_items, inputs_of, items_of, outputs_of, wrapped}
+use Rattle.st_wrap.specs.inner.Renamed.{renamed_item, wires_for}
+use Rattle.st_wrap.specs.inner.Wrapped.{declared_items, inputs_of, items_of, outputs_of, wrapped}
+use Rattle.st_wrap.proofs.Having.{EachHas, declared-have, have-append, have-at, have-flat, have-map, items-have}
 use Rattle.st_wrap.proofs.Columned.{from-filter, range-in, zip-left}
 use Rattle.st_wrap.proofs.Controlled.{HasControl, begin-net, due-net, enable-net, end-net, fed-net, in_flag, net-port, open-net, out_flag, phase-net, wait-net}
 use Rattle.st_wrap.proofs.Embedded.{read-net}
@@ -89,26 +90,8 @@ module _ (m : Module) (narrow : too_wide m ≡ None) where
 
 -- ---- items that are sound
 
-module _ (nets : List ℕ → Net) where
-  abbrev AreSound : List ModItem → Type 0
-  AreSound [] = Unit {0}
-  AreSound (i ∷ items) = (is_sound_item nets i ≡ true) × AreSound items
-
-  sound-append : (xs ys : List ModItem) → AreSound xs → AreSound ys → AreSound (xs ++ ys)
-  sound-append [] ys a b = b
-  sound-append (x ∷ xs) ys a b = (a.0, sound-append xs ys a.1 b)
-
-  sound-flat : {A : Type 0} (f : A → List ModItem) (xs : List A) → ((x : A) → Contains xs x → AreSound (f x)) → AreSound (flat_map f xs)
-  sound-flat f [] each = tt
-  sound-flat f (x ∷ xs) each = sound-append (f x) (flat_map f xs) (each x (head-in x xs)) (sound-flat f xs (λ y c. each y (tail-in x y xs c)))
-
-  sound-map : {A : Type 0} (f : A → ModItem) (xs : List A) → ((x : A) → Contains xs x → is_sound_item nets (f x) ≡ true) → AreSound (map f xs)
-  sound-map f [] each = tt
-  sound-map f (x ∷ xs) each = (each x (head-in x xs), sound-map f xs (λ y c. each y (tail-in x y xs c)))
-
-  sound-at : (items : List ModItem) → AreSound items → (i : ModItem) → Contains items i → is_sound_item nets i ≡ true
-  sound-at [] a i h = absurd (none-in i h)
-  sound-at (j ∷ items) a i h = ⊎_elim (λ e. subst (λ k. is_sound_item nets k ≡ true) e a.0) (λ t. sound-at items a.1 i t) (cons-cases j i items h)
+abbrev IsSoundIn : (List ℕ → Net) → ModItem → Type 0
+IsSoundIn nets i = is_sound_item nets i ≡ true
 
 module _ (core : Module) (sound : BreaksNone core) (stallable : is_stallable core ≡ true) (names : List (List ℕ)) (named : AreColumnNames core names) (counters : Counters) (counts : CountFor core counters)
     (large : IsAcyclic (wrapped core names counters)) where
@@ -116,7 +99,7 @@ module _ (core : Module) (sound : BreaksNone core) (stallable : is_stallable cor
   nets = nets_of (wrapped core names counters)
 
   abbrev Sound : List ModItem → Type 0
-  Sound items = AreSound (nets_of (wrapped core names counters)) items
+  Sound items = EachHas (IsSoundIn (nets_of (wrapped core names counters))) items
 
   has : HasControl (wrapped core names counters) counters
   has = has-control core counters (inputs_of core names) (outputs_of core names) stallable
@@ -201,12 +184,10 @@ module _ (core : Module) (sound : BreaksNone core) (stallable : is_stallable cor
 
   declared-sound : Sound (declared_items core counters (inputs_of core names) (outputs_of core names))
   declared-sound =
-      sound-append nets (wires_of core) (control_declared counters ++ (flat_map held_declared (inputs_of core names) ++ flat_map late_declared (outputs_of core names))) (sound-flat nets wires_for core.ports wire-sound)
-      (sound-append nets (control_declared counters) (flat_map held_declared (inputs_of core names) ++ flat_map late_declared (outputs_of core names))
+      declared-have (IsSoundIn nets) core counters (inputs_of core names) (outputs_of core names) (have-flat (IsSoundIn nets) wires_for core.ports wire-sound)
       (refl, (refl, (refl, (refl, (refl, (is-width counters.phase.width counts.phase_room.some phase-low, (is-width counters.wait.width counts.wait_room.some wait-low, tt)))))))
-      (sound-append nets (flat_map held_declared (inputs_of core names)) (flat_map late_declared (outputs_of core names))
-      (sound-flat nets held_declared (inputs_of core names) (λ column c. (input-width column c, tt)))
-      (sound-flat nets late_declared (outputs_of core names) (λ column c. sound-map nets (stage_declared column) (range_with_len 0 column.late) (λ place h. output-width column c)))))
+      (λ column c. (input-width column c, tt))
+      (λ column c. have-map (IsSoundIn nets) (stage_declared column) (range_with_len 0 column.late) (λ place h. output-width column c))
 
   -- ---- the control
 
@@ -360,8 +341,8 @@ module _ (core : Module) (sound : BreaksNone core) (stallable : is_stallable cor
   late-sound : (column : Column) → Contains (outputs_of core names) column → Sound (late_driven column)
   late-sound column c =
       let p = width-parts column.width (output-width column c) in
-      sound-append nets (map (stage_driven column) (range_with_len 0 column.late)) (Assign column.name (Name (stage_name column column.late)) ∷ [])
-      (sound-map nets (stage_driven column) (range_with_len 0 column.late) (λ place h.
+      have-append (IsSoundIn nets) (map (stage_driven column) (range_with_len 0 column.late)) (Assign column.name (Name (stage_name column column.late)) ∷ [])
+      (have-map (IsSoundIn nets) (stage_driven column) (range_with_len 0 column.late) (λ place h.
       let low = (in-range 0 column.late place h).1 in
       (λ i. is-number column.width 0 p.0 p.1 (pow_pos column.width) i && is-fine 1 (moving end_name) (fine-both nets enable_name end_name w-enable w-end) i
       && is-fine column.width (Name (stage_name column place)) (stage-fine column c place (omega (arith, low))) i)))
@@ -369,13 +350,9 @@ module _ (core : Module) (sound : BreaksNone core) (stallable : is_stallable cor
 
   items-sound : Sound (items_of core counters (inputs_of core names) (outputs_of core names))
   items-sound =
-      sound-append nets (declared_items core counters (inputs_of core names) (outputs_of core names)) (core_items core ++ driven_items counters (inputs_of core names) (outputs_of core names)) declared-sound
-      (sound-append nets (core_items core) (driven_items counters (inputs_of core names) (outputs_of core names))
-      (sound-map nets renamed_item core.items (λ i h. core-item i h (item-is-sound core sound.narrow i h)))
-      (sound-append nets (control_driven counters) (flat_map held_driven (inputs_of core names) ++ flat_map late_driven (outputs_of core names)) control-sound
-      (sound-append nets (flat_map held_driven (inputs_of core names)) (flat_map late_driven (outputs_of core names))
-      (sound-flat nets held_driven (inputs_of core names) held-sound) (sound-flat nets late_driven (outputs_of core names) late-sound))))
+      items-have (IsSoundIn nets) core counters (inputs_of core names) (outputs_of core names) declared-sound
+      (have-map (IsSoundIn nets) renamed_item core.items (λ i h. core-item i h (item-is-sound core sound.narrow i h))) control-sound held-sound late-sound
 
   pub narrow : too_wide (wrapped core names counters) ≡ None
   narrow = narrow-by (wrapped core names counters) (λ port h. ports-sound port h)
-      (λ i h. sound-at nets (items_of core counters (inputs_of core names) (outputs_of core names)) items-sound i h)
+      (λ i h. have-at (IsSoundIn nets) (items_of core counters (inputs_of core names) (outputs_of core names)) items-sound i h)

@@ -37,6 +37,7 @@ use Rattle.st_wrap.proofs.Columned.{from-filter, number-output, range-in, zip-le
 use Rattle.st_wrap.proofs.Controlled.{in_flag, out_flag}
 use Rattle.st_wrap.proofs.Determined.{clk-port}
 use Rattle.st_wrap.proofs.Driven.{column-port}
+use Rattle.st_wrap.proofs.Having.{EachHas, declared-have, have-flat, have-map}
 use Rattle.st_wrap.proofs.Known.{AreKnown, Renames, known-append, known-of, known-renamed, known-right, still-declared}
 use Rattle.st_wrap.proofs.Lettered.{shared-cases}
 use Rattle.st_wrap.proofs.Named.{in-range, items-renamed}
@@ -52,20 +53,7 @@ DeclaresAlone (Assign name value) = ⊥
 DeclaresAlone (Always name first condition value) = ⊥
 
 abbrev pub DeclareAlone : List ModItem → Type 0
-DeclareAlone [] = Unit {0}
-DeclareAlone (i ∷ items) = DeclaresAlone i × DeclareAlone items
-
-alone-append : (xs ys : List ModItem) → DeclareAlone xs → DeclareAlone ys → DeclareAlone (xs ++ ys)
-alone-append [] ys a b = b
-alone-append (x ∷ xs) ys a b = (a.0, alone-append xs ys a.1 b)
-
-alone-flat : {A : Type 0} (f : A → List ModItem) (xs : List A) → ((x : A) → DeclareAlone (f x)) → DeclareAlone (flat_map f xs)
-alone-flat f [] each = tt
-alone-flat f (x ∷ xs) each = alone-append (f x) (flat_map f xs) (each x) (alone-flat f xs each)
-
-alone-map : {A : Type 0} (f : A → ModItem) (xs : List A) → ((x : A) → DeclaresAlone (f x)) → DeclareAlone (map f xs)
-alone-map f [] each = tt
-alone-map f (x ∷ xs) each = (each x, alone-map f xs each)
+DeclareAlone items = EachHas DeclaresAlone items
 
 known-alone : (before : List Mention) (items : List ModItem) → DeclareAlone items → AreKnown before (flat_map item_mentions items)
 known-alone before [] a = tt
@@ -214,10 +202,8 @@ module _ (core : Module) (sound : BreaksNone core) (stallable : is_stallable cor
 
   pub declared-alone : DeclareAlone (declared_items core counters (inputs_of core names) (outputs_of core names))
   declared-alone =
-      alone-append (wires_of core) (control_declared counters ++ (flat_map held_declared (inputs_of core names) ++ flat_map late_declared (outputs_of core names))) (alone-flat wires_for core.ports wire-alone)
-      (alone-append (control_declared counters) (flat_map held_declared (inputs_of core names) ++ flat_map late_declared (outputs_of core names)) (tt, (tt, (tt, (tt, (tt, (tt, (tt, tt)))))))
-      (alone-append (flat_map held_declared (inputs_of core names)) (flat_map late_declared (outputs_of core names)) (alone-flat held_declared (inputs_of core names) (λ column. (tt, tt)))
-      (alone-flat late_declared (outputs_of core names) (λ column. alone-map (stage_declared column) (range_with_len 0 column.late) (λ place. tt)))))
+      declared-have DeclaresAlone core counters (inputs_of core names) (outputs_of core names) (have-flat DeclaresAlone wires_for core.ports (λ port h. wire-alone port))
+      (tt, (tt, (tt, (tt, (tt, (tt, (tt, tt))))))) (λ column h. (tt, tt)) (λ column h. have-map DeclaresAlone (stage_declared column) (range_with_len 0 column.late) (λ place h. tt))
     where
       wire-alone : (port : Port) → DeclareAlone (wires_for port)
       wire-alone port = by (is_shared port.name) where

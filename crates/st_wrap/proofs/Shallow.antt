@@ -1,5 +1,5 @@
 -- The wrapper's expressions are of the grammar, where the core's are.
-use Rattle.std.proofs.Common.{◌≡◌, ⊎_elim, ℕ, ◌+◌, ◌≤◌, max, Bool, true, false, ◌&&◌, if◌then◌else◌, List, [], ◌∷◌, ◌++◌, map, flat_map, Contains, codes, Option, Some, None, refl, sym, ap, subst, ◌∙◌, arith}
+use Rattle.std.proofs.Common.{◌≡◌, ℕ, ◌+◌, ◌≤◌, max, Bool, true, false, ◌&&◌, if◌then◌else◌, List, [], ◌∷◌, map, Contains, codes, Option, Some, None, refl, sym, ap, subst, ◌∙◌, arith}
 use Rattle.std.specs.Prelude.{fold}
 use Rattle.std.specs.List.{list_all, range_with_len}
 use Rattle.vl_ast.specs.declared.expressions.UnOp.TheVariants.{IsZero}
@@ -17,14 +17,14 @@ use Rattle.vl_ast.specs.declared.modules.Port.{Port}
 use Rattle.vl_ast.specs.declared.modules.Module.{Module}
 use Rattle.vl_ast.specs.Grammar.{IsCondition, IsExpr, depth, depth_step, is_filled, is_filled_step}
 use Rattle.vl_ast.specs.Spellable.{HasExprs}
-use Rattle.vl_ast.proofs.Places.{cons-cases, head-in, none-in, tail-in}
 use Rattle.st_wrap.specs.declared.columns.Column.{Column}
 use Rattle.st_wrap.specs.declared.pace.Counters.{Counters}
-use Rattle.st_wrap.specs.inner.Columns.{held_declared, held_driven, late_declared, late_driven, moving, plain, stage_declared, stage_driven, stage_name}
-use Rattle.st_wrap.specs.inner.Control.{both, control_declared, control_driven, is_due_now, is_last, is_zero, next_phase, next_wait, number, unless}
+use Rattle.st_wrap.specs.inner.Columns.{held_driven, late_driven, moving, plain, stage_declared, stage_driven, stage_name}
+use Rattle.st_wrap.specs.inner.Control.{both, control_driven, is_due_now, is_last, is_zero, next_phase, next_wait, number, unless}
 use Rattle.st_wrap.specs.inner.Names.{begin_name, end_name, due_name, fed_name, open_name, enable_name, held_name, inner_name, is_shared, phase_name, wait_name}
-use Rattle.st_wrap.specs.inner.Renamed.{core_items, renamed, renamed_condition, renamed_item, wires_for, wires_of}
-use Rattle.st_wrap.specs.inner.Wrapped.{declared_items, driven_items, items_of}
+use Rattle.st_wrap.specs.inner.Renamed.{renamed, renamed_condition, renamed_item, wires_for}
+use Rattle.st_wrap.specs.inner.Wrapped.{items_of}
+use Rattle.st_wrap.proofs.Having.{EachHas, declared-have, have-append, have-at, have-flat, have-map, items-have}
 use Rattle.st_wrap.proofs.Meanings.{relabelled, renamed-rolls}
 
 -- ---- the core's expressions
@@ -141,24 +141,7 @@ expr-of : (n : ℕ) (e : Expr) → n ≤ 256 → IsShallow n e → IsExpr e
 expr-of n e low s = (subst (λ k. k ≤ 256) (sym s.deep) low, s.filled)
 
 abbrev HaveExprs : List ModItem → Type 0
-HaveExprs [] = Unit {0}
-HaveExprs (i ∷ items) = HasExprs i × HaveExprs items
-
-exprs-append : (xs ys : List ModItem) → HaveExprs xs → HaveExprs ys → HaveExprs (xs ++ ys)
-exprs-append [] ys a b = b
-exprs-append (x ∷ xs) ys a b = (a.0, exprs-append xs ys a.1 b)
-
-exprs-flat : {A : Type 0} (f : A → List ModItem) (xs : List A) → ((x : A) → HaveExprs (f x)) → HaveExprs (flat_map f xs)
-exprs-flat f [] each = tt
-exprs-flat f (x ∷ xs) each = exprs-append (f x) (flat_map f xs) (each x) (exprs-flat f xs each)
-
-exprs-map : {A : Type 0} (f : A → ModItem) (xs : List A) → ((x : A) → Contains xs x → HasExprs (f x)) → HaveExprs (map f xs)
-exprs-map f [] each = tt
-exprs-map f (x ∷ xs) each = (each x (head-in x xs), exprs-map f xs (λ y c. each y (tail-in x y xs c)))
-
-exprs-at : (items : List ModItem) → HaveExprs items → (i : ModItem) → Contains items i → HasExprs i
-exprs-at [] a i h = absurd (none-in i h)
-exprs-at (j ∷ items) a i h = ⊎_elim (λ e. subst HasExprs e a.0) (λ t. exprs-at items a.1 i t) (cons-cases j i items h)
+HaveExprs items = EachHas HasExprs items
 
 control-exprs : (counters : Counters) → HaveExprs (control_driven counters)
 control-exprs counters =
@@ -208,8 +191,8 @@ held-exprs column = (
 
 late-exprs : (column : Column) → HaveExprs (late_driven column)
 late-exprs column =
-    exprs-append (map (stage_driven column) (range_with_len 0 column.late)) (Assign column.name (Name (stage_name column column.late)) ∷ [])
-    (exprs-map (stage_driven column) (range_with_len 0 column.late)
+    have-append HasExprs (map (stage_driven column) (range_with_len 0 column.late)) (Assign column.name (Name (stage_name column column.late)) ∷ [])
+    (have-map HasExprs (stage_driven column) (range_with_len 0 column.late)
     (λ place h. (expr-of 1 (moving end_name) (omega arith) (both-shallow enable_name end_name), expr-of 0 (Name (stage_name column place)) (omega arith) (name-shallow (stage_name column place)))))
     (expr-of 0 (Name (stage_name column column.late)) (omega arith) (name-shallow (stage_name column column.late)), tt)
 
@@ -221,12 +204,8 @@ wire-exprs port = by (is_shared port.name) where
 
 pub items-exprs : (core : Module) (counters : Counters) (inputs outputs : List Column) → ((i : ModItem) → Contains core.items i → HasExprs i)
     → (i : ModItem) → Contains (items_of core counters inputs outputs) i → HasExprs i
-items-exprs core counters inputs outputs each = exprs-at (items_of core counters inputs outputs)
-    (exprs-append (declared_items core counters inputs outputs) (core_items core ++ driven_items counters inputs outputs)
-    (exprs-append (wires_of core) (control_declared counters ++ (flat_map held_declared inputs ++ flat_map late_declared outputs)) (exprs-flat wires_for core.ports wire-exprs)
-    (exprs-append (control_declared counters) (flat_map held_declared inputs ++ flat_map late_declared outputs) (tt, (tt, (tt, (tt, (tt, (tt, (tt, tt)))))))
-    (exprs-append (flat_map held_declared inputs) (flat_map late_declared outputs) (exprs-flat held_declared inputs (λ column. (tt, tt)))
-    (exprs-flat late_declared outputs (λ column. exprs-map (stage_declared column) (range_with_len 0 column.late) (λ place h. tt))))))
-    (exprs-append (core_items core) (driven_items counters inputs outputs) (exprs-map renamed_item core.items (λ i h. item-renamed i (each i h)))
-    (exprs-append (control_driven counters) (flat_map held_driven inputs ++ flat_map late_driven outputs) (control-exprs counters)
-    (exprs-append (flat_map held_driven inputs) (flat_map late_driven outputs) (exprs-flat held_driven inputs held-exprs) (exprs-flat late_driven outputs late-exprs)))))
+items-exprs core counters inputs outputs each = have-at HasExprs (items_of core counters inputs outputs)
+    (items-have HasExprs core counters inputs outputs
+    (declared-have HasExprs core counters inputs outputs (have-flat HasExprs wires_for core.ports (λ port h. wire-exprs port)) (tt, (tt, (tt, (tt, (tt, (tt, (tt, tt)))))))
+    (λ column h. (tt, tt)) (λ column h. have-map HasExprs (stage_declared column) (range_with_len 0 column.late) (λ place h. tt)))
+    (have-map HasExprs renamed_item core.items (λ i h. item-renamed i (each i h))) (control-exprs counters) (λ column h. held-exprs column) (λ column h. late-exprs column))

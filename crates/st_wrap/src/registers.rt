@@ -2,7 +2,7 @@
 ghost use Rattle.std.specs.Prelude.{◌≡◌, ◌+◌, ◌++◌, ◌<◌, ◌^◌, flat_map, IfOk, OnOk};
 ghost use Rattle.vl_ast.specs.declared.expressions.Expr.TheVariants.{Name, Choose};
 ghost use Rattle.st_wrap.specs.inner.Names.{begin_name, held_name};
-ghost use Rattle.st_wrap.specs.inner.Columns.{held_declared, held_driven, late_declared, late_driven};
+ghost use Rattle.st_wrap.specs.inner.Columns.{held_driven, items_for, late_declared, late_driven};
 ghost use Rattle.st_wrap.specs.inner.Columns.{stage_declared, stage_driven, stage_name};
 
 use crate::columns::Column;
@@ -13,22 +13,17 @@ use fx_io::{Boxed, OutOfMemory, Text};
 use std::alloc::Global;
 use vl_ast::{Expr, ModItem, ModItems, assigned, choose, reg, register};
 
-/// Declares what holds each input.
-pub fn declare_held(
-    alloc: Global,
-    inputs: &[Column],
-    items: &mut ModItems,
-) -> Result<(), OutOfMemory>
-    ensures { OnOk result (items.new ≡ items.old ++ flat_map held_declared inputs.now) }
-{
-    for column in inputs {
-        items.push(ModItem::Reg {
-            signed: column.signed,
-            width: column.width,
-            name: held_name(alloc, column.name.bytes())?,
-        })?;
-    }
-    Ok(())
+/// What the wrapper has of each column.
+#[derive(Clone, Copy)]
+pub enum Part {
+    /// The register that holds an input.
+    Held,
+    /// What drives the core's input, and what holds it.
+    HeldDriven,
+    /// The registers that hold an output back.
+    Late,
+    /// What drives them, and the output's port.
+    LateDriven,
 }
 
 /// What the core's input shows: the port's in a sample's first clock, and then what was held of it.
@@ -58,20 +53,6 @@ fn drive_input(alloc: Global, column: &Column, items: &mut ModItems) -> Result<(
         fresh,
     );
     put(items, held)
-}
-
-/// Drives each input of the core, and what holds it.
-pub fn drive_inputs(
-    alloc: Global,
-    inputs: &[Column],
-    items: &mut ModItems,
-) -> Result<(), OutOfMemory>
-    ensures { OnOk result (items.new ≡ items.old ++ flat_map held_driven inputs.now) }
-{
-    for column in inputs {
-        drive_input(alloc, column, items)?;
-    }
-    Ok(())
 }
 
 /// The name of an output of so many samples ago.
@@ -114,20 +95,6 @@ fn declare_output(alloc: Global, column: &Column, items: &mut ModItems) -> Resul
     Ok(())
 }
 
-/// Declares what holds each output back.
-pub fn declare_late(
-    alloc: Global,
-    outputs: &[Column],
-    items: &mut ModItems,
-) -> Result<(), OutOfMemory>
-    ensures { OnOk result (items.new ≡ items.old ++ flat_map late_declared outputs.now) }
-{
-    for column in outputs {
-        declare_output(alloc, column, items)?;
-    }
-    Ok(())
-}
-
 fn drive_output(alloc: Global, column: &Column, items: &mut ModItems) -> Result<(), OutOfMemory>
     ensures { OnOk result (items.new ≡ items.old ++ late_driven column.now) }
 {
@@ -138,16 +105,37 @@ fn drive_output(alloc: Global, column: &Column, items: &mut ModItems) -> Result<
     assign(alloc, column.name.bytes(), shown, items)
 }
 
-/// Drives what holds each output back, and its port.
-pub fn drive_outputs(
+/// Puts a part of a column.
+fn put_part(
     alloc: Global,
-    outputs: &[Column],
+    part: Part,
+    column: &Column,
     items: &mut ModItems,
 ) -> Result<(), OutOfMemory>
-    ensures { OnOk result (items.new ≡ items.old ++ flat_map late_driven outputs.now) }
+    ensures { OnOk result (items.new ≡ items.old ++ items_for part column.now) }
 {
-    for column in outputs {
-        drive_output(alloc, column, items)?;
+    match part {
+        Part::Held => {
+            let name = held_name(alloc, column.name.bytes());
+            put(items, reg(column.signed, column.width, name))
+        }
+        Part::HeldDriven => drive_input(alloc, column, items),
+        Part::Late => declare_output(alloc, column, items),
+        Part::LateDriven => drive_output(alloc, column, items),
+    }
+}
+
+/// Puts a part of each column.
+pub fn put_parts(
+    alloc: Global,
+    part: Part,
+    columns: &[Column],
+    items: &mut ModItems,
+) -> Result<(), OutOfMemory>
+    ensures { OnOk result (items.new ≡ items.old ++ flat_map (items_for part) columns.now) }
+{
+    for column in columns {
+        put_part(alloc, part, column, items)?;
     }
     Ok(())
 }

@@ -15,7 +15,7 @@ use crate::columns::{Column, input_columns, output_columns, output_names};
 use crate::control::{declare_control, drive_control};
 use crate::header::put_ports;
 use crate::pace::{Counters, counters_for};
-use crate::registers::{declare_held, declare_late, drive_inputs, drive_outputs};
+use crate::registers::{Part, put_parts};
 use crate::renaming::{put_core, put_wires};
 use fx_io::{OutOfMemory, Text};
 use std::alloc::Global;
@@ -120,10 +120,10 @@ fn put_items(
 {
     put_wires(alloc, core, items)?;
     declare_control(alloc, counters, items)?;
-    declare_held(alloc, inputs, items)?;
-    declare_late(alloc, outputs, items)?;
+    put_parts(alloc, Part::Held, inputs, items)?;
+    put_parts(alloc, Part::Late, outputs, items)?;
     put_core(alloc, core, items)?;
     drive_control(alloc, counters, items)?;
-    drive_inputs(alloc, inputs, items)?;
-    drive_outputs(alloc, outputs, items)
+    put_parts(alloc, Part::HeldDriven, inputs, items)?;
+    put_parts(alloc, Part::LateDriven, outputs, items)
 }

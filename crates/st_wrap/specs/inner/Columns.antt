@@ -10,6 +10,8 @@ use Rattle.vl_ast.specs.declared.modules.ModItem.TheVariants.{Reg, Assign, Alway
 use Rattle.vl_ast.specs.declared.modules.Port.{Port}
 use Rattle.vl_ast.specs.Header.{DataPort, input_port, output_port}
 use Rattle.st_wrap.specs.declared.columns.Column.{Column}
+use Rattle.st_wrap.specs.declared.registers.Part.{Part}
+use Rattle.st_wrap.specs.declared.registers.Part.TheVariants.{Held, HeldDriven, Late, LateDriven}
 use Rattle.st_wrap.specs.Header.{row_port}
 use Rattle.st_wrap.specs.Pace.{samples_late}
 use Rattle.st_wrap.specs.inner.Names.{inner_name, held_name, late_name, begin_name, end_name, enable_name}
@@ -74,3 +76,10 @@ abbrev pub late_driven : Column → List ModItem
 late_driven column =
     map (stage_driven column) (range_with_len 0 column.late)
     ++ Assign column.name (Name (stage_name column column.late)) ∷ []
+
+-- a part of a column
+abbrev pub items_for : Part → Column → List ModItem
+items_for Held = held_declared
+items_for HeldDriven = held_driven
+items_for Late = late_declared
+items_for LateDriven = late_driven
