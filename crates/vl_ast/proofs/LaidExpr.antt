@@ -1,11 +1,11 @@
 -- The one text of an expression lays out its tokens, by induction over the expression.
 use Rattle.std.proofs.Common.{◌≡◌, ℕ, true, List, [], ◌∷◌, ◌++◌, map, codes, refl, sym, subst}
 use Rattle.vl_ast.specs.declared.expressions.UnOp.{UnOp}
-use Rattle.vl_ast.specs.declared.expressions.UnOp.TheVariants.{Negate, Invert, IsZero}
+use Rattle.vl_ast.specs.declared.expressions.UnOp.TheVariants.{Negate}
 use Rattle.vl_ast.specs.declared.expressions.BinOp.{BinOp}
-use Rattle.vl_ast.specs.declared.expressions.BinOp.TheVariants.{Add, Subtract, Multiply, And, Or, Xor, Equal, NotEqual, Less, LessEqual, Greater, GreaterEqual, Both, Either}
+use Rattle.vl_ast.specs.declared.expressions.BinOp.TheVariants.{Add}
 use Rattle.vl_ast.specs.declared.expressions.ShiftOp.{ShiftOp}
-use Rattle.vl_ast.specs.declared.expressions.ShiftOp.TheVariants.{Left, Right, RightSigned}
+use Rattle.vl_ast.specs.declared.expressions.ShiftOp.TheVariants.{Left}
 use Rattle.vl_ast.specs.declared.expressions.Expr.{Expr}
 use Rattle.vl_ast.specs.declared.expressions.Expr.TheOpen.{Expr-F}
 use Rattle.vl_ast.specs.declared.expressions.Expr.TheViews.{roll-Expr}
@@ -18,34 +18,19 @@ use Rattle.vl_ast.proofs.LaidForms.{Fits, FitsEach, name_fits, bit_fits, part_fi
 
 bracket_unary : (op : UnOp) (rest : List ℕ) → is_longest (codes "(") (unary_text op ++ (codes " " ++ rest)) ≡ true
 bracket_unary Negate rest = refl
-bracket_unary Invert rest = refl
-bracket_unary IsZero rest = refl
+bracket_unary _ rest = refl
 
 longest_unary : (op : UnOp) (rest : List ℕ) → is_longest (unary_text op) (codes " " ++ rest) ≡ true
 longest_unary Negate rest = refl
-longest_unary Invert rest = refl
-longest_unary IsZero rest = refl
+longest_unary _ rest = refl
 
 longest_binary : (op : BinOp) (rest : List ℕ) → is_longest (binary_text op) (codes " " ++ rest) ≡ true
 longest_binary Add rest = refl
-longest_binary Subtract rest = refl
-longest_binary Multiply rest = refl
-longest_binary And rest = refl
-longest_binary Or rest = refl
-longest_binary Xor rest = refl
-longest_binary Equal rest = refl
-longest_binary NotEqual rest = refl
-longest_binary Less rest = refl
-longest_binary LessEqual rest = refl
-longest_binary Greater rest = refl
-longest_binary GreaterEqual rest = refl
-longest_binary Both rest = refl
-longest_binary Either rest = refl
+longest_binary _ rest = refl
 
 longest_shift : (op : ShiftOp) (rest : List ℕ) → is_longest (shift_text op) (codes " " ++ rest) ≡ true
 longest_shift Left rest = refl
-longest_shift Right rest = refl
-longest_shift RightSigned rest = refl
+longest_shift _ rest = refl
 
 abbrev ExprFits : Expr → Type 0
 ExprFits e = Fits (expr_tokens e) (expr_text e)

@@ -5,7 +5,7 @@ use Rattle.vl_ast.specs.declared.modules.Port.{Port}
 use Rattle.vl_ast.specs.declared.modules.ModItem.{ModItem}
 use Rattle.vl_ast.specs.declared.modules.ModItem.TheVariants.{Wire, Reg, Assign, Always}
 use Rattle.vl_ast.specs.declared.modules.Module.{Module}
-use Rattle.vl_ast.specs.Grammar.{comma, attrs_tokens, signed_tokens, declaration_tokens, IsPortText, IsItemText, IsModuleText, Spells}
+use Rattle.vl_ast.specs.Grammar.{comma, attrs_tokens, signed_tokens, IsRange, declaration_tokens, IsPortText, IsItemText, IsModuleText, Spells}
 use Rattle.vl_ast.specs.Spelling.{joined, attrs_text, signed_text, range_text, item_text, port_text, spelling}
 use Rattle.vl_ast.specs.Tokens.{Token, Key, Sign, Identifier, IsGap, Lays, AreWritable}
 use Rattle.vl_ast.proofs.Laid.{laid_same, no_gap, line_gap, space_gap, gap_append, AllWritable-laid, AllWritable-front, AllWritable-back, AllWritable-append}
@@ -47,15 +47,20 @@ net_range words end signed name range w =
 written_as : (ts us : List Token) → ts ≡ us → AreWritable ts → AreWritable us
 written_as ts us e w = let P : List Token → Type 0 = λ vs. AreWritable vs in subst P e w
 
+net_item_kept : (word : List ℕ) (signed : Bool) (width : ℕ) (name : List ℕ) (range ts : List Token) → IsRange width range → ts ≡ declaration_tokens (Key word ∷ []) signed range name ++ Sign (codes ";") ∷ [] →
+    AreWritable ts → IsRange width (range_tokens width) × AreWritable (net_item word signed width name)
+net_item_kept word signed width name range ts ranged is w =
+    let v = written_as ts _ is w in
+    let kept = range_kept width range ranged (net_range (Key word ∷ []) (Sign (codes ";") ∷ []) signed name range v) in
+    (kept.0, net_kept (Key word ∷ []) (Sign (codes ";") ∷ []) signed width name range v kept.1)
+
 item_kept : (item : ModItem) (ts : List Token) → IsItemText item ts → AreWritable ts → IsItemText item (item_tokens item) × AreWritable (item_tokens item)
 item_kept (Wire signed width name) ts is w =
-    let v = written_as ts _ is.2 w in
-    let kept = range_kept width is.0 is.1 (net_range (Key (codes "wire") ∷ []) (Sign (codes ";") ∷ []) signed name is.0 v) in
-    ((range_tokens width, kept.0, refl), net_kept (Key (codes "wire") ∷ []) (Sign (codes ";") ∷ []) signed width name is.0 v kept.1)
+    let kept = net_item_kept (codes "wire") signed width name is.0 ts is.1 is.2 w in
+    ((range_tokens width, kept.0, refl), kept.1)
 item_kept (Reg signed width name) ts is w =
-    let v = written_as ts _ is.2 w in
-    let kept = range_kept width is.0 is.1 (net_range (Key (codes "reg") ∷ []) (Sign (codes ";") ∷ []) signed name is.0 v) in
-    ((range_tokens width, kept.0, refl), net_kept (Key (codes "reg") ∷ []) (Sign (codes ";") ∷ []) signed width name is.0 v kept.1)
+    let kept = net_item_kept (codes "reg") signed width name is.0 ts is.1 is.2 w in
+    ((range_tokens width, kept.0, refl), kept.1)
 item_kept (Assign name value) ts is w = ((is.0, refl), written_as ts _ is.1 w)
 item_kept (Always name first condition value) ts is w = ((is.0, is.1, refl), written_as ts _ is.2 w)
 
@@ -74,25 +79,17 @@ port_kept port ts is w =
           (written_as _ _ (append_nil (declaration_tokens words port.signed (range_tokens port.width) port.name)) (net_kept words [] port.signed port.width port.name is.0 body kept.1)),
     )
 
-items_kept : (items : List ModItem) (tss : List (List Token)) → AllZip IsItemText items tss → AreWritable (flat_map (λ ts. ts) tss) →
-    AllZip IsItemText items (map item_tokens items) × AreWritable (flat_map (λ ts. ts) (map item_tokens items))
-items_kept [] [] each w = (tt, tt)
-items_kept [] (ts ∷ tss) each w = absurd each
-items_kept (item ∷ items) [] each w = absurd each
-items_kept (item ∷ items) (ts ∷ tss) each w =
-    let here = item_kept item ts each.0 (AllWritable-front ts _ w) in
-    let more = items_kept items tss each.1 (AllWritable-back ts _ w) in
-    ((here.0, more.0), AllWritable-append (item_tokens item) _ here.1 more.1)
-
-ports_kept : (ports : List Port) (tss : List (List Token)) → AllZip IsPortText ports tss → AreWritable (flat_map (λ ts. comma ++ ts) tss) →
-    AllZip IsPortText ports (map port_tokens ports) × AreWritable (flat_map (λ ts. comma ++ ts) (map port_tokens ports))
-ports_kept [] [] each w = (tt, tt)
-ports_kept [] (ts ∷ tss) each w = absurd each
-ports_kept (port ∷ ports) [] each w = absurd each
-ports_kept (port ∷ ports) (ts ∷ tss) each w =
-    let here = port_kept port ts each.0 (AllWritable-front ts _ w.1) in
-    let more = ports_kept ports tss each.1 (AllWritable-back ts _ w.1) in
-    ((here.0, more.0), (w.0, AllWritable-append (port_tokens port) _ here.1 more.1))
+-- what holds of each part of a list, where these tokens stand before each
+all_kept : {A : Type 0} (R : A → List Token → Type 0) (tokens : A → List Token) (before : List Token) → ((x : A) (ts : List Token) → R x ts → AreWritable ts → R x (tokens x) × AreWritable (tokens x)) →
+    (xs : List A) (tss : List (List Token)) → AllZip R xs tss → AreWritable (flat_map (λ ts. before ++ ts) tss) → AllZip R xs (map tokens xs) × AreWritable (flat_map (λ ts. before ++ ts) (map tokens xs))
+all_kept R tokens before kept [] [] each w = (tt, tt)
+all_kept R tokens before kept [] (ts ∷ tss) each w = absurd each
+all_kept R tokens before kept (x ∷ xs) [] each w = absurd each
+all_kept R tokens before kept (x ∷ xs) (ts ∷ tss) each w =
+    let first = AllWritable-front (before ++ ts) _ w in
+    let here = kept x ts each.0 (AllWritable-back before ts first) in
+    let more = all_kept R tokens before kept xs tss each.1 (AllWritable-back (before ++ ts) _ w) in
+    ((here.0, more.0), AllWritable-append (before ++ tokens x) _ (AllWritable-append before (tokens x) (AllWritable-front before ts first) here.1) more.1)
 
 list_kept : (ports : List Port) (tss : List (List Token)) → AllZip IsPortText ports tss → AreWritable (joined comma tss) →
     AllZip IsPortText ports (map port_tokens ports) × AreWritable (joined comma (map port_tokens ports))
@@ -101,7 +98,7 @@ list_kept [] (ts ∷ tss) each w = absurd each
 list_kept (port ∷ ports) [] each w = absurd each
 list_kept (port ∷ ports) (ts ∷ tss) each w =
     let here = port_kept port ts each.0 (AllWritable-front ts _ w) in
-    let more = ports_kept ports tss each.1 (AllWritable-back ts _ w) in
+    let more = all_kept IsPortText port_tokens comma port_kept ports tss each.1 (AllWritable-back ts _ w) in
     ((here.0, more.0), AllWritable-append (port_tokens port) _ here.1 more.1)
 
 -- the layout
@@ -130,22 +127,23 @@ words_shape : (gap signed range name rest : List ℕ) (direction : List ℕ) →
 words_shape gap signed range name rest direction = simp append_assoc
 
 -- a port's declaration after a gap and the indent
+direction_lays : (word : List ℕ) (signed : Bool) (width : ℕ) (name : List ℕ) → AreWritable (declaration_tokens (Key word ∷ Key (codes "wire") ∷ []) signed (range_tokens width) name) →
+    (tail : List Token) (rest : List ℕ) → ((b : Bool) → Lays b tail rest) → (gap : List ℕ) → IsGap gap →
+    Lays false (declaration_tokens (Key word ∷ Key (codes "wire") ∷ []) signed (range_tokens width) name ++ tail)
+    (gap ++ ((codes "  " ++ word ++ codes " wire " ++ signed_text signed ++ range_text width ++ name) ++ rest))
+direction_lays word signed width name w tail rest next gap g =
+    let net : List Token = signed_tokens signed ++ (range_tokens width ++ Identifier name ∷ []) in
+    let named : List ℕ = codes " " ++ ((signed_text signed ++ range_text width ++ name) ++ rest) in
+    word_lays (Key word) false (gap ++ codes "  ") (Key (codes "wire") ∷ (net ++ tail)) (codes " " ++ (codes "wire" ++ named)) _ w.0 tt (gap_append gap (codes "  ") g indent_gap) (after_sign _)
+    (λ b. word_lays (Key (codes "wire")) b (codes " ") (net ++ tail) named _ w.1.0 tt space_gap (not_empty 32 [] b) (net_lays signed width name w.1.1 tail rest next) refl)
+    (words_shape gap (signed_text signed) (range_text width) name rest word)
+
 words_lay : (input signed : Bool) (width : ℕ) (name : List ℕ) → AreWritable (declaration_tokens (port_words input) signed (range_tokens width) name) →
     (tail : List Token) (rest : List ℕ) → ((b : Bool) → Lays b tail rest) → (gap : List ℕ) → IsGap gap →
     Lays false (declaration_tokens (port_words input) signed (range_tokens width) name ++ tail)
     (gap ++ (((if input then codes "  input wire " else codes "  output wire ") ++ signed_text signed ++ range_text width ++ name) ++ rest))
-words_lay true signed width name w tail rest next gap g =
-    let net : List Token = signed_tokens signed ++ (range_tokens width ++ Identifier name ∷ []) in
-    let named : List ℕ = codes " " ++ ((signed_text signed ++ range_text width ++ name) ++ rest) in
-    word_lays (Key (codes "input")) false (gap ++ codes "  ") (Key (codes "wire") ∷ (net ++ tail)) (codes " " ++ (codes "wire" ++ named)) _ w.0 tt (gap_append gap (codes "  ") g indent_gap) (after_sign _)
-    (λ b. word_lays (Key (codes "wire")) b (codes " ") (net ++ tail) named _ w.1.0 tt space_gap (not_empty 32 [] b) (net_lays signed width name w.1.1 tail rest next) refl)
-    (words_shape gap (signed_text signed) (range_text width) name rest (codes "input"))
-words_lay false signed width name w tail rest next gap g =
-    let net : List Token = signed_tokens signed ++ (range_tokens width ++ Identifier name ∷ []) in
-    let named : List ℕ = codes " " ++ ((signed_text signed ++ range_text width ++ name) ++ rest) in
-    word_lays (Key (codes "output")) false (gap ++ codes "  ") (Key (codes "wire") ∷ (net ++ tail)) (codes " " ++ (codes "wire" ++ named)) _ w.0 tt (gap_append gap (codes "  ") g indent_gap) (after_sign _)
-    (λ b. word_lays (Key (codes "wire")) b (codes " ") (net ++ tail) named _ w.1.0 tt space_gap (not_empty 32 [] b) (net_lays signed width name w.1.1 tail rest next) refl)
-    (words_shape gap (signed_text signed) (range_text width) name rest (codes "output"))
+words_lay true = direction_lays (codes "input")
+words_lay false = direction_lays (codes "output")
 
 port_shape : (attrs words signed range name rest : List ℕ) → (attrs ++ words ++ signed ++ range ++ name) ++ rest ≡ attrs ++ ((words ++ signed ++ range ++ name) ++ rest)
 port_shape attrs words signed range name rest = simp append_assoc
@@ -228,7 +226,7 @@ tokens_spell m tokens is writable =
     let head = AllWritable-back (attrs_tokens m.attrs) _ w in
     let ports = list_kept m.ports is.ports is.each_port (AllWritable-front (joined comma is.ports) _ head.1.1.1) in
     let over = AllWritable-back (joined comma is.ports) _ head.1.1.1 in
-    let items = items_kept m.items is.items is.each_item (AllWritable-front (flat_map (λ ts. ts) is.items) _ over.1.1) in
+    let items = all_kept IsItemText item_tokens [] item_kept m.items is.items is.each_item (AllWritable-front (flat_map (λ ts. ts) is.items) _ over.1.1) in
     let end = AllWritable-back (flat_map (λ ts. ts) is.items) _ over.1.1 in
     let v : AreWritable (module_tokens m) =
     AllWritable-append (attrs_tokens m.attrs) _ start (

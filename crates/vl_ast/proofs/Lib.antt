@@ -24,6 +24,7 @@ pub mod PortLists
 pub mod Ranges
 mod Rows
 pub mod Settled
+pub mod Sought
 pub mod SoundAgree
 mod StalledRows
 pub mod Stepped

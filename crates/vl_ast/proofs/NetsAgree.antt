@@ -105,9 +105,6 @@ module _ (by_layer : ByLayer) (rename : List ℕ → List ℕ) (renamed : Expr �
       → length_step nets (map-Expr Expr ℕ (own_length nets) (relabelled rename (map-Expr Expr Expr renamed (map-Expr Known Expr (λ p. p.0) y))))
       ≡ length_step other (map-Expr Expr ℕ (own_length other) (map-Expr Known Expr (λ p. p.0) y))
   length-step (Expr-F.Name name) s = ap (λ (n : Net). n.width) (only rename nets other name s)
-  length-step (Expr-F.Bit name place) s = refl
-  length-step (Expr-F.Part name high low) s = refl
-  length-step (Expr-F.Literal number) s = refl
   length-step (Expr-F.Concat parts) s = ap sum (lengths parts s)
   length-step (Expr-F.Repeat count part) s = ap (λ n. count * n) (part.1 s).length
   length-step (Expr-F.AsSigned part) s = (part.1 s).length
@@ -123,18 +120,12 @@ module _ (by_layer : ByLayer) (rename : List ℕ → List ℕ) (renamed : Expr �
       let b = (chosen.1 (left-same rename nets other (names_read chosen.0) (names_read otherwise.0) rest)).length in
       let c = (otherwise.1 (right-same rename nets other (names_read chosen.0) (names_read otherwise.0) rest)).length in
       (λ i. max (b i) (c i))
+  length-step _ s = refl
 
   sign-step : (y : Expr-F Known) → SameIn y
       → sign_step nets (map-Expr Expr Bool (is_signed nets) (relabelled rename (map-Expr Expr Expr renamed (map-Expr Known Expr (λ p. p.0) y))))
       ≡ sign_step other (map-Expr Expr Bool (is_signed other) (map-Expr Known Expr (λ p. p.0) y))
   sign-step (Expr-F.Name name) s = ap (λ (n : Net). n.signed) (only rename nets other name s)
-  sign-step (Expr-F.Bit name place) s = refl
-  sign-step (Expr-F.Part name high low) s = refl
-  sign-step (Expr-F.Literal number) s = refl
-  sign-step (Expr-F.Concat parts) s = refl
-  sign-step (Expr-F.Repeat count part) s = refl
-  sign-step (Expr-F.AsSigned part) s = refl
-  sign-step (Expr-F.AsUnsigned part) s = refl
   sign-step (Expr-F.Unary op part) s = ap (sign_at (unary_place op)) (part.1 s).sign
   sign-step (Expr-F.Binary op left right) s =
       let a = (left.1 (left-same rename nets other (names_read left.0) (names_read right.0) s)).sign in
@@ -146,6 +137,7 @@ module _ (by_layer : ByLayer) (rename : List ℕ → List ℕ) (renamed : Expr �
       let b = (chosen.1 (left-same rename nets other (names_read chosen.0) (names_read otherwise.0) rest)).sign in
       let c = (otherwise.1 (right-same rename nets other (names_read chosen.0) (names_read otherwise.0) rest)).sign in
       (λ i. b i && c i)
+  sign-step _ s = refl
 
   value-step : (y : Expr-F Known) → SameIn y → (width : ℕ) (signed : Bool)
       → bits_step nets row width signed (in_context nets width signed (map-Expr Expr (Operand Bits) (operand_of nets row) (relabelled rename (map-Expr Expr Expr renamed (map-Expr Known Expr (λ p. p.0) y)))))

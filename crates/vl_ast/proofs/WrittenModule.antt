@@ -15,11 +15,12 @@ use Rattle.vl_ast.specs.Grammar.{comma, attr_tokens, attrs_tokens, signed_tokens
 use Rattle.vl_ast.specs.Nets.{Declared, Declares, Drives, Reads, mentions, declaration_of, nets_of, names_read, condition_names, port_declared}
 use Rattle.vl_ast.specs.Spellable.{IsShortAttr, IsSpellable}
 use Rattle.vl_ast.specs.Spelling.{joined, spelling}
-use Rattle.vl_ast.specs.Tokens.{Token, Key, Sign, Identifier, AreWritable}
+use Rattle.vl_ast.specs.Tokens.{Token, Key, Sign, Identifier, IsWritable, AreWritable}
 use Rattle.vl_names.specs.Identifiers.{is_identifier}
 use Rattle.vl_ast.proofs.Agree.{ByLayer}
 use Rattle.vl_ast.proofs.Facts.{Declaration, OfPort, OfWire, OfReg, declaration-by, is-declared, mention-listed, read-declared, driven-declared, in-port, wire-declared, reg-declared, assign-drives, always-drives, reads-of-assign, reads-of-always}
 use Rattle.vl_ast.proofs.Laid.{AllWritable-append}
+use Rattle.vl_ast.proofs.LaidItems.{net_item}
 use Rattle.vl_ast.proofs.LaidModule.{item_tokens, port_tokens, port_words, module_lays, module_tokens, module_tail}
 use Rattle.vl_ast.proofs.LaidNets.{bounds, range_tokens}
 use Rattle.vl_ast.proofs.Places.{cons-cases, none-in, head-in, tail-in, map-in}
@@ -148,21 +149,20 @@ module _ (by_layer : ByLayer) (m : Module) (acyclic : IsAcyclic m) (wide : too_w
   condition-written (Some condition) sound expr k =
       (key-writable (codes "if"), (sign-writable (codes "("), AllWritable-append (expr_tokens condition) (Sign (codes ")") ∷ []) (expr-writable (nets_of m) condition sound expr.1 k) (sign-writable (codes ")"), tt)))
 
+  net-written : (word : List ℕ) → IsWritable (Key word) → (signed : Bool) (width : ℕ) (name : List ℕ) → is_width width ≡ true → is_identifier name ≡ true → AreWritable (net_item word signed width name)
+  net-written word writable signed width name wide e =
+      AllWritable-append (declaration_tokens (Key word ∷ []) signed (range_tokens width) name) (Sign (codes ";") ∷ [])
+      (declaration-written (Key word ∷ []) signed width name (writable, tt) wide e) (sign-writable (codes ";"), tt)
+
   item-written : (i : ModItem) → Contains m.items i → IsWrittenItem i
   item-written (Wire signed width name) c =
       let wide = item-sound (Wire signed width name) c in
-      let e = (known-of _ (wire-declared m acyclic.driven acyclic.once signed width name c)).identifier in (
-        (range_tokens width, (range-written width wide).0, refl),
-        AllWritable-append (declaration_tokens (Key (codes "wire") ∷ []) signed (range_tokens width) name) (Sign (codes ";") ∷ [])
-            (declaration-written (Key (codes "wire") ∷ []) signed width name (key-writable (codes "wire"), tt) wide e) (sign-writable (codes ";"), tt),
-      )
+      let e = (known-of _ (wire-declared m acyclic.driven acyclic.once signed width name c)).identifier in
+      ((range_tokens width, (range-written width wide).0, refl), net-written (codes "wire") (key-writable (codes "wire")) signed width name wide e)
   item-written (Reg signed width name) c =
       let wide = item-sound (Reg signed width name) c in
-      let e = (known-of _ (reg-declared m acyclic.driven acyclic.once signed width name c)).identifier in (
-        (range_tokens width, (range-written width wide).0, refl),
-        AllWritable-append (declaration_tokens (Key (codes "reg") ∷ []) signed (range_tokens width) name) (Sign (codes ";") ∷ [])
-            (declaration-written (Key (codes "reg") ∷ []) signed width name (key-writable (codes "reg"), tt) wide e) (sign-writable (codes ";"), tt),
-      )
+      let e = (known-of _ (reg-declared m acyclic.driven acyclic.once signed width name c)).identifier in
+      ((range_tokens width, (range-written width wide).0, refl), net-written (codes "reg") (key-writable (codes "reg")) signed width name wide e)
   item-written (Assign name value) c =
       let expr = spellable.items (Assign name value) c in
       let e = driven-name false name (assign-drives m acyclic.driven acyclic.once name value c) in

@@ -9,7 +9,12 @@ fn find<'a>(attrs: &'a [Attr], name: &[u8]) -> Option<&'a Attr>
     ensures { option_map (λ attr. attr.now) result
         ≡ find (λ attr. bytes_eq attr.name name.now) attrs.now }
 {
-    attrs.iter().find(|attr| attr.name.bytes() == name)
+    for attr in attrs {
+        if attr.name.bytes() == name {
+            return Some(attr);
+        }
+    }
+    None
 }
 
 /// The number of the first attribute of a name. `None` where there is none or it is out of the range.

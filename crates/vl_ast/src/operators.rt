@@ -41,7 +41,13 @@ impl UnOp {
     pub fn of_text(text: &[u8]) -> Option<UnOp>
         ensures { result ≡ unary_of text.now }
     {
-        UNARY.iter().copied().find(|op| text == op.text())
+        let ops: &[UnOp] = &UNARY;
+        for op in ops {
+            if text == op.text() {
+                return Some(*op);
+            }
+        }
+        None
     }
 }
 
@@ -73,7 +79,13 @@ impl BinOp {
     pub fn of_text(text: &[u8]) -> Option<BinOp>
         ensures { result ≡ infix_of text.now }
     {
-        BINARY.iter().copied().find(|op| text == op.text())
+        let ops: &[BinOp] = &BINARY;
+        for op in ops {
+            if text == op.text() {
+                return Some(*op);
+            }
+        }
+        None
     }
 }
 
@@ -93,6 +105,12 @@ impl ShiftOp {
     pub fn of_text(text: &[u8]) -> Option<ShiftOp>
         ensures { result ≡ shift_of text.now }
     {
-        SHIFTS.iter().copied().find(|op| text == op.text())
+        let ops: &[ShiftOp] = &SHIFTS;
+        for op in ops {
+            if text == op.text() {
+                return Some(*op);
+            }
+        }
+        None
     }
 }
