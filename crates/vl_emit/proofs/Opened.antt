@@ -25,7 +25,7 @@ use Rattle.vl_ast.proofs.Parts.{part-runs}
 use Rattle.vl_ast.proofs.Settled.{net-is}
 use Rattle.hw_net.specs.declared.netlist.NetPort.{NetPort}
 use Rattle.hw_net.specs.declared.netlist.NetKind.{NetKind}
-use Rattle.hw_net.specs.declared.netlist.NetKind.TheVariants.{Comb, Reg}
+use Rattle.hw_net.specs.declared.netlist.NetKind.TheVariants.{Comb}
 use Rattle.hw_net.specs.Circuit.{Circuit}
 use Rattle.hw_net.specs.Netlist.{IsNetlist}
 use Rattle.hw_net.specs.Emittable.{IsEmittable}
