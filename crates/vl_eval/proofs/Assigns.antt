@@ -20,7 +20,7 @@ use Rattle.vl_eval.specs.inner.Ops.{IsSettled, op_value}
 use Rattle.vl_eval.specs.inner.Shown.{NamesFit, Pushed, row_of}
 use Rattle.vl_eval.specs.inner.Site.{ArePlaced, Built, slot_in}
 use Rattle.vl_eval.specs.inner.Assigning.{Assigns, Captures, Tests, next_names, takes_in}
-use Rattle.vl_eval.proofs.Grown.{grows-length, grows-more, grows-push, settled-later}
+use Rattle.vl_eval.proofs.Builds.{grows-length, grows-more, grows-push, settled-later}
 use Rattle.vl_eval.proofs.Fits.{left-room, right-room, value-fits}
 use Rattle.vl_eval.proofs.Forms.{last-value}
 use Rattle.vl_eval.proofs.Operands.{steps-of}
@@ -111,21 +111,25 @@ module _ (by_layer : ByLayer) (base : ℕ) (scope : Scope) (slots : List ℕ) wh
       let names = condition_names condition ++ names_read value in
       p.few name (tail-in (codes "reset") name (name ∷ names) (head-in name names))
 
+  -- what a register takes, as an operation
+  abbrev next : ℕ → ℕ → ℕ → ℕ → ℕ → Op
+  next reset bits test taken kept = Next (record { reset = reset; first = bits; test = test; value = taken; kept = kept })
+
   pub captures-next : (name : List ℕ) (first : Sized) (condition : Option Expr) (value : Expr) (before one two after : List Op) (width test taken reset kept bits slot : ℕ) → width ≡ (nets name).width
       → bits ≡ assigned_number width first → reset ≡ slot_in scope slots (codes "reset") → kept ≡ slot_in scope slots name
       → ArePlaced base scope slots before (next_names name condition value)
       → Tests base scope slots before one test condition → Assigns base scope slots one two taken width value
-      → Pushed base two after slot (Next reset bits test taken kept) → Captures base scope slots before after slot name first condition value
+      → Pushed base two after slot (next reset bits test taken kept) → Captures base scope slots before after slot name first condition value
   captures-next name first condition value before one two after width test taken reset kept bits slot net number isr isk placed t a p =
       let both = grows-more base before one two t.grows a.grows in
       let longer = grows-length base before two both in
       let rbelow : reset < base + length two = (let b = placed.below (codes "reset") (head-in (codes "reset") (name ∷ (condition_names condition ++ names_read value))) in omega (arith, isr, b, longer)) in
       let kbelow : kept < base + length two = (let b = placed.below name (tail-in (codes "reset") name (name ∷ (condition_names condition ++ names_read value)) (head-in name (condition_names condition ++ names_read value))) in omega (arith, isk, b, longer)) in
       let tbelow : test < base + length two = (let b = t.below in let m = grows-length base one two a.grows in omega (arith, b, m)) in
-      let last = grows-push base two after slot (Next reset bits test taken kept) (rbelow, tbelow, a.below, kbelow) p in
+      let last = grows-push base two after slot (next reset bits test taken kept) (rbelow, tbelow, a.below, kbelow) p in
       record {
         grows = grows-more base before two after both last;
-        below = pushed-below two after slot (Next reset bits test taken kept) p;
+        below = pushed-below two after slot (next reset bits test taken kept) p;
         above = (let e = p.place in omega (arith, e));
         is = λ values s fit.
             let st = settled-later by_layer base scope slots two after last values s in
@@ -133,7 +137,7 @@ module _ (by_layer : ByLayer) (base : ℕ) (scope : Scope) (slots : List ℕ) wh
             let inner : Fit values names = record { at = λ n c. fit.at n (tail-in (codes "reset") n (name ∷ names) (tail-in name n names c)) } in
             let takes = t.is values (settled-later by_layer base scope slots one two a.grows values st) (left-room nets (row values) (condition_names condition) (names_read value) inner) in
             let gives = a.is values st (right-room nets (row values) (condition_names condition) (names_read value) inner) in
-            pushed-value two after slot (Next reset bits test taken kept) p values s
+            pushed-value two after slot (next reset bits test taken kept) p values s
             ∙ (λ i. if values (isr i) == 1 then number i else (if values test == 0 then values (isk i) else gives i))
             ∙ ap (λ x. if row values (codes "reset") == 1 then assigned_number width first else x) (chosen (values test) (takes_in nets (row values) condition) (assigned nets (row values) width value) (row values name) takes)
             ∙ ap (λ w. if row values (codes "reset") == 1 then assigned_number w first else (if takes_in nets (row values) condition then assigned nets (row values) w value else row values name)) net;

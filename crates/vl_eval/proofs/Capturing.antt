@@ -25,7 +25,7 @@ use Rattle.vl_eval.specs.inner.Ops.{IsSettled}
 use Rattle.vl_eval.specs.inner.Planned.{AreCaptured, AreWired, FixedFit, IsCaptured, IsFixed, row_in}
 use Rattle.vl_eval.specs.inner.Shown.{Grows}
 use Rattle.vl_eval.specs.inner.Site.{ArePlaced, slot_at, slot_in}
-use Rattle.vl_eval.proofs.Grown.{grows-length, grows-more, grows-none, settled-later}
+use Rattle.vl_eval.proofs.Builds.{grows-length, grows-more, grows-none, settled-later}
 
 -- an item at its place
 pub item-there : {X : Type 0} (xs ys : List X) (i : ℕ) (item x : X) → xs ≡ ys → i < length xs → item ≡ slice_index_or xs i item → item ≡ x → Contains ys x

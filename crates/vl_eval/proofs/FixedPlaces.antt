@@ -28,7 +28,7 @@ use Rattle.vl_eval.specs.declared.plan.Plan.{Plan}
 use Rattle.vl_eval.specs.inner.Ops.{IsSettled}
 use Rattle.vl_eval.specs.inner.Planned.{FixedFit, IsFixed, IsPlan, slot_of_port}
 use Rattle.vl_eval.specs.inner.Site.{slot_at, slot_in}
-use Rattle.vl_eval.proofs.Grown.{settled-later}
+use Rattle.vl_eval.proofs.Builds.{settled-later}
 use Rattle.vl_eval.proofs.Capturing.{known-fits, number-of}
 use Rattle.vl_eval.proofs.Sounds.{width-few}
 

@@ -6,7 +6,6 @@ pub mod Swept
 pub mod Holding
 pub mod Words
 pub mod Operands
-pub mod Grown
 pub mod Builds
 pub mod SideBySide
 pub mod Rooms

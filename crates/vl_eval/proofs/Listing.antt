@@ -1,5 +1,5 @@
 -- Lists that loops make, one more at the end. Crates above may cite this file.
-use Rattle.std.proofs.Common.{◌≡◌, ◌+◌, ⊎_elim, ℕ, zero, suc, Bool, true, false, if◌then◌else◌, List, [], ◌∷◌, ◌++◌, length, map, filter, replicate, slice_index, refl, sym, ap, ◌∙◌, arith}
+use Rattle.std.proofs.Common.{◌≡◌, ◌+◌, ⊎_elim, ℕ, zero, suc, Bool, true, false, if◌then◌else◌, List, [], ◌∷◌, ◌++◌, length, map, filter, replicate, slice_index, take, refl, sym, ap, ◌∙◌, arith}
 use Rattle.std.proofs.lemmas.Bool.{cases_lt}
 use Rattle.std.proofs.lemmas.List.{append-nil, get_or_append_left, get_or_at, length-append, map-append}
 use Rattle.std.proofs.lemmas.List.Elements.{filter-append}
@@ -22,12 +22,6 @@ zero-at zero k = refl
 zero-at (suc count) zero = refl
 zero-at (suc count) (suc k) = zero-at count k
 
-pub filter-one : {X : Type 0} (test : X → Bool) (xs : List X) (x : X) → test x ≡ true → filter test (xs ++ x ∷ []) ≡ filter test xs ++ x ∷ []
-filter-one test xs x e = filter-append test xs (x ∷ []) ∙ ap (λ t. filter test xs ++ (if t then x ∷ [] else [])) e
-
-pub filter-none : {X : Type 0} (test : X → Bool) (xs : List X) (x : X) → test x ≡ false → filter test (xs ++ x ∷ []) ≡ filter test xs
-filter-none test xs x e = filter-append test xs (x ∷ []) ∙ ap (λ t. filter test xs ++ (if t then x ∷ [] else [])) e ∙ append-nil (filter test xs)
-
 -- one more that passes a test, or one that doesn't
 pub kept-one : {X Y : Type 0} (f : X → Y) (test : X → Bool) (xs : List X) (x : X) → test x ≡ true → map f (filter test xs) ++ f x ∷ [] ≡ map f (filter test (xs ++ x ∷ []))
 kept-one f test xs x e =
@@ -37,3 +31,14 @@ kept-one f test xs x e =
 pub kept-none : {X Y : Type 0} (f : X → Y) (test : X → Bool) (xs : List X) (x : X) → test x ≡ false → map f (filter test xs) ≡ map f (filter test (xs ++ x ∷ []))
 kept-none f test xs x e =
     ap (map f) (sym (append-nil (filter test xs)) ∙ ap (λ ys. filter test xs ++ ys) (ap (λ t. if t then x ∷ [] else []) (sym e)) ∙ sym (filter-append test xs (x ∷ [])))
+
+-- what a loop gathers of the items that pass a test, one item further
+pub one-gathered : {X Y : Type 0} (f : X → Y) (test : X → Bool) (all : List X) (i : ℕ) (x : X) (old new : List Y) (y : Y) → take (i + 1) all ≡ take i all ++ x ∷ [] → old ≡ map f (filter test (take i all)) → new ≡ old ++ y ∷ [] → y ≡ f x
+    → test x ≡ true → new ≡ map f (filter test (take (i + 1) all))
+one-gathered f test all i x old new y more gathered pushed is passes =
+    pushed ∙ (λ j. gathered j ++ is j ∷ []) ∙ kept-one f test (take i all) x passes ∙ ap (λ xs. map f (filter test xs)) (sym more)
+
+pub none-gathered : {X Y : Type 0} (f : X → Y) (test : X → Bool) (all : List X) (i : ℕ) (x : X) (old new : List Y) → take (i + 1) all ≡ take i all ++ x ∷ [] → old ≡ map f (filter test (take i all)) → new ≡ old
+    → test x ≡ false → new ≡ map f (filter test (take (i + 1) all))
+none-gathered f test all i x old new more gathered same fails =
+    same ∙ gathered ∙ kept-none f test (take i all) x fails ∙ ap (λ xs. map f (filter test xs)) (sym more)

@@ -23,7 +23,7 @@ use Rattle.vl_eval.specs.inner.Planned.{IsPlan, output_of}
 use Rattle.vl_check.specs.Names.{names_of}
 use Rattle.vl_eval.specs.declared.plan.Output.{Output}
 use Rattle.vl_eval.specs.inner.Site.{slot_at, slot_in}
-use Rattle.vl_eval.proofs.Grown.{grows-length}
+use Rattle.vl_eval.proofs.Builds.{grows-length}
 use Rattle.vl_eval.proofs.Capturing.{number-of}
 use Rattle.vl_eval.proofs.FixedPlaces.{IsListed, any-port, few, input-known, width-is}
 use Rattle.vl_eval.proofs.Edges.{named-row}

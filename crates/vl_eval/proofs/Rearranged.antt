@@ -20,7 +20,7 @@ use Rattle.vl_eval.specs.inner.Assigning.{next_in}
 use Rattle.vl_eval.specs.inner.Ops.{IsSettled}
 use Rattle.vl_eval.specs.inner.Planned.{AreCaptured, AreWired, FixedFit, IsCaptured, row_in}
 use Rattle.vl_eval.specs.inner.Site.{slot_at, slot_in}
-use Rattle.vl_eval.proofs.Grown.{grows-length, grows-none, settled-later}
+use Rattle.vl_eval.proofs.Builds.{grows-length, grows-none, settled-later}
 
 module _ (by_layer : ByLayer) (m : Module) (scope : Scope) (some : 0 < length (names_in scope)) (wires ops : List Op) (slots : List ℕ) (captures : List Capture)
     (w : AreWired m scope slots wires) (c : AreCaptured m scope slots m.items wires ops captures) (arranged : Arranged) (a : IsArranged (length (names_in scope)) ops slots captures arranged) where

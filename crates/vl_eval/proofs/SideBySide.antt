@@ -27,7 +27,7 @@ use Rattle.vl_eval.specs.inner.Shown.{NamesFit, row_of, Grows, Pushed, IsBeside}
 use Rattle.vl_eval.specs.declared.site.Alone.{Alone}
 use Rattle.vl_eval.specs.inner.Site.{ArePlaced, Built, BuiltAlone, slot_in}
 use Rattle.vl_eval.proofs.Forms.{Value, shows-op, ShowsBeside, still-beside, shows-beside, shows-first, shows-concat, shows-repeat}
-use Rattle.vl_eval.proofs.Grown.{grows-more, grows-none, grows-push, shows-later, ends, value, stays, alone-of, settled-later}
+use Rattle.vl_eval.proofs.Builds.{grows-more, grows-none, grows-push, shows-later, ends, value, stays, alone-of, settled-later}
 
 -- none of some expressions is deeper than the deepest of them
 pub part-size : (deepest : List Expr → ℕ) → ((x : Expr) (xs : List Expr) → deepest (x ∷ xs) ≡ max (size-Expr x) (deepest xs)) → (xs : List Expr) (i : ℕ) (x : Expr) → i < length xs → x ≡ slice_index_or xs i x → size-Expr x ≤ deepest xs

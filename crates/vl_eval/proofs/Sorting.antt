@@ -32,7 +32,7 @@ each-both (One op a) f p q = f a p q
 each-both (Two op a b) f p q = (f a p.0 q.0, f b p.1 q.1)
 each-both (Beside a b places) f p q = (f a p.0 q.0, f b p.1 q.1)
 each-both (Choose a b d) f p q = (f a p.0 q.0, f b p.1 q.1, f d p.2 q.2)
-each-both (Next a first b d e) f p q = (f a p.0 q.0, f b p.1 q.1, f d p.2 q.2, f e p.3 q.3)
+each-both (Next register) f p q = (f register.reset p.0 q.0, f register.test p.1 q.1, f register.value p.2 q.2, f register.kept p.3 q.3)
 
 each-one : {P Q : ℕ → Type 0} (op : Op) → ((k : ℕ) → P k → Q k) → each_of P op → each_of Q op
 each-one op f p = each-both op (λ k x y. f k x) p p

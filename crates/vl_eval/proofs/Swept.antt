@@ -14,7 +14,7 @@ op-agrees (One op part) end r f g same = ap (one_value op) (same part r.0)
 op-agrees (Two op left right) end r f g same = λ i. two_value op (same left r.0 i) (same right r.1 i)
 op-agrees (Beside left right places) end r f g same = rw (same left r.0, same right r.1) refl
 op-agrees (Choose test chosen other) end r f g same = rw (same test r.0, same chosen r.1, same other r.2) refl
-op-agrees (Next reset first test value kept) end r f g same = rw (same reset r.0, same test r.1, same value r.2, same kept r.3) refl
+op-agrees (Next register) end r f g same = rw (same register.reset r.0, same register.test r.1, same register.value r.2, same register.kept r.3) refl
 
 pub settled-none : (base : ℕ) (ops : List Op) (values : List ℕ) → AreSettled base 0 ops values
 settled-none base ops values = record { at = λ k d below. absurd (omega arith) }
@@ -69,7 +69,7 @@ reads-longer (One op part) end more le r = (omega (arith, (r.0), le), r.1)
 reads-longer (Two op left right) end more le r = (omega (arith, (r.0), le), omega (arith, (r.1), le))
 reads-longer (Beside left right places) end more le r = (omega (arith, (r.0), le), omega (arith, (r.1), le), r.2)
 reads-longer (Choose test chosen other) end more le r = (omega (arith, (r.0), le), omega (arith, (r.1), le), omega (arith, (r.2), le))
-reads-longer (Next reset first test value kept) end more le r = (omega (arith, (r.0), le), omega (arith, (r.1), le), omega (arith, (r.2), le), omega (arith, (r.3), le))
+reads-longer (Next register) end more le r = (omega (arith, (r.0), le), omega (arith, (r.1), le), omega (arith, (r.2), le), omega (arith, (r.3), le))
 
 -- a step reads what its operation reads
 pub step-reads : (base k end : ℕ) (wide : List Op) (steps : List Step) (s : Step) → IsOrdered base (ops_of wide steps) → k < length steps → base + k ≤ end

@@ -26,7 +26,7 @@ use Rattle.vl_eval.specs.inner.Ops.{IsSettled}
 use Rattle.vl_eval.specs.inner.Planned.{AreNumbers, AreWired, FixedFit, IsAssigned, IsFixed, IsGiven, IsWired, as_assignment, assignment_at, row_in}
 use Rattle.vl_eval.specs.inner.Shown.{Grows, NamesFit}
 use Rattle.vl_eval.specs.inner.Site.{ArePlaced, slot_at, slot_in}
-use Rattle.vl_eval.proofs.Grown.{grows-length, grows-more, grows-none, settled-later}
+use Rattle.vl_eval.proofs.Builds.{grows-length, grows-more, grows-none, settled-later}
 
 module _ (by_layer : ByLayer) (m : Module) (scope : Scope) (order : List ℕ) (places : List (Option ℕ)) (s : IsScopeOf m scope) (driven : undriven m ≡ None) (once : doubly m ≡ None) (o : IsOrdering m scope order places) where
   abbrev count : ℕ

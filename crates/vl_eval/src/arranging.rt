@@ -4,7 +4,7 @@ ghost use Rattle.vl_eval.specs.inner.Ops.{IsOrdered};
 
 use crate::code::Code;
 use crate::leveling::{kind_of, level_of};
-use crate::ops::Op;
+use crate::ops::{Op, Register};
 use crate::plan::Capture;
 use fx_io::OutOfMemory;
 use std::alloc::Global;
@@ -112,19 +112,13 @@ fn renamed(op: Op, base: usize, moves: &[usize]) -> Op
             chosen: moved(chosen, base, moves),
             other: moved(other, base, moves),
         },
-        Op::Next {
-            reset,
-            first,
-            test,
-            value,
-            kept,
-        } => Op::Next {
-            reset: moved(reset, base, moves),
-            first,
-            test: moved(test, base, moves),
-            value: moved(value, base, moves),
-            kept: moved(kept, base, moves),
-        },
+        Op::Next(register) => Op::Next(Register {
+            reset: moved(register.reset, base, moves),
+            first: register.first,
+            test: moved(register.test, base, moves),
+            value: moved(register.value, base, moves),
+            kept: moved(register.kept, base, moves),
+        }),
     }
 }
 

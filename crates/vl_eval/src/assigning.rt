@@ -10,11 +10,11 @@ use crate::adding::push;
 use crate::building::build;
 use crate::code::Code;
 use crate::operators::literal;
-use crate::ops::{OneOp, Op};
+use crate::ops::{OneOp, Op, Register};
 use crate::site::{Site, shape_of, slot};
 use fx_io::OutOfMemory;
 use vl_ast::{Expr, Sized, mask_of, meaning_by_layer};
-use vl_check::net;
+use vl_check::{Shape, net};
 
 /// Adds the operations of an assignment to a net of this width, and gives the place of its bits.
 pub fn build_assigned(
@@ -32,7 +32,9 @@ pub fn build_assigned(
 {
     meaning_by_layer();
     let shape = shape_of(site, e);
-    let slot = build(ops, site, e, shape.length.max(width), shape.signed)?;
+    let length = shape.length.max(width);
+    let signed = shape.signed;
+    let slot = build(ops, site, e, Shape { length, signed })?;
     if shape.length <= width {
         return Ok(slot);
     }
@@ -60,7 +62,7 @@ fn build_condition(
         None => push(ops, site.base, Op::Constant(1)),
         Some(e) => {
             let shape = shape_of(site, e);
-            build(ops, site, e, shape.length, shape.signed)
+            build(ops, site, e, shape)
         }
     }
 }
@@ -99,12 +101,12 @@ pub fn build_next(
     push(
         ops,
         site.base,
-        Op::Next {
+        Op::Next(Register {
             reset: slot(site, b"reset"),
             first: first_bits(first, width),
             test,
             value: taken,
             kept: slot(site, name),
-        },
+        }),
     )
 }

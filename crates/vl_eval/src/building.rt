@@ -1,9 +1,7 @@
-ghost use Rattle.std.specs.Prelude.{◌≡◌, ℕ, Bool, true, IfOk};
+ghost use Rattle.std.specs.Prelude.{IfOk};
 ghost use Rattle.vl_ast.specs.declared.expressions.Expr.TheVariants.{AsSigned, AsUnsigned, Binary, Choose, Concat, Repeat, Shift, Unary};
-ghost use Rattle.vl_ast.specs.Conditions.{is_sound};
-ghost use Rattle.vl_ast.specs.Nets.{names_read};
-ghost use Rattle.vl_check.specs.Scope.{nets_in};
-ghost use Rattle.vl_eval.specs.inner.Site.{ArePlaced, BuiltAlone, CanBuild, IsBuilt};
+ghost use Rattle.vl_check.specs.declared.shapes.Shape.{Shape};
+ghost use Rattle.vl_eval.specs.inner.Site.{CanBuild, CanBuildAlone, IsBuilt, IsBuiltAlone};
 
 use crate::adding::{beside, extend, push};
 use crate::code::Code;
@@ -14,6 +12,7 @@ use crate::ops::Op;
 use crate::site::{Alone, Site, shape_of, unsigned};
 use fx_io::OutOfMemory;
 use vl_ast::{BinOp, Expr, ShiftOp, Sized, UnOp, mask_of, meaning_by_layer};
+use vl_check::Shape;
 
 #[cycle(build)]
 fn build_unary(
@@ -21,16 +20,15 @@ fn build_unary(
     site: &Site<'_, '_>,
     op: UnOp,
     part: &Expr,
-    width: u32,
-    signed: bool,
+    context: Shape,
 ) -> Result<usize, OutOfMemory>
-    requires { CanBuild site.now ops.old width (Unary op part.now) }
-    ensures { IfOk result (IsBuilt site.now ops.old ops.new width signed (Unary op part.now)) }
+    requires { CanBuild site.now ops.old context.length (Unary op part.now) }
+    ensures { IfOk result (IsBuilt site.now ops.old ops.new context (Unary op part.now)) }
 {
     meaning_by_layer();
-    let context = unary_context(site, op, part, width, signed);
-    let slot = build(ops, site, part, context.length, context.signed)?;
-    push(ops, site.base, unary_op(op, slot, mask_of(width)))
+    let inner = unary_context(site, op, part, context);
+    let slot = build(ops, site, part, inner)?;
+    push(ops, site.base, unary_op(op, slot, mask_of(context.length)))
 }
 
 #[cycle(build)]
@@ -40,22 +38,21 @@ fn build_binary(
     op: BinOp,
     left: &Expr,
     right: &Expr,
-    width: u32,
-    signed: bool,
+    context: Shape,
 ) -> Result<usize, OutOfMemory>
-    requires { CanBuild site.now ops.old width (Binary op left.now right.now) }
-    ensures { IfOk result (IsBuilt site.now ops.old ops.new width signed
+    requires { CanBuild site.now ops.old context.length (Binary op left.now right.now) }
+    ensures { IfOk result (IsBuilt site.now ops.old ops.new context
         (Binary op left.now right.now)) }
 {
     meaning_by_layer();
-    let on_left = left_context(site, op, left, right, width, signed);
-    let on_right = left_context(site, op, right, left, width, signed);
-    let first = build(ops, site, left, on_left.length, on_left.signed)?;
-    let second = build(ops, site, right, on_right.length, on_right.signed)?;
+    let on_left = left_context(site, op, left, right, context);
+    let on_right = left_context(site, op, right, left, context);
+    let first = build(ops, site, left, on_left)?;
+    let second = build(ops, site, right, on_right)?;
     push(
         ops,
         site.base,
-        binary_op(op, first, second, mask_of(width), half_in(on_left)),
+        binary_op(op, first, second, mask_of(context.length), half_in(on_left)),
     )
 }
 
@@ -66,19 +63,18 @@ fn build_shift(
     op: ShiftOp,
     part: &Expr,
     amount: &Sized,
-    width: u32,
-    signed: bool,
+    context: Shape,
 ) -> Result<usize, OutOfMemory>
-    requires { CanBuild site.now ops.old width (Shift op part.now amount.now) }
-    ensures { IfOk result (IsBuilt site.now ops.old ops.new width signed
+    requires { CanBuild site.now ops.old context.length (Shift op part.now amount.now) }
+    ensures { IfOk result (IsBuilt site.now ops.old ops.new context
         (Shift op part.now amount.now)) }
 {
     meaning_by_layer();
-    let slot = build(ops, site, part, width, signed)?;
+    let slot = build(ops, site, part, context)?;
     push(
         ops,
         site.base,
-        shift_op(op, slot, amount.bits.get(), width, signed),
+        shift_op(op, slot, amount.bits.get(), context.length, context.signed),
     )
 }
 
@@ -89,17 +85,16 @@ fn build_choice(
     test: &Expr,
     chosen: &Expr,
     other: &Expr,
-    width: u32,
-    signed: bool,
+    context: Shape,
 ) -> Result<usize, OutOfMemory>
-    requires { CanBuild site.now ops.old width (Choose test.now chosen.now other.now) }
-    ensures { IfOk result (IsBuilt site.now ops.old ops.new width signed
+    requires { CanBuild site.now ops.old context.length (Choose test.now chosen.now other.now) }
+    ensures { IfOk result (IsBuilt site.now ops.old ops.new context
         (Choose test.now chosen.now other.now)) }
 {
     meaning_by_layer();
     let tested = build_alone(ops, site, test)?;
-    let first = build(ops, site, chosen, width, signed)?;
-    let second = build(ops, site, other, width, signed)?;
+    let first = build(ops, site, chosen, context)?;
+    let second = build(ops, site, other, context)?;
     push(
         ops,
         site.base,
@@ -116,18 +111,17 @@ fn build_as_signed(
     ops: &mut Code,
     site: &Site<'_, '_>,
     part: &Expr,
-    width: u32,
-    signed: bool,
+    context: Shape,
 ) -> Result<usize, OutOfMemory>
-    requires { CanBuild site.now ops.old width (AsSigned part.now) }
-    ensures { IfOk result (IsBuilt site.now ops.old ops.new width signed (AsSigned part.now)) }
+    requires { CanBuild site.now ops.old context.length (AsSigned part.now) }
+    ensures { IfOk result (IsBuilt site.now ops.old ops.new context (AsSigned part.now)) }
 {
     meaning_by_layer();
     let own = build_alone(ops, site, part)?;
-    if !signed {
+    if !context.signed {
         return Ok(own.slot);
     }
-    extend(ops, site.base, own.slot, own.shape.length, width)
+    extend(ops, site.base, own.slot, own.shape.length, context.length)
 }
 
 #[cycle(build)]
@@ -135,11 +129,10 @@ fn build_as_unsigned(
     ops: &mut Code,
     site: &Site<'_, '_>,
     part: &Expr,
-    width: u32,
-    signed: bool,
+    context: Shape,
 ) -> Result<usize, OutOfMemory>
-    requires { CanBuild site.now ops.old width (AsUnsigned part.now) }
-    ensures { IfOk result (IsBuilt site.now ops.old ops.new width signed (AsUnsigned part.now)) }
+    requires { CanBuild site.now ops.old context.length (AsUnsigned part.now) }
+    ensures { IfOk result (IsBuilt site.now ops.old ops.new context (AsUnsigned part.now)) }
 {
     meaning_by_layer();
     let own = build_alone(ops, site, part)?;
@@ -148,13 +141,10 @@ fn build_as_unsigned(
 
 #[cycle(build)]
 fn build_parts(ops: &mut Code, site: &Site<'_, '_>, parts: &[Expr]) -> Result<Alone, OutOfMemory>
-    requires sound { is_sound (nets_in site.now.scope.now) (Concat parts.now) ≡ true }
-    requires placed { ArePlaced site.now.base site.now.scope.now site.now.slots.now ops.old
-        (names_read (Concat parts.now)) }
-    ensures own { IfOk result (λ alone. BuiltAlone site.now.base site.now.scope.now
-        site.now.slots.now ops.old ops.new alone (Concat parts.now)) }
-    ensures built { IfOk result (λ alone. (width : ℕ) → (signed : Bool) → IsBuilt site.now ops.old
-        ops.new width signed (Concat parts.now) alone.slot) }
+    requires { CanBuildAlone site.now ops.old (Concat parts.now) }
+    ensures own { IfOk result (IsBuiltAlone site.now ops.old ops.new (Concat parts.now)) }
+    ensures built { IfOk result (λ alone. (context : Shape) → IsBuilt site.now ops.old
+        ops.new context (Concat parts.now) alone.slot) }
 {
     meaning_by_layer();
     let mut joined = 0;
@@ -178,13 +168,10 @@ fn build_copies(
     count: u32,
     part: &Expr,
 ) -> Result<Alone, OutOfMemory>
-    requires sound { is_sound (nets_in site.now.scope.now) (Repeat count part.now) ≡ true }
-    requires placed { ArePlaced site.now.base site.now.scope.now site.now.slots.now ops.old
-        (names_read (Repeat count part.now)) }
-    ensures own { IfOk result (λ alone. BuiltAlone site.now.base site.now.scope.now
-        site.now.slots.now ops.old ops.new alone (Repeat count part.now)) }
-    ensures built { IfOk result (λ alone. (width : ℕ) → (signed : Bool) → IsBuilt site.now ops.old
-        ops.new width signed (Repeat count part.now) alone.slot) }
+    requires { CanBuildAlone site.now ops.old (Repeat count part.now) }
+    ensures own { IfOk result (IsBuiltAlone site.now ops.old ops.new (Repeat count part.now)) }
+    ensures built { IfOk result (λ alone. (context : Shape) → IsBuilt site.now ops.old
+        ops.new context (Repeat count part.now) alone.slot) }
 {
     meaning_by_layer();
     let own = build_alone(ops, site, part)?;
@@ -201,11 +188,8 @@ fn build_copies(
 /// stand side by side say how long they are, so that nested ones are gone through once.
 #[cycle(build)]
 fn build_alone(ops: &mut Code, site: &Site<'_, '_>, e: &Expr) -> Result<Alone, OutOfMemory>
-    requires sound { is_sound (nets_in site.now.scope.now) e.now ≡ true }
-    requires placed { ArePlaced site.now.base site.now.scope.now site.now.slots.now ops.old
-        (names_read e.now) }
-    ensures { IfOk result (λ alone. BuiltAlone site.now.base site.now.scope.now site.now.slots.now
-        ops.old ops.new alone e.now) }
+    requires { CanBuildAlone site.now ops.old e.now }
+    ensures { IfOk result (IsBuiltAlone site.now ops.old ops.new e.now) }
 {
     match e {
         Expr::Concat(parts) => build_parts(ops, site, parts.as_slice()),
@@ -221,7 +205,7 @@ fn build_alone(ops: &mut Code, site: &Site<'_, '_>, e: &Expr) -> Result<Alone, O
         | Expr::Shift(_, _, _)
         | Expr::Choose(_, _, _) => {
             let shape = shape_of(site, e);
-            let slot = build(ops, site, e, shape.length, shape.signed)?;
+            let slot = build(ops, site, e, shape)?;
             Ok(Alone { slot, shape })
         }
     }
@@ -234,19 +218,16 @@ pub fn build(
     ops: &mut Code,
     site: &Site<'_, '_>,
     e: &Expr,
-    width: u32,
-    signed: bool,
+    context: Shape,
 ) -> Result<usize, OutOfMemory>
-    requires { CanBuild site.now ops.old width e.now }
-    ensures { IfOk result (IsBuilt site.now ops.old ops.new width signed e.now) }
+    requires { CanBuild site.now ops.old context.length e.now }
+    ensures { IfOk result (IsBuilt site.now ops.old ops.new context e.now) }
 {
     match e {
-        Expr::Name(name) => build_name(ops, site, name.bytes(), width, signed),
-        Expr::Bit(name, place) => build_bit(ops, site, name.bytes(), *place, width, signed),
-        Expr::Part(name, high, low) => {
-            build_part(ops, site, name.bytes(), *high, *low, width, signed)
-        }
-        Expr::Literal(number) => build_literal(ops, site, number, width, signed),
+        Expr::Name(name) => build_name(ops, site, name.bytes(), context),
+        Expr::Bit(name, place) => build_bit(ops, site, name.bytes(), *place, context),
+        Expr::Part(name, high, low) => { build_part(ops, site, name.bytes(), *high, *low, context) }
+        Expr::Literal(number) => build_literal(ops, site, number, context),
         Expr::Concat(parts) => {
             let alone = build_parts(ops, site, parts.as_slice())?;
             Ok(alone.slot)
@@ -255,14 +236,14 @@ pub fn build(
             let alone = build_copies(ops, site, *count, part.get())?;
             Ok(alone.slot)
         }
-        Expr::AsSigned(part) => build_as_signed(ops, site, part.get(), width, signed),
-        Expr::AsUnsigned(part) => build_as_unsigned(ops, site, part.get(), width, signed),
-        Expr::Unary(op, part) => build_unary(ops, site, *op, part.get(), width, signed),
+        Expr::AsSigned(part) => build_as_signed(ops, site, part.get(), context),
+        Expr::AsUnsigned(part) => build_as_unsigned(ops, site, part.get(), context),
+        Expr::Unary(op, part) => build_unary(ops, site, *op, part.get(), context),
         Expr::Binary(op, left, right) => {
-            build_binary(ops, site, *op, left.get(), right.get(), width, signed)
+            build_binary(ops, site, *op, left.get(), right.get(), context)
         }
         Expr::Shift(op, part, amount) => {
-            build_shift(ops, site, *op, part.get(), amount, width, signed)
+            build_shift(ops, site, *op, part.get(), amount, context)
         }
         Expr::Choose(test, chosen, other) => build_choice(
             ops,
@@ -270,8 +251,7 @@ pub fn build(
             test.get(),
             chosen.get(),
             other.get(),
-            width,
-            signed,
+            context,
         ),
     }
 }

@@ -3,7 +3,7 @@ ghost use Rattle.vl_eval.specs.declared.ops.Op.{Op};
 ghost use Rattle.vl_eval.specs.inner.Ops.{AreSettled, IsOrdered, IsSettled};
 ghost use Rattle.vl_eval.specs.inner.Steps.{AreConstants, AreWithin, IsWithin, is_constant, op_in, ops_of};
 
-use crate::ops::{OneOp, Op, TwoOp};
+use crate::ops::{OneOp, Op, Register, TwoOp};
 use crate::steps::{Step, narrow};
 use crate::sweeping::sweep;
 use fx_io::OutOfMemory;
@@ -46,32 +46,38 @@ fn op_in(step: Step, wide: &[Op]) -> Op
             let mask = mask as u128;
             Op::One(OneOp::Select { low, mask }, part as usize)
         }
-        Step::Add { left, right, mask } => {
-            Op::Two(TwoOp::Add(mask as u128), left as usize, right as usize)
-        }
-        Step::Subtract { left, right, mask } => {
-            Op::Two(TwoOp::Subtract(mask as u128), left as usize, right as usize)
-        }
-        Step::Multiply { left, right, mask } => {
-            Op::Two(TwoOp::Multiply(mask as u128), left as usize, right as usize)
-        }
-        Step::And { left, right } => Op::Two(TwoOp::And, left as usize, right as usize),
-        Step::Or { left, right } => Op::Two(TwoOp::Or, left as usize, right as usize),
-        Step::Xor { left, right } => Op::Two(TwoOp::Xor, left as usize, right as usize),
-        Step::Equal { left, right } => Op::Two(TwoOp::Equal, left as usize, right as usize),
-        Step::NotEqual { left, right } => Op::Two(TwoOp::NotEqual, left as usize, right as usize),
-        Step::Less { left, right, half } => {
-            Op::Two(TwoOp::Less(half as u128), left as usize, right as usize)
-        }
-        Step::LessEqual { left, right, half } => {
-            Op::Two(
-                TwoOp::LessEqual(half as u128),
-                left as usize,
-                right as usize,
-            )
-        }
-        Step::Both { left, right } => Op::Two(TwoOp::Both, left as usize, right as usize),
-        Step::Either { left, right } => Op::Two(TwoOp::Either, left as usize, right as usize),
+        Step::Add(pair, mask) => Op::Two(
+            TwoOp::Add(mask as u128),
+            pair.left as usize,
+            pair.right as usize,
+        ),
+        Step::Subtract(pair, mask) => Op::Two(
+            TwoOp::Subtract(mask as u128),
+            pair.left as usize,
+            pair.right as usize,
+        ),
+        Step::Multiply(pair, mask) => Op::Two(
+            TwoOp::Multiply(mask as u128),
+            pair.left as usize,
+            pair.right as usize,
+        ),
+        Step::And(pair) => Op::Two(TwoOp::And, pair.left as usize, pair.right as usize),
+        Step::Or(pair) => Op::Two(TwoOp::Or, pair.left as usize, pair.right as usize),
+        Step::Xor(pair) => Op::Two(TwoOp::Xor, pair.left as usize, pair.right as usize),
+        Step::Equal(pair) => Op::Two(TwoOp::Equal, pair.left as usize, pair.right as usize),
+        Step::NotEqual(pair) => Op::Two(TwoOp::NotEqual, pair.left as usize, pair.right as usize),
+        Step::Less(pair, half) => Op::Two(
+            TwoOp::Less(half as u128),
+            pair.left as usize,
+            pair.right as usize,
+        ),
+        Step::LessEqual(pair, half) => Op::Two(
+            TwoOp::LessEqual(half as u128),
+            pair.left as usize,
+            pair.right as usize,
+        ),
+        Step::Both(pair) => Op::Two(TwoOp::Both, pair.left as usize, pair.right as usize),
+        Step::Either(pair) => Op::Two(TwoOp::Either, pair.left as usize, pair.right as usize),
         Step::Negate { part, mask } => Op::One(OneOp::Negate(mask as u128), part as usize),
         Step::Invert { part, mask } => Op::One(OneOp::Invert(mask as u128), part as usize),
         Step::IsZero { part } => Op::One(OneOp::IsZero, part as usize),
@@ -97,28 +103,18 @@ fn op_in(step: Step, wide: &[Op]) -> Op
             chosen: chosen as usize,
             other: other as usize,
         },
-        Step::Beside {
-            left,
-            right,
-            places,
-        } => Op::Beside {
-            left: left as usize,
-            right: right as usize,
+        Step::Beside(pair, places) => Op::Beside {
+            left: pair.left as usize,
+            right: pair.right as usize,
             places,
         },
-        Step::Next {
-            reset,
-            first,
-            test,
-            value,
-            kept,
-        } => Op::Next {
-            reset: reset as usize,
-            first: first as u128,
-            test: test as usize,
-            value: value as usize,
-            kept: kept as usize,
-        },
+        Step::Next(register) => Op::Next(Register {
+            reset: register.reset as usize,
+            first: register.first as u128,
+            test: register.test as usize,
+            value: register.value as usize,
+            kept: register.kept as usize,
+        }),
         Step::Whole(number) => wide[number],
     }
 }

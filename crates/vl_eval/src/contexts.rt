@@ -9,15 +9,13 @@ use vl_ast::{BinOp, Expr, UnOp};
 use vl_check::Shape;
 
 /// The context of the operand of an operator.
-pub fn unary_context(site: &Site<'_, '_>, op: UnOp, part: &Expr, width: u32, signed: bool) -> Shape
+pub fn unary_context(site: &Site<'_, '_>, op: UnOp, part: &Expr, context: Shape) -> Shape
     requires { is_sound (nets_in site.now.scope.now) part.now ≡ true }
-    ensures { result ≡ unary_context (nets_in site.now.scope.now) op part.now width signed }
+    ensures { result ≡ unary_context (nets_in site.now.scope.now) op part.now context.length
+        context.signed }
 {
     match op {
-        UnOp::Negate | UnOp::Invert => Shape {
-            length: width,
-            signed,
-        },
+        UnOp::Negate | UnOp::Invert => context,
         UnOp::IsZero => shape_of(site, part),
     }
 }
@@ -28,20 +26,16 @@ pub fn left_context(
     op: BinOp,
     left: &Expr,
     right: &Expr,
-    width: u32,
-    signed: bool,
+    context: Shape,
 ) -> Shape
     requires left { is_sound (nets_in site.now.scope.now) left.now ≡ true }
     requires right { is_sound (nets_in site.now.scope.now) right.now ≡ true }
-    ensures { result ≡ left_context (nets_in site.now.scope.now) op left.now right.now width
-        signed }
+    ensures { result ≡ left_context (nets_in site.now.scope.now) op left.now right.now
+        context.length context.signed }
 {
     match op {
         BinOp::Add | BinOp::Subtract | BinOp::Multiply | BinOp::And | BinOp::Or | BinOp::Xor =>
-            Shape {
-                length: width,
-                signed,
-            },
+            context,
         BinOp::Equal
         | BinOp::NotEqual
         | BinOp::Less

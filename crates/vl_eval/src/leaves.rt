@@ -9,25 +9,25 @@ use crate::ops::{OneOp, Op};
 use crate::site::{Site, slot};
 use fx_io::OutOfMemory;
 use vl_ast::{Sized, mask_of, meaning_by_layer};
-use vl_check::net;
+use vl_check::{Shape, net};
 
 /// Adds what extends a name, where it is signed, and gives the place of its value.
 pub fn build_name(
     ops: &mut Code,
     site: &Site<'_, '_>,
     name: &[u8],
-    width: u32,
-    signed: bool,
+    context: Shape,
 ) -> Result<usize, OutOfMemory>
-    requires { CanBuild site.now ops.old width (Name name.now) }
-    ensures { IfOk result (IsBuilt site.now ops.old ops.new width signed (Name name.now)) }
+    requires { CanBuild site.now ops.old context.length (Name name.now) }
+    ensures { IfOk result (IsBuilt site.now ops.old ops.new context (Name name.now)) }
 {
     meaning_by_layer();
     let part = slot(site, name);
-    if !signed {
+    if !context.signed {
         return Ok(part);
     }
-    extend(ops, site.base, part, net(site.scope, name).length, width)
+    let length = net(site.scope, name).length;
+    extend(ops, site.base, part, length, context.length)
 }
 
 /// Adds the operation of a bit, and gives the place of its value.
@@ -36,11 +36,10 @@ pub fn build_bit(
     site: &Site<'_, '_>,
     name: &[u8],
     low: u32,
-    width: u32,
-    signed: bool,
+    context: Shape,
 ) -> Result<usize, OutOfMemory>
-    requires { CanBuild site.now ops.old width (Bit name.now low) }
-    ensures { IfOk result (IsBuilt site.now ops.old ops.new width signed (Bit name.now low)) }
+    requires { CanBuild site.now ops.old context.length (Bit name.now low) }
+    ensures { IfOk result (IsBuilt site.now ops.old ops.new context (Bit name.now low)) }
 {
     meaning_by_layer();
     let part = slot(site, name);
@@ -55,11 +54,10 @@ pub fn build_part(
     name: &[u8],
     high: u32,
     low: u32,
-    width: u32,
-    signed: bool,
+    context: Shape,
 ) -> Result<usize, OutOfMemory>
-    requires { CanBuild site.now ops.old width (Part name.now high low) }
-    ensures { IfOk result (IsBuilt site.now ops.old ops.new width signed (Part name.now high low)) }
+    requires { CanBuild site.now ops.old context.length (Part name.now high low) }
+    ensures { IfOk result (IsBuilt site.now ops.old ops.new context (Part name.now high low)) }
 {
     meaning_by_layer();
     let part = slot(site, name);
@@ -72,12 +70,12 @@ pub fn build_literal(
     ops: &mut Code,
     site: &Site<'_, '_>,
     number: &Sized,
-    width: u32,
-    signed: bool,
+    context: Shape,
 ) -> Result<usize, OutOfMemory>
-    requires { CanBuild site.now ops.old width (Literal number.now) }
-    ensures { IfOk result (IsBuilt site.now ops.old ops.new width signed (Literal number.now)) }
+    requires { CanBuild site.now ops.old context.length (Literal number.now) }
+    ensures { IfOk result (IsBuilt site.now ops.old ops.new context (Literal number.now)) }
 {
     meaning_by_layer();
-    push(ops, site.base, Op::Constant(literal(number, width, signed)))
+    let bits = literal(number, context.length, context.signed);
+    push(ops, site.base, Op::Constant(bits))
 }

@@ -30,7 +30,7 @@ pub fn kind_of(op: Op) -> u64
         Op::One(OneOp::SignedDown { .. }, _) => 19,
         Op::Choose { .. } => 20,
         Op::Beside { .. } => 21,
-        Op::Next { .. } => 22,
+        Op::Next(_) => 22,
     }
 }
 
@@ -78,15 +78,9 @@ pub fn level_of(op: Op, base: usize, levels: &[usize]) -> usize
             chosen,
             other,
         } => level_above_both(test, chosen, base, levels).max(level_above(other, base, levels)),
-        Op::Next {
-            reset,
-            test,
-            value,
-            kept,
-            ..
-        } => {
-            let tests = level_above_both(reset, test, base, levels);
-            tests.max(level_above_both(value, kept, base, levels))
+        Op::Next(register) => {
+            let tests = level_above_both(register.reset, register.test, base, levels);
+            tests.max(level_above_both(register.value, register.kept, base, levels))
         }
     }
 }

@@ -45,6 +45,17 @@ pub enum TwoOp {
     Either,
 }
 
+/// What a register takes: `first` where the value at `reset` is 1, else that at `kept` where that at
+/// `test` is 0, else that at `value`.
+#[derive(Clone, Copy)]
+pub struct Register {
+    pub reset: usize,
+    pub first: u128,
+    pub test: usize,
+    pub value: usize,
+    pub kept: usize,
+}
+
 /// One step of a row: a value from values that stand before it. Widths, signs and contexts are worked
 /// out when it is made, so that it is arithmetic on whole words alone. Operands are places of values.
 #[derive(Clone, Copy)]
@@ -65,14 +76,8 @@ pub enum Op {
         chosen: usize,
         other: usize,
     },
-    /// What a register takes: `first` where `reset` is 1, else `kept` where `test` is 0, else `value`.
-    Next {
-        reset: usize,
-        first: u128,
-        test: usize,
-        value: usize,
-        kept: usize,
-    },
+    /// What a register takes.
+    Next(Register),
 }
 
 /// The word at one of two places, by whether a third is 0.
@@ -161,17 +166,11 @@ pub fn value_of(op: Op, values: &[u128]) -> u128
             chosen: first,
             other,
         } => chosen(values, test, first, other),
-        Op::Next {
-            reset,
-            first,
-            test,
-            value,
-            kept,
-        } => {
-            if values[reset] == 1 {
-                first
+        Op::Next(register) => {
+            if values[register.reset] == 1 {
+                register.first
             } else {
-                chosen(values, test, value, kept)
+                chosen(values, register.test, register.value, register.kept)
             }
         }
     }

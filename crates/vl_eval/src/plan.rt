@@ -183,7 +183,7 @@ fn outputs(alloc: Global, site: &Site<'_, '_>, source: &Module) -> Result<Vec<Ou
             outputs.push(Output {
                 slot: slot(site, port.name.bytes()),
                 width: port.width,
-                signed: port.signed || port.width == 128,
+                signed: port.signed | (port.width == 128),
             })?;
         }
     }

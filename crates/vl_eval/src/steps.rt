@@ -15,6 +15,23 @@ const SHORT: u128 = 0xffff_ffff;
 /// The places that a step can name.
 const PLACES: usize = 1 << 32;
 
+/// The places of two operands.
+#[derive(Clone, Copy)]
+pub struct Pair {
+    pub left: u32,
+    pub right: u32,
+}
+
+/// A `Register` whose places and first number have 32 bits.
+#[derive(Clone, Copy)]
+pub struct ShortRegister {
+    pub reset: u32,
+    pub first: u32,
+    pub test: u32,
+    pub value: u32,
+    pub kept: u32,
+}
+
 /// An operation as it is kept and carried out. Places have 32 bits and numbers 64, a register's first
 /// number 32, and fields stand in the order in which they leave no room: so it has 24 bytes, of which
 /// an operation has 64. Sums, differences and products of words of up to 64 bits are worked out in 64
@@ -32,59 +49,18 @@ pub enum Step {
         low: u32,
         mask: u64,
     },
-    Add {
-        left: u32,
-        right: u32,
-        mask: u64,
-    },
-    Subtract {
-        left: u32,
-        right: u32,
-        mask: u64,
-    },
-    Multiply {
-        left: u32,
-        right: u32,
-        mask: u64,
-    },
-    And {
-        left: u32,
-        right: u32,
-    },
-    Or {
-        left: u32,
-        right: u32,
-    },
-    Xor {
-        left: u32,
-        right: u32,
-    },
-    Equal {
-        left: u32,
-        right: u32,
-    },
-    NotEqual {
-        left: u32,
-        right: u32,
-    },
-    Less {
-        left: u32,
-        right: u32,
-        half: u64,
-    },
-    LessEqual {
-        left: u32,
-        right: u32,
-        half: u64,
-    },
-    Both {
-        left: u32,
-        right: u32,
-    },
-    Either {
-        left: u32,
-        right: u32,
-    },
+    Add(Pair, u64),
+    Subtract(Pair, u64),
+    Multiply(Pair, u64),
+    And(Pair),
+    Or(Pair),
+    Xor(Pair),
+    Equal(Pair),
+    NotEqual(Pair),
+    Less(Pair, u64),
+    LessEqual(Pair, u64),
+    Both(Pair),
+    Either(Pair),
     Negate {
         part: u32,
         mask: u64,
@@ -112,18 +88,8 @@ pub enum Step {
         chosen: u32,
         other: u32,
     },
-    Beside {
-        left: u32,
-        right: u32,
-        places: u32,
-    },
-    Next {
-        reset: u32,
-        first: u32,
-        test: u32,
-        value: u32,
-        kept: u32,
-    },
+    Beside(Pair, u32),
+    Next(ShortRegister),
     /// The operation of this number among those that no other step can be.
     Whole(usize),
 }
@@ -176,43 +142,24 @@ fn step_of_one(op: OneOp, part: u32) -> Option<Step>
 }
 
 /// The step of an operation on two values, if it can hold its number.
-fn step_of_two(op: TwoOp, left: u32, right: u32) -> Option<Step>
+fn step_of_two(op: TwoOp, pair: Pair) -> Option<Step>
     ensures within { IfSome result (λ step. (count : ℕ) → IsWithin count step) }
-    ensures held { IfSome result (λ step. (wide : List Op) → op_in wide step ≡ Two op left right) }
+    ensures held { IfSome result (λ step. (wide : List Op) → op_in wide step
+        ≡ Two op pair.left pair.right) }
 {
     let step = match op {
-        TwoOp::Add(mask) if mask <= LONGEST => Step::Add {
-            left,
-            right,
-            mask: mask as u64,
-        },
-        TwoOp::Subtract(mask) if mask <= LONGEST => Step::Subtract {
-            left,
-            right,
-            mask: mask as u64,
-        },
-        TwoOp::Multiply(mask) if mask <= LONGEST => Step::Multiply {
-            left,
-            right,
-            mask: mask as u64,
-        },
-        TwoOp::And => Step::And { left, right },
-        TwoOp::Or => Step::Or { left, right },
-        TwoOp::Xor => Step::Xor { left, right },
-        TwoOp::Equal => Step::Equal { left, right },
-        TwoOp::NotEqual => Step::NotEqual { left, right },
-        TwoOp::Less(half) if half <= LONGEST => Step::Less {
-            left,
-            right,
-            half: half as u64,
-        },
-        TwoOp::LessEqual(half) if half <= LONGEST => Step::LessEqual {
-            left,
-            right,
-            half: half as u64,
-        },
-        TwoOp::Both => Step::Both { left, right },
-        TwoOp::Either => Step::Either { left, right },
+        TwoOp::Add(mask) if mask <= LONGEST => Step::Add(pair, mask as u64),
+        TwoOp::Subtract(mask) if mask <= LONGEST => Step::Subtract(pair, mask as u64),
+        TwoOp::Multiply(mask) if mask <= LONGEST => Step::Multiply(pair, mask as u64),
+        TwoOp::And => Step::And(pair),
+        TwoOp::Or => Step::Or(pair),
+        TwoOp::Xor => Step::Xor(pair),
+        TwoOp::Equal => Step::Equal(pair),
+        TwoOp::NotEqual => Step::NotEqual(pair),
+        TwoOp::Less(half) if half <= LONGEST => Step::Less(pair, half as u64),
+        TwoOp::LessEqual(half) if half <= LONGEST => Step::LessEqual(pair, half as u64),
+        TwoOp::Both => Step::Both(pair),
+        TwoOp::Either => Step::Either(pair),
         _ => return None,
     };
     Some(step)
@@ -227,16 +174,18 @@ fn step_of(op: Op) -> Option<Step>
     let step = match op {
         Op::Constant(bits) if bits <= LONGEST => Step::Constant(bits as u64),
         Op::One(of, part) => return step_of_one(of, part as u32),
-        Op::Two(of, left, right) => return step_of_two(of, left as u32, right as u32),
+        Op::Two(of, left, right) => {
+            let (left, right) = (left as u32, right as u32);
+            return step_of_two(of, Pair { left, right });
+        }
         Op::Beside {
             left,
             right,
             places,
-        } => Step::Beside {
-            left: left as u32,
-            right: right as u32,
-            places,
-        },
+        } => {
+            let (left, right) = (left as u32, right as u32);
+            Step::Beside(Pair { left, right }, places)
+        }
         Op::Choose {
             test,
             chosen,
@@ -246,19 +195,13 @@ fn step_of(op: Op) -> Option<Step>
             chosen: chosen as u32,
             other: other as u32,
         },
-        Op::Next {
-            reset,
-            first,
-            test,
-            value,
-            kept,
-        } if first <= SHORT => Step::Next {
-            reset: reset as u32,
-            first: first as u32,
-            test: test as u32,
-            value: value as u32,
-            kept: kept as u32,
-        },
+        Op::Next(register) if register.first <= SHORT => Step::Next(ShortRegister {
+            reset: register.reset as u32,
+            first: register.first as u32,
+            test: register.test as u32,
+            value: register.value as u32,
+            kept: register.kept as u32,
+        }),
         _ => return None,
     };
     Some(step)
@@ -277,13 +220,12 @@ fn are_few(op: Op) -> bool
             chosen,
             other,
         } => test < PLACES && chosen < PLACES && other < PLACES,
-        Op::Next {
-            reset,
-            test,
-            value,
-            kept,
-            ..
-        } => reset < PLACES && test < PLACES && value < PLACES && kept < PLACES,
+        Op::Next(register) => {
+            register.reset < PLACES
+                && register.test < PLACES
+                && register.value < PLACES
+                && register.kept < PLACES
+        }
     }
 }
 

@@ -3,7 +3,7 @@ ghost use Rattle.vl_eval.specs.inner.Ops.{AreSettled, IsOrdered, IsSettled, op_v
 ghost use Rattle.vl_eval.specs.inner.Steps.{AreWithin, IsWithin, op_in, ops_of};
 
 use crate::ops::{Op, chosen, signed_down, value_of};
-use crate::steps::{LONGEST, Step};
+use crate::steps::{LONGEST, Pair, Step};
 
 /// The low 64 bits.
 fn low(bits: u128) -> u64
@@ -42,12 +42,12 @@ fn product(left: u128, right: u128, mask: u64) -> u128
 }
 
 /// The words at two places.
-fn words(values: &[u128], left: u32, right: u32) -> (u128, u128)
-    requires { (left < length values.now) × (right < length values.now) }
-    ensures left { result.0 ≡ slice_index values.now left }
-    ensures right { result.1 ≡ slice_index values.now right }
+fn words(values: &[u128], pair: Pair) -> (u128, u128)
+    requires { (pair.left < length values.now) × (pair.right < length values.now) }
+    ensures left { result.0 ≡ slice_index values.now pair.left }
+    ensures right { result.1 ≡ slice_index values.now pair.right }
 {
-    (values[left as usize], values[right as usize])
+    (values[pair.left as usize], values[pair.right as usize])
 }
 
 /// What an operation gives, by its step.
@@ -60,54 +60,54 @@ fn value_by(step: Step, wide: &[Op], values: &[u128]) -> u128
         Step::Constant(bits) => bits as u128,
         Step::Extended { part, half, fill } => extended(values[part as usize], half, fill),
         Step::Select { part, low, mask } => (values[part as usize] >> low) & mask as u128,
-        Step::Add { left, right, mask } => {
-            let (left, right) = words(values, left, right);
+        Step::Add(pair, mask) => {
+            let (left, right) = words(values, pair);
             sum(left, right, mask)
         }
-        Step::Subtract { left, right, mask } => {
-            let (left, right) = words(values, left, right);
+        Step::Subtract(pair, mask) => {
+            let (left, right) = words(values, pair);
             difference(left, right, mask)
         }
-        Step::Multiply { left, right, mask } => {
-            let (left, right) = words(values, left, right);
+        Step::Multiply(pair, mask) => {
+            let (left, right) = words(values, pair);
             product(left, right, mask)
         }
-        Step::And { left, right } => {
-            let (left, right) = words(values, left, right);
+        Step::And(pair) => {
+            let (left, right) = words(values, pair);
             left & right
         }
-        Step::Or { left, right } => {
-            let (left, right) = words(values, left, right);
+        Step::Or(pair) => {
+            let (left, right) = words(values, pair);
             left | right
         }
-        Step::Xor { left, right } => {
-            let (left, right) = words(values, left, right);
+        Step::Xor(pair) => {
+            let (left, right) = words(values, pair);
             left ^ right
         }
-        Step::Equal { left, right } => {
-            let (left, right) = words(values, left, right);
+        Step::Equal(pair) => {
+            let (left, right) = words(values, pair);
             (left == right) as u128
         }
-        Step::NotEqual { left, right } => {
-            let (left, right) = words(values, left, right);
+        Step::NotEqual(pair) => {
+            let (left, right) = words(values, pair);
             (left != right) as u128
         }
-        Step::Less { left, right, half } => {
-            let (left, right) = words(values, left, right);
+        Step::Less(pair, half) => {
+            let (left, right) = words(values, pair);
             let half = half as u128;
             (left ^ half < right ^ half) as u128
         }
-        Step::LessEqual { left, right, half } => {
-            let (left, right) = words(values, left, right);
+        Step::LessEqual(pair, half) => {
+            let (left, right) = words(values, pair);
             let half = half as u128;
             (left ^ half <= right ^ half) as u128
         }
-        Step::Both { left, right } => {
-            let (left, right) = words(values, left, right);
+        Step::Both(pair) => {
+            let (left, right) = words(values, pair);
             ((left != 0) & (right != 0)) as u128
         }
-        Step::Either { left, right } => {
-            let (left, right) = words(values, left, right);
+        Step::Either(pair) => {
+            let (left, right) = words(values, pair);
             ((left != 0) | (right != 0)) as u128
         }
         Step::Negate { part, mask } => 0u128.wrapping_sub(values[part as usize]) & mask as u128,
@@ -130,24 +130,15 @@ fn value_by(step: Step, wide: &[Op], values: &[u128]) -> u128
             chosen: first,
             other,
         } => chosen(values, test as usize, first as usize, other as usize),
-        Step::Beside {
-            left,
-            right,
-            places,
-        } => {
-            let (left, right) = words(values, left, right);
+        Step::Beside(pair, places) => {
+            let (left, right) = words(values, pair);
             (left << places).wrapping_add(right)
         }
-        Step::Next {
-            reset,
-            first,
-            test,
-            value,
-            kept,
-        } => {
-            if values[reset as usize] == 1 {
-                first as u128
+        Step::Next(register) => {
+            if values[register.reset as usize] == 1 {
+                register.first as u128
             } else {
+                let (test, value, kept) = (register.test, register.value, register.kept);
                 chosen(values, test as usize, value as usize, kept as usize)
             }
         }

@@ -13,7 +13,7 @@ each_of P (One op part) = P part
 each_of P (Two op left right) = P left × P right
 each_of P (Beside left right places) = P left × P right
 each_of P (Choose test chosen other) = P test × P chosen × P other
-each_of P (Next reset first test value kept) = P reset × P test × P value × P kept
+each_of P (Next register) = P register.reset × P register.test × P register.value × P register.kept
 
 -- the same operation over other places
 abbrev pub renamed : (ℕ → ℕ) → Op → Op
@@ -22,7 +22,7 @@ renamed f (One op part) = One op (f part)
 renamed f (Two op left right) = Two op (f left) (f right)
 renamed f (Beside left right places) = Beside (f left) (f right) places
 renamed f (Choose test chosen other) = Choose (f test) (f chosen) (f other)
-renamed f (Next reset first test value kept) = Next (f reset) first (f test) (f value) (f kept)
+renamed f (Next register) = Next (record { reset = f register.reset; first = register.first; test = f register.test; value = f register.value; kept = f register.kept })
 
 -- a place is fixed, or that of an operation below this level
 abbrev pub IsAbove : ℕ → List ℕ → ℕ → ℕ → Type 0

@@ -42,7 +42,7 @@ op_value (One op part) at = one_value op (at part)
 op_value (Two op left right) at = two_value op (at left) (at right)
 op_value (Beside left right places) at = (at left * 2 ^ places % 2 ^ 128 + at right) % 2 ^ 128
 op_value (Choose test chosen other) at = if at test == 0 then at other else at chosen
-op_value (Next reset first test value kept) at = if at reset == 1 then first else (if at test == 0 then at kept else at value)
+op_value (Next register) at = if at register.reset == 1 then register.first else (if at register.test == 0 then at register.kept else at register.value)
 
 -- whether an operation shifts by less than a word
 abbrev pub shifts_within : OneOp → Type 0
@@ -61,7 +61,7 @@ reads_below (One op part) end = (part < end) × shifts_within op
 reads_below (Two op left right) end = (left < end) × (right < end)
 reads_below (Beside left right places) end = (left < end) × (right < end) × (places < 128)
 reads_below (Choose test chosen other) end = (test < end) × (chosen < end) × (other < end)
-reads_below (Next reset first test value kept) end = (reset < end) × (test < end) × (value < end) × (kept < end)
+reads_below (Next register) end = (register.reset < end) × (register.test < end) × (register.value < end) × (register.kept < end)
 
 -- each operation reads what stands before its own place
 pub record IsOrdered (base : ℕ) (ops : List Op) : Type 0 where

@@ -5,6 +5,7 @@ use Rattle.vl_ast.specs.Conditions.{is_sound}
 use Rattle.vl_ast.specs.Context.{own_length, is_signed}
 use Rattle.vl_ast.specs.Nets.{names_read}
 use Rattle.vl_check.specs.declared.scope.Scope.{Scope}
+use Rattle.vl_check.specs.declared.shapes.Shape.{Shape}
 use Rattle.vl_check.specs.Scope.{nets_in, number_in}
 use Rattle.vl_eval.specs.declared.ops.Op.{Op}
 use Rattle.vl_eval.specs.declared.site.Alone.{Alone}
@@ -44,5 +45,13 @@ pub record CanBuild (site : Site) (ops : List Op) (width : ℕ) (e : Expr) : Typ
   pub placed : ArePlaced site.base site.scope.now site.slots.now ops (names_read e)
 
 -- and what it gives
-abbrev pub IsBuilt : Site → List Op → List Op → ℕ → Bool → Expr → ℕ → Type 0
-IsBuilt site before after width signed e slot = Built site.base site.scope.now site.slots.now before after slot width signed e
+abbrev pub IsBuilt : Site → List Op → List Op → Shape → Expr → ℕ → Type 0
+IsBuilt site before after context e slot = Built site.base site.scope.now site.slots.now before after slot context.length context.signed e
+
+-- the same in the context that the expression makes by itself
+pub record CanBuildAlone (site : Site) (ops : List Op) (e : Expr) : Type 0 where
+  pub sound : is_sound (nets_in site.scope.now) e ≡ true
+  pub placed : ArePlaced site.base site.scope.now site.slots.now ops (names_read e)
+
+abbrev pub IsBuiltAlone : Site → List Op → List Op → Expr → Alone → Type 0
+IsBuiltAlone site before after e alone = BuiltAlone site.base site.scope.now site.slots.now before after alone e

@@ -12,26 +12,26 @@ abbrev pub op_in : List Op → Step → Op
 op_in wide (ConstantStep bits) = Constant bits
 op_in wide (ExtendedStep part half fill) = One (Extended half fill) part
 op_in wide (SelectStep part low mask) = One (Select low mask) part
-op_in wide (AddStep left right mask) = Two (Add mask) left right
-op_in wide (SubtractStep left right mask) = Two (Subtract mask) left right
-op_in wide (MultiplyStep left right mask) = Two (Multiply mask) left right
-op_in wide (AndStep left right) = Two And left right
-op_in wide (OrStep left right) = Two Or left right
-op_in wide (XorStep left right) = Two Xor left right
-op_in wide (EqualStep left right) = Two Equal left right
-op_in wide (NotEqualStep left right) = Two NotEqual left right
-op_in wide (LessStep left right half) = Two (Less half) left right
-op_in wide (LessEqualStep left right half) = Two (LessEqual half) left right
-op_in wide (BothStep left right) = Two Both left right
-op_in wide (EitherStep left right) = Two Either left right
+op_in wide (AddStep pair mask) = Two (Add mask) pair.left pair.right
+op_in wide (SubtractStep pair mask) = Two (Subtract mask) pair.left pair.right
+op_in wide (MultiplyStep pair mask) = Two (Multiply mask) pair.left pair.right
+op_in wide (AndStep pair) = Two And pair.left pair.right
+op_in wide (OrStep pair) = Two Or pair.left pair.right
+op_in wide (XorStep pair) = Two Xor pair.left pair.right
+op_in wide (EqualStep pair) = Two Equal pair.left pair.right
+op_in wide (NotEqualStep pair) = Two NotEqual pair.left pair.right
+op_in wide (LessStep pair half) = Two (Less half) pair.left pair.right
+op_in wide (LessEqualStep pair half) = Two (LessEqual half) pair.left pair.right
+op_in wide (BothStep pair) = Two Both pair.left pair.right
+op_in wide (EitherStep pair) = Two Either pair.left pair.right
 op_in wide (NegateStep part mask) = One (Negate mask) part
 op_in wide (InvertStep part mask) = One (Invert mask) part
 op_in wide (IsZeroStep part) = One IsZero part
 op_in wide (UpStep part places mask) = One (Up places mask) part
 op_in wide (SignedDownStep places part half mask) = One (SignedDown places half mask) part
 op_in wide (ChooseStep test chosen other) = Choose test chosen other
-op_in wide (BesideStep left right places) = Beside left right places
-op_in wide (NextStep reset first test value kept) = Next reset first test value kept
+op_in wide (BesideStep pair places) = Beside pair.left pair.right places
+op_in wide (NextStep register) = Next (record { reset = register.reset; first = register.first; test = register.test; value = register.value; kept = register.kept })
 op_in wide (Whole number) = slice_index_or wide number (Constant 0)
 
 -- the number of a step is one of so many

@@ -2,7 +2,7 @@ use Rattle.std.proofs.Common.{◌≤◌, ap, arith}
 use Rattle.vl_ast.specs.Context.{Net}
 use Rattle.vl_ast.specs.Nets.{condition_names, names_read}
 use Rattle.vl_eval.proofs.Assigns.{captures-next, own-few, placed-rest}
-use Rattle.vl_eval.proofs.Grown.{placed-later, placed-left, placed-right}
+use Rattle.vl_eval.proofs.Builds.{placed-later, placed-left, placed-right}
 use Rattle.std.proofs.lemmas.Result.{IfOk-weaker}
 use Rattle.vl_eval.proofs.assigning.build_next.Goals as goal
 use Rattle.vl_eval.proofs.assigning.build_next.Goals.{After-net-width}

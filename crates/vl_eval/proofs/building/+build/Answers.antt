@@ -9,26 +9,26 @@ use Rattle.vl_eval.specs.declared.site.Site.{Site}
 use Rattle.vl_eval.specs.inner.Built.{shift_op}
 use Rattle.vl_eval.specs.inner.Shown.{Pushed}
 use Rattle.vl_eval.specs.inner.Site.{ArePlaced, Built, CanBuild, IsBuilt}
+use Rattle.std.proofs.lemmas.Bool.{not-false, not-true}
 use Rattle.std.proofs.lemmas.Result.{IfOk-weaker}
 use Rattle.vl_eval.proofs.Operands.{sound-unary, names-unary, sound-as-signed, length-as-signed, names-as-signed, sound-as-unsigned, names-as-unsigned, sound-binary, names-binary, sound-shift, length-shift, names-shift, sound-choose, length-choose, names-choose, sound-repeat, length-repeat, sign-repeat, names-repeat, sound-concat, length-concat, sign-concat, names-concat}
 use Rattle.vl_eval.proofs.Rooms.{room-in, unary-room, left-context-room, right-context-room}
 use Rattle.vl_eval.proofs.SideBySide.{Copied, Joined, beside-grows, built-copies, built-no-parts, built-parts, copied-more, copied-one, copies-few, joined-all, joined-more, lengths-more, one-copy, part-in, part-placed, part-size, part-sound, parts-few, parts-more, shows-alone-too, value-at}
-use Rattle.vl_eval.proofs.Grown.{grows-more, grows-none, placed-left, placed-right, placed-later}
-use Rattle.vl_eval.proofs.Builds.{built-unary, built-binary, built-as-signed, built-as-signed-plain, built-as-unsigned, built-shift, built-choice}
+use Rattle.vl_eval.proofs.Builds.{built-unary, built-binary, built-as-signed, built-as-signed-plain, built-as-unsigned, built-shift, built-choice, grows-more, grows-none, placed-left, placed-right, placed-later}
 use Rattle.vl_eval.proofs.building.+build.Given as given
 use Rattle.vl_eval.proofs.building.+build.Goals as goal
 
 placed : (site : Site) (ops : List Op) (names names' : List (List ℕ)) → names ≡ names' → ArePlaced site.base site.scope.now site.slots.now ops names → ArePlaced site.base site.scope.now site.slots.now ops names'
 placed site ops names names' e p = subst (λ ns. ArePlaced site.base site.scope.now site.slots.now ops ns) e p
 
-pub build_unary-unary_context-context-requires : goal.build_unary-unary_context-context-requires
-build_unary-unary_context-context-requires t c = sound-unary (nets_in c.args.site.now.scope.now) c.args.op c.args.part.now c.requires.sound
+pub build_unary-unary_context-inner-requires : goal.build_unary-unary_context-inner-requires
+build_unary-unary_context-inner-requires t c = sound-unary (nets_in c.args.site.now.scope.now) c.args.op c.args.part.now c.requires.sound
 
 pub build_unary-build-requires : goal.build_unary-build-requires
 build_unary-build-requires t c =
     let site = c.args.site.now in
     let nets = nets_in site.scope.now in
-    let room = room-in (own_length nets c.args.part.now) _ _ c.unary_context-context.ensures (unary-room nets c.args.op c.args.part.now c.args.width c.args.signed c.requires.sound c.requires.longer c.requires.most) in
+    let room = room-in (own_length nets c.args.part.now) _ _ c.unary_context-inner.ensures (unary-room nets c.args.op c.args.part.now c.args.context.length c.args.context.signed c.requires.sound c.requires.longer c.requires.most) in
     let names = placed site c.args.ops.now _ _ (names-unary nets c.args.op c.args.part.now) c.requires.placed in
     (omega arith, record { sound = sound-unary nets c.args.op c.args.part.now c.requires.sound; longer = room.0; most = room.1; placed = names })
 
@@ -38,20 +38,20 @@ build_unary-mask_of-requires t c = c.requires.most
 pub build_unary-returns : goal.build_unary-returns
 build_unary-returns t c =
     let site = c.args.site.now in
-    IfOk-weaker c.push.result _ _ (λ slot p. built-unary c.meaning_by_layer.ensures.value site.base site.scope.now site.slots.now c.args.op c.args.part.now c.args.ops.now c.build.new.ops c.push.new.ops c.in_ok-slot.slot slot c.args.width c.mask_of.result c.args.signed c.unary_context-context.result
-    c.requires.sound c.requires.longer c.requires.most c.mask_of.ensures c.unary_context-context.ensures c.in_ok-slot.ensures
+    IfOk-weaker c.push.result _ _ (λ slot p. built-unary c.meaning_by_layer.ensures.value site.base site.scope.now site.slots.now c.args.op c.args.part.now c.args.ops.now c.build.new.ops c.push.new.ops c.in_ok-slot.slot slot c.args.context.length c.mask_of.result c.args.context.signed c.unary_context-inner.result
+    c.requires.sound c.requires.longer c.requires.most c.mask_of.ensures c.unary_context-inner.ensures c.in_ok-slot.ensures
     (subst (λ o. Pushed site.base c.build.new.ops c.push.new.ops slot o) c.unary_op.ensures p)) c.push.ensures
 
 pub build_as_signed-build_alone-requires : goal.build_as_signed-build_alone-requires
 build_as_signed-build_alone-requires t c =
     let nets = nets_in c.args.site.now.scope.now in
-    (omega arith, (sound-as-signed nets c.args.part.now c.requires.sound, placed c.args.site.now c.args.ops.now _ _ (names-as-signed nets c.args.part.now) c.requires.placed))
+    (omega arith, record { sound = sound-as-signed nets c.args.part.now c.requires.sound; placed = placed c.args.site.now c.args.ops.now _ _ (names-as-signed nets c.args.part.now) c.requires.placed })
 
-pub build_as_signed-returns-then-not-signed : goal.build_as_signed-returns-then-not-signed
-build_as_signed-returns-then-not-signed t c =
+pub build_as_signed-returns-then-not-context : goal.build_as_signed-returns-then-not-context
+build_as_signed-returns-then-not-context t c =
     let site = c.args.site.now in
     let own = c.in_ok-own.ensures in
-    built-as-signed-plain c.meaning_by_layer.ensures.value site.base site.scope.now site.slots.now c.args.part.now c.args.ops.now c.build_alone.new.ops c.in_ok-own.own.slot c.args.width c.args.signed c.in_ok-own.own.shape own.length own.sign c.if-not-signed.true own.built
+    built-as-signed-plain c.meaning_by_layer.ensures.value site.base site.scope.now site.slots.now c.args.part.now c.args.ops.now c.build_alone.new.ops c.in_ok-own.own.slot c.args.context.length c.args.context.signed c.in_ok-own.own.shape own.length own.sign (not-true c.args.context.signed c.if-not-context.true) own.built
 
 pub build_as_signed-extend-requires-clause-longer : goal.build_as_signed-extend-requires-clause-longer
 build_as_signed-extend-requires-clause-longer t c = let l = length-as-signed (nets_in c.args.site.now.scope.now) c.args.part.now in let own = c.in_ok-own.ensures.length in omega (arith, l, own, c.requires.longer)
@@ -63,19 +63,19 @@ pub build_as_signed-returns : goal.build_as_signed-returns
 build_as_signed-returns t c =
     let site = c.args.site.now in
     let own = c.in_ok-own.ensures in
-    IfOk-weaker c.extend.result _ _ (λ slot x. built-as-signed c.meaning_by_layer.ensures.value site.base site.scope.now site.slots.now c.args.part.now c.args.ops.now c.build_alone.new.ops c.extend.new.ops c.in_ok-own.own.slot slot c.args.width c.args.signed c.in_ok-own.own.shape
-    c.requires.sound c.requires.longer c.requires.most own.length own.sign c.if-not-signed.false own.built x) c.extend.ensures
+    IfOk-weaker c.extend.result _ _ (λ slot x. built-as-signed c.meaning_by_layer.ensures.value site.base site.scope.now site.slots.now c.args.part.now c.args.ops.now c.build_alone.new.ops c.extend.new.ops c.in_ok-own.own.slot slot c.args.context.length c.args.context.signed c.in_ok-own.own.shape
+    c.requires.sound c.requires.longer c.requires.most own.length own.sign (not-false c.args.context.signed c.if-not-context.false) own.built x) c.extend.ensures
 
 pub build_as_unsigned-build_alone-requires : goal.build_as_unsigned-build_alone-requires
 build_as_unsigned-build_alone-requires t c =
     let nets = nets_in c.args.site.now.scope.now in
-    (omega arith, (sound-as-unsigned nets c.args.part.now c.requires.sound, placed c.args.site.now c.args.ops.now _ _ (names-as-unsigned nets c.args.part.now) c.requires.placed))
+    (omega arith, record { sound = sound-as-unsigned nets c.args.part.now c.requires.sound; placed = placed c.args.site.now c.args.ops.now _ _ (names-as-unsigned nets c.args.part.now) c.requires.placed })
 
 pub build_as_unsigned-returns : goal.build_as_unsigned-returns
 build_as_unsigned-returns t c =
     let site = c.args.site.now in
     let own = c.in_ok-own.ensures in
-    built-as-unsigned c.meaning_by_layer.ensures.value site.base site.scope.now site.slots.now c.args.part.now c.args.ops.now c.build_alone.new.ops c.in_ok-own.own.slot c.args.width c.args.signed c.in_ok-own.own.shape own.length own.sign own.built
+    built-as-unsigned c.meaning_by_layer.ensures.value site.base site.scope.now site.slots.now c.args.part.now c.args.ops.now c.build_alone.new.ops c.in_ok-own.own.slot c.args.context.length c.args.context.signed c.in_ok-own.own.shape own.length own.sign own.built
 
 pub build_binary-left_context-on_left-requires-clause-left : goal.build_binary-left_context-on_left-requires-clause-left
 build_binary-left_context-on_left-requires-clause-left t c = (sound-binary (nets_in c.args.site.now.scope.now) c.args.op c.args.left.now c.args.right.now c.requires.sound).0
@@ -93,7 +93,7 @@ pub build_binary-build-requires : goal.build_binary-build-requires
 build_binary-build-requires t c =
     let site = c.args.site.now in
     let nets = nets_in site.scope.now in
-    let room = room-in (own_length nets c.args.left.now) _ _ c.left_context-on_left.ensures (left-context-room nets c.args.op c.args.left.now c.args.right.now c.args.width c.args.signed c.requires.sound c.requires.longer c.requires.most) in
+    let room = room-in (own_length nets c.args.left.now) _ _ c.left_context-on_left.ensures (left-context-room nets c.args.op c.args.left.now c.args.right.now c.args.context.length c.args.context.signed c.requires.sound c.requires.longer c.requires.most) in
     let all = placed site c.args.ops.now _ _ (names-binary nets c.args.op c.args.left.now c.args.right.now) c.requires.placed in
     let names = placed-left c.meaning_by_layer.ensures.value site.base site.scope.now site.slots.now c.args.ops.now (names_read c.args.left.now) (names_read c.args.right.now) all in
     (omega arith, record { sound = (sound-binary nets c.args.op c.args.left.now c.args.right.now c.requires.sound).0; longer = room.0; most = room.1; placed = names })
@@ -102,7 +102,7 @@ pub build_binary-build-requires-2 : goal.build_binary-build-requires-2
 build_binary-build-requires-2 t c =
     let site = c.args.site.now in
     let nets = nets_in site.scope.now in
-    let room = room-in (own_length nets c.args.right.now) _ _ c.left_context-on_right.ensures (right-context-room nets c.args.op c.args.left.now c.args.right.now c.args.width c.args.signed c.requires.sound c.requires.longer c.requires.most) in
+    let room = room-in (own_length nets c.args.right.now) _ _ c.left_context-on_right.ensures (right-context-room nets c.args.op c.args.left.now c.args.right.now c.args.context.length c.args.context.signed c.requires.sound c.requires.longer c.requires.most) in
     let all = placed site c.args.ops.now _ _ (names-binary nets c.args.op c.args.left.now c.args.right.now) c.requires.placed in
     let right = placed-right c.meaning_by_layer.ensures.value site.base site.scope.now site.slots.now c.args.ops.now (names_read c.args.left.now) (names_read c.args.right.now) all in
     let names = placed-later c.meaning_by_layer.ensures.value site.base site.scope.now site.slots.now c.args.ops.now c.build.new.ops (names_read c.args.right.now) c.in_ok-first.ensures.grows right in
@@ -112,7 +112,7 @@ pub build_binary-half_in-requires : goal.build_binary-half_in-requires
 build_binary-half_in-requires t c =
     let site = c.args.site.now in
     let nets = nets_in site.scope.now in
-    let room = left-context-room nets c.args.op c.args.left.now c.args.right.now c.args.width c.args.signed c.requires.sound c.requires.longer c.requires.most in
+    let room = left-context-room nets c.args.op c.args.left.now c.args.right.now c.args.context.length c.args.context.signed c.requires.sound c.requires.longer c.requires.most in
     (room-in (own_length nets c.args.left.now) _ _ c.left_context-on_left.ensures room).1
 
 pub build_binary-mask_of-requires : goal.build_binary-mask_of-requires
@@ -121,7 +121,7 @@ build_binary-mask_of-requires t c = c.requires.most
 pub build_binary-returns : goal.build_binary-returns
 build_binary-returns t c =
     let site = c.args.site.now in
-    IfOk-weaker c.push.result _ _ (λ slot p. built-binary c.meaning_by_layer.ensures.value site.base site.scope.now site.slots.now c.args.op c.args.left.now c.args.right.now c.args.ops.now c.build.new.ops c.build-2.new.ops c.push.new.ops c.in_ok-first.first c.in_ok-second.second slot c.args.width c.mask_of.result c.half_in.result c.args.signed
+    IfOk-weaker c.push.result _ _ (λ slot p. built-binary c.meaning_by_layer.ensures.value site.base site.scope.now site.slots.now c.args.op c.args.left.now c.args.right.now c.args.ops.now c.build.new.ops c.build-2.new.ops c.push.new.ops c.in_ok-first.first c.in_ok-second.second slot c.args.context.length c.mask_of.result c.half_in.result c.args.context.signed
     c.left_context-on_left.result c.left_context-on_right.result c.requires.sound c.requires.longer c.requires.most c.mask_of.ensures c.left_context-on_left.ensures c.left_context-on_right.ensures c.half_in.ensures c.in_ok-first.ensures c.in_ok-second.ensures
     (subst (λ o. Pushed site.base c.build-2.new.ops c.push.new.ops slot o) c.binary_op.ensures p)) c.push.ensures
 
@@ -131,7 +131,7 @@ build_choice-build_alone-requires t c =
     let nets = nets_in site.scope.now in
     let all = placed site c.args.ops.now _ _ (names-choose nets c.args.test.now c.args.chosen.now c.args.other.now) c.requires.placed in
     let first = placed-left c.meaning_by_layer.ensures.value site.base site.scope.now site.slots.now c.args.ops.now (names_read c.args.test.now) (names_read c.args.chosen.now ++ names_read c.args.other.now) all in
-    (omega arith, ((sound-choose nets c.args.test.now c.args.chosen.now c.args.other.now c.requires.sound).0, first))
+    (omega arith, record { sound = (sound-choose nets c.args.test.now c.args.chosen.now c.args.other.now c.requires.sound).0; placed = first })
 
 pub build_choice-build-requires : goal.build_choice-build-requires
 build_choice-build-requires t c =
@@ -156,7 +156,7 @@ build_choice-build-requires-2 t c =
 pub build_choice-returns : goal.build_choice-returns
 build_choice-returns t c =
     let site = c.args.site.now in
-    IfOk-weaker c.push.result _ _ (λ slot p. built-choice c.meaning_by_layer.ensures.value site.base site.scope.now site.slots.now c.args.test.now c.args.chosen.now c.args.other.now c.args.ops.now c.build_alone.new.ops c.build.new.ops c.build-2.new.ops c.push.new.ops c.in_ok-tested.tested.slot c.in_ok-first.first c.in_ok-second.second slot c.args.width c.args.signed c.in_ok-tested.tested.shape
+    IfOk-weaker c.push.result _ _ (λ slot p. built-choice c.meaning_by_layer.ensures.value site.base site.scope.now site.slots.now c.args.test.now c.args.chosen.now c.args.other.now c.args.ops.now c.build_alone.new.ops c.build.new.ops c.build-2.new.ops c.push.new.ops c.in_ok-tested.tested.slot c.in_ok-first.first c.in_ok-second.second slot c.args.context.length c.args.context.signed c.in_ok-tested.tested.shape
     c.in_ok-tested.ensures.length c.in_ok-tested.ensures.sign c.in_ok-tested.ensures.built c.in_ok-first.ensures c.in_ok-second.ensures p) c.push.ensures
 
 pub build_shift-build-requires : goal.build_shift-build-requires
@@ -174,8 +174,8 @@ build_shift-shift_op-requires t c = c.requires.most
 pub build_shift-returns : goal.build_shift-returns
 build_shift-returns t c =
     let site = c.args.site.now in
-    IfOk-weaker c.push.result _ _ (λ slot p. built-shift c.meaning_by_layer.ensures.value site.base site.scope.now site.slots.now c.args.op c.args.part.now c.args.amount.now c.args.ops.now c.build.new.ops c.push.new.ops c.in_ok-slot.slot slot c.args.width c.args.signed
-    c.requires.sound c.requires.longer c.requires.most c.in_ok-slot.ensures (subst (λ o. Pushed site.base c.build.new.ops c.push.new.ops slot o) (c.shift_op.ensures ∙ ap (λ (places : ℕ). shift_op c.args.op c.in_ok-slot.slot places c.args.width c.args.signed) c.get.ensures) p)) c.push.ensures
+    IfOk-weaker c.push.result _ _ (λ slot p. built-shift c.meaning_by_layer.ensures.value site.base site.scope.now site.slots.now c.args.op c.args.part.now c.args.amount.now c.args.ops.now c.build.new.ops c.push.new.ops c.in_ok-slot.slot slot c.args.context.length c.args.context.signed
+    c.requires.sound c.requires.longer c.requires.most c.in_ok-slot.ensures (subst (λ o. Pushed site.base c.build.new.ops c.push.new.ops slot o) (c.shift_op.ensures ∙ ap (λ (places : ℕ). shift_op c.args.op c.in_ok-slot.slot places c.args.context.length c.args.context.signed) c.get.ensures) p)) c.push.ensures
 
 pub build_copies-build_alone-requires : goal.build_copies-build_alone-requires
 build_copies-build_alone-requires t c =
@@ -183,7 +183,7 @@ build_copies-build_alone-requires t c =
     let nets = nets_in site.scope.now in
     let ok = sound-repeat nets c.args.count c.args.part.now c.requires.sound in
     let names = placed site c.args.ops.now _ _ (names-repeat nets c.args.count c.args.part.now) c.requires.placed in
-    (omega arith, (ok.1, names))
+    (omega arith, record { sound = ok.1; placed = names })
 
 pub build_copies-loop-copy-init : goal.build_copies-loop-copy-init
 build_copies-loop-copy-init t c =
@@ -230,12 +230,12 @@ build_copies-loop-copy-preserved t c =
     }
 
 pub build_copies-returns-clause-built : goal.build_copies-returns-clause-built
-build_copies-returns-clause-built t c = λ width signed.
+build_copies-returns-clause-built t c = λ context.
     let site = c.args.site.now in
     let by_layer = c.meaning_by_layer.ensures.value in
     let ok = sound-repeat (nets_in site.scope.now) c.args.count c.args.part.now c.requires.sound in
-    subst (λ slot. Built site.base site.scope.now site.slots.now c.args.ops.now c.loop-copy.ops slot width signed (Repeat c.args.count c.args.part.now)) (sym c.unsigned.ensures.slot)
-    (built-copies by_layer site.base site.scope.now site.slots.now c.args.count c.args.part.now c.args.ops.now c.loop-copy.ops c.loop-copy.joined c.loop-copy.length width signed
+    subst (λ slot. Built site.base site.scope.now site.slots.now c.args.ops.now c.loop-copy.ops slot context.length context.signed (Repeat c.args.count c.args.part.now)) (sym c.unsigned.ensures.slot)
+    (built-copies by_layer site.base site.scope.now site.slots.now c.args.count c.args.part.now c.args.ops.now c.loop-copy.ops c.loop-copy.joined c.loop-copy.length context.length context.signed
     (subst (λ n. Copied by_layer site.base site.scope.now site.slots.now c.args.ops.now c.loop-copy.ops c.loop-copy.joined c.loop-copy.length n c.args.part.now) (omega (arith, ok.0)) (c.loop-copy.invariant.copied by_layer)))
 
 pub build_copies-returns-clause-own : goal.build_copies-returns-clause-own
@@ -247,7 +247,7 @@ build_copies-returns-clause-own t c =
     let copied = subst (λ n. Copied by_layer site.base site.scope.now site.slots.now c.args.ops.now c.loop-copy.ops c.loop-copy.joined c.loop-copy.length n c.args.part.now) (omega (arith, ok.0)) (c.loop-copy.invariant.copied by_layer) in
     let l = length-repeat nets c.args.count c.args.part.now in
     shows-alone-too by_layer site.base site.scope.now site.slots.now c.args.ops.now c.loop-copy.ops (Repeat c.args.count c.args.part.now) c.unsigned.result
-    (c.unsigned.ensures.length ∙ copied.long ∙ sym l) (sign-repeat nets c.args.count c.args.part.now) (omega (arith, l, ok.2)) c.unsigned.ensures.sign (build_copies-returns-clause-built t c)
+    (c.unsigned.ensures.length ∙ copied.long ∙ sym l) (sign-repeat nets c.args.count c.args.part.now) (omega (arith, l, ok.2)) c.unsigned.ensures.sign (λ width signed. build_copies-returns-clause-built t c (record { length = width; signed = signed }))
 
 pub build_parts-build_alone-requires : goal.build_parts-build_alone-requires
 build_parts-build_alone-requires t c =
@@ -261,11 +261,11 @@ build_parts-build_alone-requires t c =
     let sizes : List Expr → ℕ = (λ (ps : List Expr). given.size-build_parts (record { the-lifetimes = ([], ([], ([], ([], ([], tt))))); ops = c.args.ops; site = c.args.site; parts = record { ref_ptr = c.args.parts.ref_ptr; now = ps } })) in
     let less = part-size sizes (λ x xs. refl) parts c.loop-part.part-index part c.loop-part-test.true c.part-item.is in (
       omega (arith, less),
-      (
-        part-sound by_layer site.base site.scope.now site.slots.now parts c.loop-part.part-index part (sound-concat nets parts c.requires.sound).0 c.loop-part-test.true c.part-item.is,
-        placed-later by_layer site.base site.scope.now site.slots.now c.args.ops.now c.loop-part.ops (names_read part) (c.loop-part.invariant by_layer).grows
-            (part-placed by_layer site.base site.scope.now site.slots.now c.args.ops.now parts part there all),
-      ),
+      record {
+        sound = part-sound by_layer site.base site.scope.now site.slots.now parts c.loop-part.part-index part (sound-concat nets parts c.requires.sound).0 c.loop-part-test.true c.part-item.is;
+        placed = placed-later by_layer site.base site.scope.now site.slots.now c.args.ops.now c.loop-part.ops (names_read part) (c.loop-part.invariant by_layer).grows
+            (part-placed by_layer site.base site.scope.now site.slots.now c.args.ops.now parts part there all);
+      },
     )
 
 pub build_parts-overflow_add-length : goal.build_parts-overflow_add-length
@@ -295,13 +295,13 @@ build_parts-loop-part-preserved t c = λ b.
     c.in_ok-own.ensures.length c.in_ok-own.ensures.sign (c.loop-part.invariant b) c.in_ok-own.ensures.built c.in_ok-joined.ensures)
 
 pub build_parts-returns-then-length-eq0-clause-built : goal.build_parts-returns-then-length-eq0-clause-built
-build_parts-returns-then-length-eq0-clause-built t c = λ width signed.
+build_parts-returns-then-length-eq0-clause-built t c = λ context.
     let site = c.args.site.now in
     let by_layer = c.meaning_by_layer.ensures.value in
     let parts = c.args.parts.now in
     let joined = joined-all by_layer site.base site.scope.now site.slots.now c.args.ops.now c.loop-part.ops c.loop-part.joined c.loop-part.length c.loop-part.part-index parts (omega (arith, c.loop-part-test.false)) (c.loop-part.invariant by_layer) in
-    subst (λ slot. Built site.base site.scope.now site.slots.now c.args.ops.now c.push.new.ops slot width signed (Concat parts)) (sym c.unsigned.ensures.slot)
-    (built-no-parts by_layer site.base site.scope.now site.slots.now parts c.args.ops.now c.loop-part.ops c.push.new.ops c.in_ok-slot.slot c.loop-part.joined c.loop-part.length width signed
+    subst (λ slot. Built site.base site.scope.now site.slots.now c.args.ops.now c.push.new.ops slot context.length context.signed (Concat parts)) (sym c.unsigned.ensures.slot)
+    (built-no-parts by_layer site.base site.scope.now site.slots.now parts c.args.ops.now c.loop-part.ops c.push.new.ops c.in_ok-slot.slot c.loop-part.joined c.loop-part.length context.length context.signed
     joined c.if-length-eq0.true c.in_ok-slot.ensures)
 
 pub build_parts-returns-then-length-eq0-clause-own : goal.build_parts-returns-then-length-eq0-clause-own
@@ -314,16 +314,16 @@ build_parts-returns-then-length-eq0-clause-own t c =
     let l = length-concat nets parts in
     shows-alone-too by_layer site.base site.scope.now site.slots.now c.args.ops.now c.push.new.ops (Concat parts) c.unsigned.result
     (c.unsigned.ensures.length ∙ joined.long ∙ sym l) (sign-concat nets parts) (let few = (sound-concat nets parts c.requires.sound).1 in omega (arith, l, few)) c.unsigned.ensures.sign
-    (build_parts-returns-then-length-eq0-clause-built t c)
+    (λ width signed. build_parts-returns-then-length-eq0-clause-built t c (record { length = width; signed = signed }))
 
 pub build_parts-returns-clause-built : goal.build_parts-returns-clause-built
-build_parts-returns-clause-built t c = λ width signed.
+build_parts-returns-clause-built t c = λ context.
     let site = c.args.site.now in
     let by_layer = c.meaning_by_layer.ensures.value in
     let parts = c.args.parts.now in
     let joined = joined-all by_layer site.base site.scope.now site.slots.now c.args.ops.now c.loop-part.ops c.loop-part.joined c.loop-part.length c.loop-part.part-index parts (omega (arith, c.loop-part-test.false)) (c.loop-part.invariant by_layer) in
-    subst (λ slot. Built site.base site.scope.now site.slots.now c.args.ops.now c.loop-part.ops slot width signed (Concat parts)) (sym c.unsigned-2.ensures.slot)
-    (built-parts by_layer site.base site.scope.now site.slots.now parts c.args.ops.now c.loop-part.ops c.loop-part.joined c.loop-part.length width signed joined (omega (arith, c.if-length-eq0.false)))
+    subst (λ slot. Built site.base site.scope.now site.slots.now c.args.ops.now c.loop-part.ops slot context.length context.signed (Concat parts)) (sym c.unsigned-2.ensures.slot)
+    (built-parts by_layer site.base site.scope.now site.slots.now parts c.args.ops.now c.loop-part.ops c.loop-part.joined c.loop-part.length context.length context.signed joined (omega (arith, c.if-length-eq0.false)))
 
 pub build_parts-returns-clause-own : goal.build_parts-returns-clause-own
 build_parts-returns-clause-own t c =
@@ -335,55 +335,55 @@ build_parts-returns-clause-own t c =
     let l = length-concat nets parts in
     shows-alone-too by_layer site.base site.scope.now site.slots.now c.args.ops.now c.loop-part.ops (Concat parts) c.unsigned-2.result
     (c.unsigned-2.ensures.length ∙ joined.long ∙ sym l) (sign-concat nets parts) (let few = (sound-concat nets parts c.requires.sound).1 in omega (arith, l, few)) c.unsigned-2.ensures.sign
-    (build_parts-returns-clause-built t c)
+    (λ width signed. build_parts-returns-clause-built t c (record { length = width; signed = signed }))
 
 pub build-returns-in_ok-alone-in-Concat : goal.build-returns-in_ok-alone-in-Concat
 build-returns-in_ok-alone-in-Concat t c =
     let site = c.args.site.now in
-    subst (λ e. Built site.base site.scope.now site.slots.now c.args.ops.now c.build_parts.new.ops c.in_ok-alone-in-Concat.alone.slot c.args.width c.args.signed e) (ap Concat c.as_slice.ensures ∙ sym c.in-Concat.is)
-    (c.in_ok-alone-in-Concat.ensures.built c.args.width c.args.signed)
+    subst (λ e. Built site.base site.scope.now site.slots.now c.args.ops.now c.build_parts.new.ops c.in_ok-alone-in-Concat.alone.slot c.args.context.length c.args.context.signed e) (ap Concat c.as_slice.ensures ∙ sym c.in-Concat.is)
+    (c.in_ok-alone-in-Concat.ensures.built c.args.context)
 
 pub build-returns-in_ok-alone-in-Repeat : goal.build-returns-in_ok-alone-in-Repeat
 build-returns-in_ok-alone-in-Repeat t c =
     let site = c.args.site.now in
-    subst (λ e. Built site.base site.scope.now site.slots.now c.args.ops.now c.build_copies.new.ops c.in_ok-alone-in-Repeat.alone.slot c.args.width c.args.signed e) (ap (Repeat c.in-Repeat.count) c.get.ensures ∙ sym c.in-Repeat.is)
-    (c.in_ok-alone-in-Repeat.ensures.built c.args.width c.args.signed)
+    subst (λ e. Built site.base site.scope.now site.slots.now c.args.ops.now c.build_copies.new.ops c.in_ok-alone-in-Repeat.alone.slot c.args.context.length c.args.context.signed e) (ap (Repeat c.in-Repeat.count) c.get.ensures ∙ sym c.in-Repeat.is)
+    (c.in_ok-alone-in-Repeat.ensures.built c.args.context)
 
 pub build-build_name-requires : goal.build-build_name-requires
-build-build_name-requires t c = subst (CanBuild c.args.site.now c.args.ops.now c.args.width) (c.in-Name.is ∙ ap Name (sym c.bytes.ensures)) c.requires
+build-build_name-requires t c = subst (CanBuild c.args.site.now c.args.ops.now c.args.context.length) (c.in-Name.is ∙ ap Name (sym c.bytes.ensures)) c.requires
 
 pub build-returns-in-Name : goal.build-returns-in-Name
-build-returns-in-Name t c = subst (λ e. IfOk c.build_name.result (IsBuilt c.args.site.now c.args.ops.now c.build_name.new.ops c.args.width c.args.signed e)) (sym (c.in-Name.is ∙ ap Name (sym c.bytes.ensures))) c.build_name.ensures
+build-returns-in-Name t c = subst (λ e. IfOk c.build_name.result (IsBuilt c.args.site.now c.args.ops.now c.build_name.new.ops c.args.context e)) (sym (c.in-Name.is ∙ ap Name (sym c.bytes.ensures))) c.build_name.ensures
 
 pub build-build_bit-requires : goal.build-build_bit-requires
-build-build_bit-requires t c = subst (CanBuild c.args.site.now c.args.ops.now c.args.width) (c.in-Bit.is ∙ ap (λ name. Bit name c.in-Bit.place) (sym c.bytes-in-Bit.ensures)) c.requires
+build-build_bit-requires t c = subst (CanBuild c.args.site.now c.args.ops.now c.args.context.length) (c.in-Bit.is ∙ ap (λ name. Bit name c.in-Bit.place) (sym c.bytes-in-Bit.ensures)) c.requires
 
 pub build-returns-in-Bit : goal.build-returns-in-Bit
-build-returns-in-Bit t c = subst (λ e. IfOk c.build_bit.result (IsBuilt c.args.site.now c.args.ops.now c.build_bit.new.ops c.args.width c.args.signed e)) (sym (c.in-Bit.is ∙ ap (λ name. Bit name c.in-Bit.place) (sym c.bytes-in-Bit.ensures))) c.build_bit.ensures
+build-returns-in-Bit t c = subst (λ e. IfOk c.build_bit.result (IsBuilt c.args.site.now c.args.ops.now c.build_bit.new.ops c.args.context e)) (sym (c.in-Bit.is ∙ ap (λ name. Bit name c.in-Bit.place) (sym c.bytes-in-Bit.ensures))) c.build_bit.ensures
 
 pub build-build_part-requires : goal.build-build_part-requires
-build-build_part-requires t c = subst (CanBuild c.args.site.now c.args.ops.now c.args.width) (c.in-Part.is ∙ ap (λ name. Part name c.in-Part.high c.in-Part.low) (sym c.bytes-in-Part.ensures)) c.requires
+build-build_part-requires t c = subst (CanBuild c.args.site.now c.args.ops.now c.args.context.length) (c.in-Part.is ∙ ap (λ name. Part name c.in-Part.high c.in-Part.low) (sym c.bytes-in-Part.ensures)) c.requires
 
 pub build-returns-in-Part : goal.build-returns-in-Part
-build-returns-in-Part t c = subst (λ e. IfOk c.build_part.result (IsBuilt c.args.site.now c.args.ops.now c.build_part.new.ops c.args.width c.args.signed e)) (sym (c.in-Part.is ∙ ap (λ name. Part name c.in-Part.high c.in-Part.low) (sym c.bytes-in-Part.ensures))) c.build_part.ensures
+build-returns-in-Part t c = subst (λ e. IfOk c.build_part.result (IsBuilt c.args.site.now c.args.ops.now c.build_part.new.ops c.args.context e)) (sym (c.in-Part.is ∙ ap (λ name. Part name c.in-Part.high c.in-Part.low) (sym c.bytes-in-Part.ensures))) c.build_part.ensures
 
 pub build-returns-in-AsSigned : goal.build-returns-in-AsSigned
-build-returns-in-AsSigned t c = subst (λ e. IfOk c.build_as_signed.result (IsBuilt c.args.site.now c.args.ops.now c.build_as_signed.new.ops c.args.width c.args.signed e)) (sym (c.in-AsSigned.is ∙ ap AsSigned (sym c.get-in-AsSigned.ensures))) c.build_as_signed.ensures
+build-returns-in-AsSigned t c = subst (λ e. IfOk c.build_as_signed.result (IsBuilt c.args.site.now c.args.ops.now c.build_as_signed.new.ops c.args.context e)) (sym (c.in-AsSigned.is ∙ ap AsSigned (sym c.get-in-AsSigned.ensures))) c.build_as_signed.ensures
 
 pub build-returns-in-Unary : goal.build-returns-in-Unary
-build-returns-in-Unary t c = subst (λ e. IfOk c.build_unary.result (IsBuilt c.args.site.now c.args.ops.now c.build_unary.new.ops c.args.width c.args.signed e)) (sym (c.in-Unary.is ∙ ap (Unary c.in-Unary.op) (sym c.get-in-Unary.ensures))) c.build_unary.ensures
+build-returns-in-Unary t c = subst (λ e. IfOk c.build_unary.result (IsBuilt c.args.site.now c.args.ops.now c.build_unary.new.ops c.args.context e)) (sym (c.in-Unary.is ∙ ap (Unary c.in-Unary.op) (sym c.get-in-Unary.ensures))) c.build_unary.ensures
 
 pub build-returns-in-Binary : goal.build-returns-in-Binary
-build-returns-in-Binary t c = subst (λ e. IfOk c.build_binary.result (IsBuilt c.args.site.now c.args.ops.now c.build_binary.new.ops c.args.width c.args.signed e)) (sym (c.in-Binary.is ∙ ap (λ left. Binary c.in-Binary.op left c.in-Binary.right) (sym c.get-in-Binary.ensures) ∙ ap (Binary c.in-Binary.op c.get-in-Binary.result.now) (sym c.get-in-Binary-2.ensures))) c.build_binary.ensures
+build-returns-in-Binary t c = subst (λ e. IfOk c.build_binary.result (IsBuilt c.args.site.now c.args.ops.now c.build_binary.new.ops c.args.context e)) (sym (c.in-Binary.is ∙ ap (λ left. Binary c.in-Binary.op left c.in-Binary.right) (sym c.get-in-Binary.ensures) ∙ ap (Binary c.in-Binary.op c.get-in-Binary.result.now) (sym c.get-in-Binary-2.ensures))) c.build_binary.ensures
 
 pub build-returns-in-Shift : goal.build-returns-in-Shift
-build-returns-in-Shift t c = subst (λ e. IfOk c.build_shift.result (IsBuilt c.args.site.now c.args.ops.now c.build_shift.new.ops c.args.width c.args.signed e)) (sym (c.in-Shift.is ∙ ap (λ part. Shift c.in-Shift.op part c.in-Shift.amount) (sym c.get-in-Shift.ensures))) c.build_shift.ensures
+build-returns-in-Shift t c = subst (λ e. IfOk c.build_shift.result (IsBuilt c.args.site.now c.args.ops.now c.build_shift.new.ops c.args.context e)) (sym (c.in-Shift.is ∙ ap (λ part. Shift c.in-Shift.op part c.in-Shift.amount) (sym c.get-in-Shift.ensures))) c.build_shift.ensures
 
 pub build-returns-in-Choose : goal.build-returns-in-Choose
-build-returns-in-Choose t c = subst (λ e. IfOk c.build_choice.result (IsBuilt c.args.site.now c.args.ops.now c.build_choice.new.ops c.args.width c.args.signed e)) (sym (c.in-Choose.is ∙ ap (λ test. Choose test c.in-Choose.chosen c.in-Choose.other) (sym c.get-in-Choose.ensures) ∙ ap (λ chosen. Choose c.get-in-Choose.result.now chosen c.in-Choose.other) (sym c.get-in-Choose-2.ensures) ∙ ap (Choose c.get-in-Choose.result.now c.get-in-Choose-2.result.now) (sym c.get-in-Choose-3.ensures))) c.build_choice.ensures
+build-returns-in-Choose t c = subst (λ e. IfOk c.build_choice.result (IsBuilt c.args.site.now c.args.ops.now c.build_choice.new.ops c.args.context e)) (sym (c.in-Choose.is ∙ ap (λ test. Choose test c.in-Choose.chosen c.in-Choose.other) (sym c.get-in-Choose.ensures) ∙ ap (λ chosen. Choose c.get-in-Choose.result.now chosen c.in-Choose.other) (sym c.get-in-Choose-2.ensures) ∙ ap (Choose c.get-in-Choose.result.now c.get-in-Choose-2.result.now) (sym c.get-in-Choose-3.ensures))) c.build_choice.ensures
 
 pub build-build_literal-requires : goal.build-build_literal-requires
-build-build_literal-requires t c = subst (CanBuild c.args.site.now c.args.ops.now c.args.width) c.in-Literal.is c.requires
+build-build_literal-requires t c = subst (CanBuild c.args.site.now c.args.ops.now c.args.context.length) c.in-Literal.is c.requires
 
 pub build_alone-build-requires : goal.build_alone-build-requires
 build_alone-build-requires t c = (omega arith, record { sound = c.requires.sound; longer = omega (arith, c.shape_of-shape.ensures.length); most = c.shape_of-shape.ensures.few; placed = c.requires.placed })

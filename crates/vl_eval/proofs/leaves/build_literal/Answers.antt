@@ -5,17 +5,17 @@ use Rattle.vl_eval.proofs.Operands.{length-literal, sound-literal}
 use Rattle.vl_eval.proofs.Builds.{built-literal}
 use Rattle.vl_eval.proofs.leaves.build_literal.Goals as goal
 
-pub literal-requires-clause-number : goal.literal-requires-clause-number
-literal-requires-clause-number c = sound-literal (nets_in c.args.site.now.scope.now) c.args.number.now c.requires.sound
+pub literal-bits-requires-clause-number : goal.literal-bits-requires-clause-number
+literal-bits-requires-clause-number c = sound-literal (nets_in c.args.site.now.scope.now) c.args.number.now c.requires.sound
 
-pub literal-requires-clause-longer : goal.literal-requires-clause-longer
-literal-requires-clause-longer c = let l = length-literal (nets_in c.args.site.now.scope.now) c.args.number.now in omega (arith, l, c.requires.longer)
+pub literal-bits-requires-clause-longer : goal.literal-bits-requires-clause-longer
+literal-bits-requires-clause-longer c = let l = length-literal (nets_in c.args.site.now.scope.now) c.args.number.now in omega (arith, l, c.requires.longer)
 
-pub literal-requires-clause-most : goal.literal-requires-clause-most
-literal-requires-clause-most c = c.requires.most
+pub literal-bits-requires-clause-most : goal.literal-bits-requires-clause-most
+literal-bits-requires-clause-most c = c.requires.most
 
 pub returns : goal.returns
 returns c =
     let site = c.args.site.now in
-    IfOk-weaker c.push.result _ _ (λ slot p. built-literal c.meaning_by_layer.ensures.value site.base site.scope.now site.slots.now c.args.number.now c.args.ops.now c.push.new.ops c.literal.result slot c.args.width c.args.signed
-    c.literal.ensures p) c.push.ensures
+    IfOk-weaker c.push.result _ _ (λ slot p. built-literal c.meaning_by_layer.ensures.value site.base site.scope.now site.slots.now c.args.number.now c.args.ops.now c.push.new.ops c.literal-bits.result slot c.args.context.length c.args.context.signed
+    c.literal-bits.ensures p) c.push.ensures

@@ -3,22 +3,23 @@ use Rattle.vl_ast.proofs.Places.{head-in}
 use Rattle.std.proofs.Common.{Contains}
 use Rattle.vl_ast.specs.Context.{Net}
 use Rattle.vl_check.specs.Scope.{nets_in}
+use Rattle.std.proofs.lemmas.Bool.{not-false, not-true}
 use Rattle.std.proofs.lemmas.Result.{IfOk-weaker}
 use Rattle.vl_eval.proofs.Operands.{length-name, names-name}
 use Rattle.vl_eval.proofs.Builds.{built-name, built-signed-name}
 use Rattle.vl_eval.proofs.leaves.build_name.Goals as goal
 
-pub returns-then-not-signed : goal.returns-then-not-signed
-returns-then-not-signed c =
+pub returns-then-not-context : goal.returns-then-not-context
+returns-then-not-context c =
     let site = c.args.site.now in
     let below = c.requires.placed.below c.args.name.now (subst (λ ns. Contains ns c.args.name.now) (sym (names-name (nets_in site.scope.now) c.args.name.now)) (head-in c.args.name.now [])) in
-    built-name c.meaning_by_layer.ensures.value site.base site.scope.now site.slots.now c.args.name.now c.args.ops.now c.slot-part.result c.args.width c.args.signed c.slot-part.ensures below c.if-not-signed.true
+    built-name c.meaning_by_layer.ensures.value site.base site.scope.now site.slots.now c.args.name.now c.args.ops.now c.slot-part.result c.args.context.length c.args.context.signed c.slot-part.ensures below (not-true c.args.context.signed c.if-not-context.true)
 
 pub extend-requires-clause-longer : goal.extend-requires-clause-longer
 extend-requires-clause-longer c =
     let nets = nets_in c.args.site.now.scope.now in
     let l = length-name nets c.args.name.now in
-    let e = ap (λ (n : Net). n.width) c.net.ensures in
+    let e = ap (λ (n : Net). n.width) c.net-length.ensures in
     omega (arith, l, e, c.requires.longer)
 
 pub extend-requires-clause-most : goal.extend-requires-clause-most
@@ -30,6 +31,6 @@ returns c =
     let nets = nets_in site.scope.now in
     let below = c.requires.placed.below c.args.name.now (subst (λ ns. Contains ns c.args.name.now) (sym (names-name nets c.args.name.now)) (head-in c.args.name.now [])) in
     let l = length-name nets c.args.name.now in
-    let e = ap (λ (n : Net). n.width) c.net.ensures in
-    IfOk-weaker c.extend.result _ _ (λ slot x. built-signed-name c.meaning_by_layer.ensures.value site.base site.scope.now site.slots.now c.args.name.now c.args.ops.now c.extend.new.ops c.slot-part.result slot c.args.width c.net.result.length c.args.signed
-    c.slot-part.ensures e below (omega (arith, l, e, c.requires.longer)) c.requires.most c.if-not-signed.false x) c.extend.ensures
+    let e = ap (λ (n : Net). n.width) c.net-length.ensures in
+    IfOk-weaker c.extend.result _ _ (λ slot x. built-signed-name c.meaning_by_layer.ensures.value site.base site.scope.now site.slots.now c.args.name.now c.args.ops.now c.extend.new.ops c.slot-part.result slot c.args.context.length c.net-length.result.length c.args.context.signed
+    c.slot-part.ensures e below (omega (arith, l, e, c.requires.longer)) c.requires.most (not-false c.args.context.signed c.if-not-context.false) x) c.extend.ensures

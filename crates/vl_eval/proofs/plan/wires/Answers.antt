@@ -6,8 +6,16 @@ use Rattle.vl_eval.specs.inner.Assigning.{Assigns}
 use Rattle.vl_eval.specs.inner.Planned.{IsWired}
 use Rattle.vl_eval.specs.inner.Site.{ArePlaced}
 use Rattle.vl_eval.proofs.Sounds.{scope-few, scope-sound}
-use Rattle.vl_eval.proofs.Wiring.{in-items, no-assignment, some-assignment, wired-all, wired-more, wired-placed, wired-same}
+use Rattle.vl_eval.proofs.Wiring.{Assigned, in-items, no-assignment, some-assignment, wired-all, wired-more, wired-placed, wired-same}
 use Rattle.vl_eval.proofs.plan.wires.Goals as goal
+use Rattle.vl_eval.proofs.plan.wires.Goals.{In-Some}
+
+-- what the number that the loop looks at assigns
+found : (c : In-Some) → Assigned c.meaning_by_layer.ensures.value c.args.source.now c.args.scope.now c.args.order.now c.args.places.now c.requires.scope c.requires.sound.acyclic.driven c.requires.sound.acyclic.once c.requires.order
+    (slice_index c.args.order.now c.loop-number.number-index) c.in-Some.field-0.name.now c.in-Some.field-0.value.now
+found c =
+    some-assignment c.meaning_by_layer.ensures.value c.args.source.now c.args.scope.now c.args.order.now c.args.places.now c.requires.scope c.requires.sound.acyclic.driven c.requires.sound.acyclic.once c.requires.order
+    (slice_index c.args.order.now c.loop-number.number-index) c.in-Some.field-0.name.now c.in-Some.field-0.value.now (sym c.in-Some.ensures)
 
 pub loop-number-preserved-in_default : goal.loop-number-preserved-in_default
 loop-number-preserved-in_default c =
@@ -26,9 +34,9 @@ build_assigned-requires-clause-sound c =
     let order = c.args.order.now in
     let p = c.loop-number.number-index in
     let here = c.in-Some.field-0 in
-    let found = some-assignment c.meaning_by_layer.ensures.value m c.args.scope.now order c.args.places.now c.requires.scope a.driven a.once c.requires.order (slice_index order p) here.name.now here.value.now (sym c.in-Some.ensures) in
+    let assigned = found (goal.at.build_assigned-requires-clause-sound c).In-Some in
     scope-sound m c.requires.sound.narrow c.args.scope.now c.requires.scope here.name.now here.value.now
-    (in-items c.meaning_by_layer.ensures.value m c.args.scope.now order c.args.places.now c.requires.scope a.driven a.once c.requires.order here.name.now here.value.now found.j found.item)
+    (in-items c.meaning_by_layer.ensures.value m c.args.scope.now order c.args.places.now c.requires.scope a.driven a.once c.requires.order here.name.now here.value.now assigned.j assigned.item)
 
 pub build_assigned-requires-clause-most : goal.build_assigned-requires-clause-most
 build_assigned-requires-clause-most c =
@@ -40,18 +48,14 @@ build_assigned-requires-clause-most c =
 
 pub build_assigned-requires-clause-placed : goal.build_assigned-requires-clause-placed
 build_assigned-requires-clause-placed c =
-    let m = c.args.source.now in
     let scope = c.args.scope.now in
     let a = c.requires.sound.acyclic in
-    let order = c.args.order.now in
-    let places = c.args.places.now in
-    let p = c.loop-number.number-index in
     let here = c.in-Some.field-0 in
-    let found = some-assignment c.meaning_by_layer.ensures.value m scope order places c.requires.scope a.driven a.once c.requires.order (slice_index order p) here.name.now here.value.now (sym c.in-Some.ensures) in
+    let assigned = found (goal.at.build_assigned-requires-clause-placed c).In-Some in
     subst (λ n. ArePlaced n scope c.as_slice.result.now c.loop-number.ops (names_read here.value.now)) (sym c.count.ensures)
     (subst (λ xs. ArePlaced (length (names_in scope)) scope xs c.loop-number.ops (names_read here.value.now)) (sym c.as_slice.ensures.value)
-    (wired-placed c.meaning_by_layer.ensures.value m scope order places c.requires.scope a.driven a.once c.requires.order p found.j here.name.now here.value.now c.loop-number-test.true found.place found.item
-    c.loop-number.slots.items 0 c.loop-number.ops (scope-few m c.requires.sound.narrow a.driven a.once scope c.requires.scope) c.loop-number.invariant))
+    (wired-placed c.meaning_by_layer.ensures.value c.args.source.now scope c.args.order.now c.args.places.now c.requires.scope a.driven a.once c.requires.order c.loop-number.number-index assigned.j here.name.now here.value.now c.loop-number-test.true assigned.place assigned.item
+    c.loop-number.slots.items 0 c.loop-number.ops (scope-few c.args.source.now c.requires.sound.narrow a.driven a.once scope c.requires.scope) c.loop-number.invariant))
 
 pub loop-number-preserved : goal.loop-number-preserved
 loop-number-preserved c =
@@ -62,11 +66,11 @@ loop-number-preserved c =
     let places = c.args.places.now in
     let p = c.loop-number.number-index in
     let here = c.in-Some.field-0 in
-    let found = some-assignment c.meaning_by_layer.ensures.value m scope order places c.requires.scope a.driven a.once c.requires.order (slice_index order p) here.name.now here.value.now (sym c.in-Some.ensures) in
+    let assigned = found (goal.at.loop-number-preserved c).In-Some in
     let assigns =
     subst (λ xs. Assigns (length (names_in scope)) scope xs c.loop-number.ops c.build_assigned.new.ops c.in_ok-slot.slot c.net-width.result.length here.value.now) c.as_slice.ensures.value
     (subst (λ n. Assigns n scope c.as_slice.result.now c.loop-number.ops c.build_assigned.new.ops c.in_ok-slot.slot c.net-width.result.length here.value.now) c.count.ensures c.in_ok-slot.ensures) in
-    wired-more c.meaning_by_layer.ensures.value m scope order places c.requires.scope a.driven a.once c.requires.order p found.j here.name.now here.value.now c.loop-number-test.true found.place found.item
+    wired-more c.meaning_by_layer.ensures.value m scope order places c.requires.scope a.driven a.once c.requires.order p assigned.j here.name.now here.value.now c.loop-number-test.true assigned.place assigned.item
     c.loop-number.slots.items c.in_ok-slot.slot c.loop-number.ops c.build_assigned.new.ops c.net-width.result.length (ap (λ (n : Net). n.width) c.net-width.ensures) assigns c.loop-number.invariant
 
 pub returns : goal.returns

@@ -1,7 +1,9 @@
-use Rattle.std.proofs.Common.{◌+◌, ◌-◌, ◌*◌, ◌%◌, ◌^◌, ◌==◌, if◌then◌else◌, ℕ, List, length, slice_index, bit_and, bit_or, bit_xor, sym, ap, subst, ◌∙◌}
+use Rattle.std.proofs.Common.{◌≡◌, ◌+◌, ◌*◌, ◌%◌, ◌^◌, ◌==◌, if◌then◌else◌, ℕ, List, length, slice_index, sym, ap, subst, ◌∙◌}
 use Rattle.vl_eval.specs.declared.ops.Op.{Op}
+use Rattle.vl_eval.specs.declared.ops.TwoOp.{TwoOp}
+use Rattle.vl_eval.specs.declared.ops.TwoOp.TheVariants.{Add, Subtract, Multiply, And, Or, Xor}
 use Rattle.vl_eval.specs.declared.steps.Step.{Step}
-use Rattle.vl_eval.specs.inner.Ops.{op_value, reads_below}
+use Rattle.vl_eval.specs.inner.Ops.{op_value, reads_below, two_value}
 use Rattle.vl_eval.specs.inner.Steps.{IsWithin, op_in}
 use Rattle.vl_eval.proofs.sweeping.value_by.Goals as goal
 
@@ -13,41 +15,45 @@ gives wide values step = op_value (op_in wide step) (λ k. slice_index values k)
 abbrev reads : List Op → List ℕ → Step → Type 0
 reads wide values step = reads_below (op_in wide step) (length values)
 
+-- what an operation gives of two words that stand there
+of-two : {left left' right right' : ℕ} (op : TwoOp) → left ≡ left' → right ≡ right' → two_value op left right ≡ two_value op left' right'
+of-two op on_left on_right = λ i. two_value op (on_left i) (on_right i)
+
 pub words-left-requires : goal.words-left-requires
 words-left-requires c = subst (reads c.args.wide.now c.args.values.now) c.in-Add.is c.requires.reads
 
 pub returns-in-Add : goal.returns-in-Add
-returns-in-Add c = c.sum.ensures ∙ (λ i. bit_and ((c.words-left.ensures.left i + c.words-left.ensures.right i) % 2 ^ 128) c.in-Add.mask) ∙ ap (gives c.args.wide.now c.args.values.now) (sym c.in-Add.is)
+returns-in-Add c = c.sum.ensures ∙ of-two (Add c.in-Add.mask) c.words-left.ensures.left c.words-left.ensures.right ∙ ap (gives c.args.wide.now c.args.values.now) (sym c.in-Add.is)
 
 pub words-left-requires-in-Subtract : goal.words-left-requires-in-Subtract
 words-left-requires-in-Subtract c = subst (reads c.args.wide.now c.args.values.now) c.in-Subtract.is c.requires.reads
 
 pub returns-in-Subtract : goal.returns-in-Subtract
-returns-in-Subtract c = c.difference.ensures ∙ (λ i. bit_and ((c.words-left-in-Subtract.ensures.left i + (2 ^ 128 - c.words-left-in-Subtract.ensures.right i)) % 2 ^ 128) c.in-Subtract.mask) ∙ ap (gives c.args.wide.now c.args.values.now) (sym c.in-Subtract.is)
+returns-in-Subtract c = c.difference.ensures ∙ of-two (Subtract c.in-Subtract.mask) c.words-left-in-Subtract.ensures.left c.words-left-in-Subtract.ensures.right ∙ ap (gives c.args.wide.now c.args.values.now) (sym c.in-Subtract.is)
 
 pub words-left-requires-in-Multiply : goal.words-left-requires-in-Multiply
 words-left-requires-in-Multiply c = subst (reads c.args.wide.now c.args.values.now) c.in-Multiply.is c.requires.reads
 
 pub returns-in-Multiply : goal.returns-in-Multiply
-returns-in-Multiply c = c.product.ensures ∙ (λ i. bit_and ((c.words-left-in-Multiply.ensures.left i) * (c.words-left-in-Multiply.ensures.right i) % 2 ^ 128) c.in-Multiply.mask) ∙ ap (gives c.args.wide.now c.args.values.now) (sym c.in-Multiply.is)
+returns-in-Multiply c = c.product.ensures ∙ of-two (Multiply c.in-Multiply.mask) c.words-left-in-Multiply.ensures.left c.words-left-in-Multiply.ensures.right ∙ ap (gives c.args.wide.now c.args.values.now) (sym c.in-Multiply.is)
 
 pub words-left-requires-in-And : goal.words-left-requires-in-And
 words-left-requires-in-And c = subst (reads c.args.wide.now c.args.values.now) c.in-And.is c.requires.reads
 
 pub returns-in-And : goal.returns-in-And
-returns-in-And c = (λ i. bit_and (c.words-left-in-And.ensures.left i) (c.words-left-in-And.ensures.right i)) ∙ ap (gives c.args.wide.now c.args.values.now) (sym c.in-And.is)
+returns-in-And c = of-two And c.words-left-in-And.ensures.left c.words-left-in-And.ensures.right ∙ ap (gives c.args.wide.now c.args.values.now) (sym c.in-And.is)
 
 pub words-left-requires-in-Or : goal.words-left-requires-in-Or
 words-left-requires-in-Or c = subst (reads c.args.wide.now c.args.values.now) c.in-Or.is c.requires.reads
 
 pub returns-in-Or : goal.returns-in-Or
-returns-in-Or c = (λ i. bit_or (c.words-left-in-Or.ensures.left i) (c.words-left-in-Or.ensures.right i)) ∙ ap (gives c.args.wide.now c.args.values.now) (sym c.in-Or.is)
+returns-in-Or c = of-two Or c.words-left-in-Or.ensures.left c.words-left-in-Or.ensures.right ∙ ap (gives c.args.wide.now c.args.values.now) (sym c.in-Or.is)
 
 pub words-left-requires-in-Xor : goal.words-left-requires-in-Xor
 words-left-requires-in-Xor c = subst (reads c.args.wide.now c.args.values.now) c.in-Xor.is c.requires.reads
 
 pub returns-in-Xor : goal.returns-in-Xor
-returns-in-Xor c = (λ i. bit_xor (c.words-left-in-Xor.ensures.left i) (c.words-left-in-Xor.ensures.right i)) ∙ ap (gives c.args.wide.now c.args.values.now) (sym c.in-Xor.is)
+returns-in-Xor c = of-two Xor c.words-left-in-Xor.ensures.left c.words-left-in-Xor.ensures.right ∙ ap (gives c.args.wide.now c.args.values.now) (sym c.in-Xor.is)
 
 pub words-left-requires-in-Equal : goal.words-left-requires-in-Equal
 words-left-requires-in-Equal c = subst (reads c.args.wide.now c.args.values.now) c.in-Equal.is c.requires.reads
@@ -133,14 +139,14 @@ chosen-requires c = subst (reads c.args.wide.now c.args.values.now) c.in-Choose.
 pub returns-in-Choose : goal.returns-in-Choose
 returns-in-Choose c = c.chosen.ensures ∙ ap (gives c.args.wide.now c.args.values.now) (sym c.in-Choose.is)
 
-pub bounds-values-reset : goal.bounds-values-reset
-bounds-values-reset c = (subst (reads c.args.wide.now c.args.values.now) c.in-Next.is c.requires.reads).0
+pub bounds-values-register : goal.bounds-values-register
+bounds-values-register c = (subst (reads c.args.wide.now c.args.values.now) c.in-Next.is c.requires.reads).0
 
-pub chosen-requires-else-values-reset-eq1 : goal.chosen-requires-else-values-reset-eq1
-chosen-requires-else-values-reset-eq1 c = let below = subst (reads c.args.wide.now c.args.values.now) c.in-Next.is c.requires.reads in (below.1, below.2, below.3)
+pub chosen-requires-else-values-register-eq1 : goal.chosen-requires-else-values-register-eq1
+chosen-requires-else-values-register-eq1 c = let below = subst (reads c.args.wide.now c.args.values.now) c.in-Next.is c.requires.reads in (below.1, below.2, below.3)
 
-pub returns-then-values-reset-eq1 : goal.returns-then-values-reset-eq1
-returns-then-values-reset-eq1 c = sym (ap (λ (n : ℕ). if n == 1 then c.in-Next.first else (if slice_index c.args.values.now c.in-Next.test == 0 then slice_index c.args.values.now c.in-Next.kept else slice_index c.args.values.now c.in-Next.value)) c.if-values-reset-eq1.true) ∙ ap (gives c.args.wide.now c.args.values.now) (sym c.in-Next.is)
+pub returns-then-values-register-eq1 : goal.returns-then-values-register-eq1
+returns-then-values-register-eq1 c = sym (ap (λ (n : ℕ). if n == 1 then c.in-Next.register.first else (if slice_index c.args.values.now c.in-Next.register.test == 0 then slice_index c.args.values.now c.in-Next.register.kept else slice_index c.args.values.now c.in-Next.register.value)) c.if-values-register-eq1.true) ∙ ap (gives c.args.wide.now c.args.values.now) (sym c.in-Next.is)
 
 pub bounds-wide-number : goal.bounds-wide-number
 bounds-wide-number c = subst (IsWithin (length c.args.wide.now)) c.in-Whole.is c.requires.within
