@@ -47,27 +47,8 @@ fn is_single<'a>(
     requires texts { contents_of defaults.now ≡ fallbacks_of layout.now.items.now block_type }
     ensures { result ≡ is_single layout.now.items.now block_type place }
 {
-    match block_type {
-        BlockType::Logic => text_of(layout, place, "Operator", defaults[0]) == b"NOT".as_slice(),
-        BlockType::Inport
-        | BlockType::Outport
-        | BlockType::Constant
-        | BlockType::Ground
-        | BlockType::Terminator
-        | BlockType::Sum
-        | BlockType::Gain
-        | BlockType::Product
-        | BlockType::UnitDelay
-        | BlockType::Delay
-        | BlockType::Switch
-        | BlockType::RelationalOperator
-        | BlockType::DataTypeConversion
-        | BlockType::Mux
-        | BlockType::Demux
-        | BlockType::RateTransition
-        | BlockType::SubSystem
-        | BlockType::EnablePort => false,
-    }
+    matches!(block_type, BlockType::Logic)
+        && text_of(layout, place, "Operator", defaults[0]) == b"NOT".as_slice()
 }
 
 /// Reads a parameter of the block at a place, which has the other value where the block has none.

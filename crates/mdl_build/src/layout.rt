@@ -89,9 +89,7 @@ fn content(value: &Value) -> Option<&[u8]>
 {
     match value {
         Value::Section => None,
-        Value::Bare(text) => Some(text.bytes()),
-        Value::List(text) => Some(text.bytes()),
-        Value::Quoted(text) => Some(text.bytes()),
+        Value::Bare(text) | Value::List(text) | Value::Quoted(text) => Some(text.bytes()),
     }
 }
 

@@ -302,27 +302,7 @@ pub fn parameters(block_type: BlockType) -> &'static [Parameter]
 pub fn number_of(block_type: BlockType) -> usize
     ensures { result ≡ number_of block_type }
 {
-    match block_type {
-        BlockType::Inport => 0,
-        BlockType::Outport => 1,
-        BlockType::Constant => 2,
-        BlockType::Ground => 3,
-        BlockType::Terminator => 4,
-        BlockType::Sum => 5,
-        BlockType::Gain => 6,
-        BlockType::Product => 7,
-        BlockType::UnitDelay => 8,
-        BlockType::Delay => 9,
-        BlockType::Switch => 10,
-        BlockType::RelationalOperator => 11,
-        BlockType::Logic => 12,
-        BlockType::DataTypeConversion => 13,
-        BlockType::Mux => 14,
-        BlockType::Demux => 15,
-        BlockType::RateTransition => 16,
-        BlockType::SubSystem => 17,
-        BlockType::EnablePort => 18,
-    }
+    block_type as usize
 }
 
 /// The name of a block type.

@@ -38,16 +38,10 @@ pub enum Goal {
 fn branch_of(role: Role) -> Option<usize>
     ensures { result ≡ branch_of role }
 {
-    match role {
-        Role::Branch(line) => Some(line),
-        Role::Other
-        | Role::Model
-        | Role::System(_)
-        | Role::Block(_)
-        | Role::SubSystem(_)
-        | Role::Defaults
-        | Role::TypeDefaults(_) => None,
-    }
+    let Role::Branch(line) = role else {
+        return None;
+    };
+    Some(line)
 }
 
 /// The port of an end; one that is missing is 1.

@@ -17,16 +17,7 @@ use std::alloc::Global;
 fn is_defaults(role: Role) -> bool
     ensures { result ≡ is_defaults role }
 {
-    match role {
-        Role::Defaults => true,
-        Role::Other
-        | Role::Model
-        | Role::System(_)
-        | Role::Block(_)
-        | Role::SubSystem(_)
-        | Role::Branch(_)
-        | Role::TypeDefaults(_) => false,
-    }
+    matches!(role, Role::Defaults)
 }
 
 /// The first section of defaults.
@@ -40,16 +31,7 @@ fn first_defaults(roles: &[Role]) -> Option<usize>
 fn is_in(section: usize, role: Role) -> bool
     ensures { result ≡ is_in (Some section) role }
 {
-    match role {
-        Role::TypeDefaults(holder) => holder == section,
-        Role::Other
-        | Role::Model
-        | Role::System(_)
-        | Role::Block(_)
-        | Role::SubSystem(_)
-        | Role::Branch(_)
-        | Role::Defaults => false,
-    }
+    matches!(role, Role::TypeDefaults(holder) if holder == section)
 }
 
 /// Whether the item at a place has the defaults of this type, in the section of all of them.

@@ -88,7 +88,6 @@ fn numbers(alloc: Global, known: &Known) -> Result<Vec<u32>, OutOfMemory>
 
 impl<'k, 'a> Maker<'k, 'a> {
     ghost use Rattle.mdl_build.specs.inner.Makers.{IsMaker, items_of};
-    ghost use Rattle.mdl_build.specs.inner.Readings.{IsReading};
 
     /// What makes the blocks of a tree.
     pub fn new(alloc: Global, known: &'k Known<'a>) -> Result<Maker<'k, 'a>, OutOfMemory>
@@ -141,34 +140,19 @@ impl<'k, 'a> Maker<'k, 'a> {
         }
     }
 
-    /// What the parameters of the block at a place are read as.
-    fn reading(
-        &self,
-        alloc: Global,
-        place: usize,
-        block_type: BlockType,
-    ) -> Result<Reading, OutOfMemory>
-        requires maker { IsMaker self.now }
-        requires within { place < length (items_of self.now) }
-        ensures { IfOk result (IsReading (items_of self.now) block_type place) }
-    {
-        let defaults = &self.defaults[number_of(block_type)];
-        read_block(alloc, &self.known.layout, defaults, block_type, place)
-    }
-
-    /// The block at a place with these settings.
+    /// The block at a place with these settings, whose lists are taken out of them.
     fn block_with(
         &self,
         alloc: Global,
         place: usize,
         block_type: BlockType,
-        settings: Settings,
+        settings: &mut Settings,
     ) -> Result<NestedBlock, OutOfMemory>
         requires maker { IsMaker self.now }
         requires within { place < length (items_of self.now) }
         requires named { is_some (value_of (items_of self.now) place (codes "Name")) ≡ true }
         requires typed { type_at (items_of self.now) place ≡ Some block_type }
-        requires has { HasSettings (items_of self.now) block_type place settings }
+        requires has { HasSettings (items_of self.now) block_type place settings.old }
         ensures { IfOk result (IsBlockAt (items_of self.now) place) }
     {
         let layout = &self.known.layout;
@@ -197,10 +181,12 @@ impl<'k, 'a> Maker<'k, 'a> {
         ensures ok { IfOk result (IsBlockAt (items_of self.now) place) }
         ensures err { IfErr result (IsRefusal (IsWrongAt (items_of self.now) block_type place)) }
     {
-        match self.reading(alloc, place, block_type)? {
-            Reading::Read(settings) => {
-                let block = self.block_with(alloc, place, block_type, settings)?;
-                Ok(block)
+        let defaults = &self.defaults[number_of(block_type)];
+        match read_block(alloc, &self.known.layout, defaults, block_type, place)? {
+            Reading::Read(mut settings) => {
+                let block = self.block_with(alloc, place, block_type, &mut settings);
+                drop(settings);
+                Ok(block?)
             }
             Reading::Wrong(name) => {
                 let fault = self

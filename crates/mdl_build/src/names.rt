@@ -32,15 +32,7 @@ pub struct Blocks<'a> {
 pub fn is_block(role: Role) -> bool
     ensures { result ≡ is_block role }
 {
-    match role {
-        Role::Block(_) | Role::SubSystem(_) => true,
-        Role::Other
-        | Role::Model
-        | Role::System(_)
-        | Role::Branch(_)
-        | Role::Defaults
-        | Role::TypeDefaults(_) => false,
-    }
+    matches!(role, Role::Block(_) | Role::SubSystem(_))
 }
 
 /// The name of the block at a place, in its System.

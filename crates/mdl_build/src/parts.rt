@@ -160,43 +160,47 @@ fn plain(said: Said, kind: Kind, inputs: u32, outputs: u32) -> Part
     Part::Plain(block_with(said, kind, inputs, outputs))
 }
 
-/// The part of a block of a type, by what its parameters say.
+/// The part of a block of a type, by what its parameters say. The lists are taken out of them.
 pub fn part_of(
     alloc: Global,
     standing: Standing,
     block_type: BlockType,
-    settings: Settings,
+    settings: &mut Settings,
 ) -> Result<Part, OutOfMemory>
-    ensures { IfOk result (λ part. part ≡ part_of standing block_type settings) }
+    ensures { IfOk result (λ part. part ≡ part_of standing block_type settings.old) }
 {
     let said = settings.said;
     Ok(match block_type {
-        BlockType::Inport => in_part(standing, settings.into_said()),
-        BlockType::Outport => out_part(standing, said, settings.into_list()),
-        BlockType::SubSystem => {
-            drop(settings);
-            Part::SubSystem
+        BlockType::Inport => in_part(standing, said),
+        BlockType::Outport => out_part(standing, said, settings.take_list(alloc)),
+        BlockType::SubSystem => Part::SubSystem,
+        BlockType::EnablePort => Part::Enable { reset: said.flag },
+        BlockType::Constant => plain(said, constant(settings.take_list(alloc)), 0, 1),
+        BlockType::Ground => plain(said, Kind::Ground, 0, 1),
+        BlockType::Terminator => plain(said, Kind::Terminator, 1, 0),
+        BlockType::Sum => plain(said, sum(settings.take_signs(alloc)), said.number, 1),
+        BlockType::Gain => {
+            let value = settings.take_list(alloc);
+            plain(said, gain(value, said.coefficient), 1, 1)
         }
-        BlockType::EnablePort => Part::Enable {
-            reset: settings.into_said().flag,
-        },
-        BlockType::Constant => plain(said, constant(settings.into_list()), 0, 1),
-        BlockType::Ground => plain(settings.into_said(), Kind::Ground, 0, 1),
-        BlockType::Terminator => plain(settings.into_said(), Kind::Terminator, 1, 0),
-        BlockType::Sum => plain(said, sum(settings.into_signs()), said.number, 1),
-        BlockType::Gain => plain(said, gain(settings.into_list(), said.coefficient), 1, 1),
-        BlockType::Product => plain(settings.into_said(), Kind::Product, 2, 1),
-        BlockType::UnitDelay => plain(said, delay(1, settings.into_list()), 1, 1),
-        BlockType::Delay => plain(said, delay(said.number, settings.into_list()), 1, 1),
-        BlockType::Switch => plain(said, switch(said.criterion, settings.into_list()), 3, 1),
-        BlockType::RelationalOperator => plain(settings.into_said(), relation(said.relation), 2, 1),
-        BlockType::Logic => plain(settings.into_said(), logic(said.gate), said.number, 1),
-        BlockType::DataTypeConversion => plain(settings.into_said(), convert(said.flag), 1, 1),
-        BlockType::Mux => plain(said, mux(settings.into_sizes()), said.number, 1),
+        BlockType::Product => plain(said, Kind::Product, 2, 1),
+        BlockType::UnitDelay => plain(said, delay(1, settings.take_list(alloc)), 1, 1),
+        BlockType::Delay => plain(said, delay(said.number, settings.take_list(alloc)), 1, 1),
+        BlockType::Switch => {
+            let threshold = settings.take_list(alloc);
+            plain(said, switch(said.criterion, threshold), 3, 1)
+        }
+        BlockType::RelationalOperator => plain(said, relation(said.relation), 2, 1),
+        BlockType::Logic => plain(said, logic(said.gate), said.number, 1),
+        BlockType::DataTypeConversion => plain(said, convert(said.flag), 1, 1),
+        BlockType::Mux => plain(said, mux(settings.take_sizes(alloc)), said.number, 1),
         BlockType::Demux => {
-            let sizes = open_sizes(alloc, said.number, settings.into_sizes())?;
+            let sizes = open_sizes(alloc, said.number, settings.take_sizes(alloc))?;
             plain(said, Kind::Demux { sizes }, 1, said.number)
         }
-        BlockType::RateTransition => plain(said, transition(said.rate, settings.into_list()), 1, 1),
+        BlockType::RateTransition => {
+            let initial = settings.take_list(alloc);
+            plain(said, transition(said.rate, initial), 1, 1)
+        }
     })
 }

@@ -5,6 +5,7 @@ use dg_model::{Criterion, Decimals, Gate, PeriodSpec, Relation};
 use fx_io::{Flags, Sizes};
 use fx_type::{Decimal, Rounding, TypeSpec};
 use std::alloc::Global;
+use std::mem;
 
 /// What the value of a parameter says (own).
 #[derive(Drop)]
@@ -121,58 +122,25 @@ impl Settings {
         }
     }
 
-    /// All but the lists.
-    pub fn into_said(self) -> Said
-        ensures { result ≡ self.said }
+    /// Takes the value of each element out.
+    pub fn take_list(&mut self, alloc: Global) -> Decimals
+        ensures { result ≡ self.old.list }
     {
-        let said = self.said;
-        drop(self);
-        said
+        mem::replace(&mut self.list, Decimals::new(alloc))
     }
 
-    /// The value of each element.
-    pub fn into_list(self) -> Decimals
-        ensures { result ≡ self.list }
+    /// Takes out, of each input, whether it is subtracted.
+    pub fn take_signs(&mut self, alloc: Global) -> Flags
+        ensures { result ≡ self.old.signs }
     {
-        let Settings {
-            said: _said,
-            list,
-            signs,
-            sizes,
-        } = self;
-        drop(signs);
-        drop(sizes);
-        list
+        mem::replace(&mut self.signs, Flags::new(alloc))
     }
 
-    /// Of each input, whether it is subtracted.
-    pub fn into_signs(self) -> Flags
-        ensures { result ≡ self.signs }
+    /// Takes the sizes of the parts out.
+    pub fn take_sizes(&mut self, alloc: Global) -> Sizes
+        ensures { result ≡ self.old.sizes }
     {
-        let Settings {
-            said: _said,
-            list,
-            signs,
-            sizes,
-        } = self;
-        drop(list);
-        drop(sizes);
-        signs
-    }
-
-    /// The sizes of the parts.
-    pub fn into_sizes(self) -> Sizes
-        ensures { result ≡ self.sizes }
-    {
-        let Settings {
-            said: _said,
-            list,
-            signs,
-            sizes,
-        } = self;
-        drop(list);
-        drop(signs);
-        sizes
+        mem::replace(&mut self.sizes, Sizes::new(alloc))
     }
 
     /// Puts what one parameter says in its place.

@@ -20,32 +20,17 @@ use std::alloc::Global;
 fn is_model(role: Role) -> bool
     ensures { result ≡ is_model role }
 {
-    match role {
-        Role::Model => true,
-        Role::Other
-        | Role::System(_)
-        | Role::Block(_)
-        | Role::SubSystem(_)
-        | Role::Branch(_)
-        | Role::Defaults
-        | Role::TypeDefaults(_) => false,
-    }
+    matches!(role, Role::Model)
 }
 
 /// The level of a System.
 fn level_of(role: Role) -> Option<u32>
     ensures { (test : ℕ → Bool) → is_system test role ≡ option_map_or test result false }
 {
-    match role {
-        Role::System(level) => Some(level),
-        Role::Other
-        | Role::Model
-        | Role::Block(_)
-        | Role::SubSystem(_)
-        | Role::Branch(_)
-        | Role::Defaults
-        | Role::TypeDefaults(_) => None,
-    }
+    let Role::System(level) = role else {
+        return None;
+    };
+    Some(level)
 }
 
 /// Whether an item is a System of the first level.

@@ -11,6 +11,7 @@ use Rattle.mdl_build.specs.inner.Lines.{sources_before, line_list}
 use Rattle.mdl_build.proofs.LineLemmas.{branch_is, sources_long, source_found}
 use Rattle.mdl_build.proofs.RoleLemmas.{branch_line}
 use Rattle.mdl_build.proofs.lines.add_line.Goals as goal
+use Rattle.mdl_build.proofs.lines.add_line.Goals.{In-Some}
 
 -- the line of a branch is an item, whose source is found
 line_below : (items : List Item) (place line : ℕ) (role : Role) → role_of items place ≡ role → role ≡ Branch line → place < length items → line < length items
@@ -22,45 +23,47 @@ source_is items place line role sources are is branch within =
     ap (λ (list : List (Option Source)). get_or list line None) are
     ∙ source_found items line None (line_below items place line role is branch within) (branch_line items place line (is ∙ branch)).1
 
+-- so it is of the branch at the place
+branch : (c : In-Some) → c.args.role ≡ Branch c.in-Some.line
+branch c = branch_is c.args.role c.in-Some.line (sym c.branch_of.ensures ∙ c.in-Some.is)
+
+below : (c : In-Some) → c.in-Some.line < length c.args.layout.now.items.now
+below c = line_below c.args.layout.now.items.now c.args.place c.in-Some.line c.args.role c.requires.role (branch c) c.requires.within
+
+inside : (c : In-Some) → c.in-Some.line < length c.args.sources.now
+inside c = omega (arith, below c, ap length c.requires.sources, sources_long c.args.layout.now.items.now)
+
 pub goal_of-goal-requires-clause-within : goal.goal_of-goal-requires-clause-within
-goal_of-goal-requires-clause-within c =
-    line_below c.args.layout.now.items.now c.args.place c.in-Some.line c.args.role c.requires.role (branch_is c.args.role c.in-Some.line (sym c.branch_of.ensures ∙ c.in-Some.is)) c.requires.within
+goal_of-goal-requires-clause-within c = below (goal.at.goal_of-goal-requires-clause-within c).In-Some
 
 pub offset_bounds-sources-line : goal.offset_bounds-sources-line
-offset_bounds-sources-line c =
-    let items = c.args.layout.now.items.now in
-    let below = line_below items c.args.place c.in-Some.line c.args.role c.requires.role (branch_is c.args.role c.in-Some.line (sym c.branch_of.ensures ∙ c.in-Some.is)) c.requires.within in
-    let inside : c.in-Some.line < length c.args.sources.now = omega (arith, below, ap length c.requires.sources, sources_long items) in
-    search rules
+offset_bounds-sources-line c = let low = inside (goal.at.offset_bounds-sources-line c).In-Some in search rules
 
 pub bounds-sources-line : goal.bounds-sources-line
-bounds-sources-line c =
-    let items = c.args.layout.now.items.now in
-    let below = line_below items c.args.place c.in-Some.line c.args.role c.requires.role (branch_is c.args.role c.in-Some.line (sym c.branch_of.ensures ∙ c.in-Some.is)) c.requires.within in
-    omega (arith, below, ap length c.requires.sources, sources_long items)
+bounds-sources-line c = inside (goal.at.bounds-sources-line c).In-Some
 
 pub returns-clause-joined : goal.returns-clause-joined
 returns-clause-joined c =
     let items = c.args.layout.now.items.now in
     let line = c.in-Some.line in
-    let branch = branch_is c.args.role line (sym c.branch_of.ensures ∙ c.in-Some.is) in
+    let is_branch = branch (goal.at.returns-clause-joined c).In-Some in
     IfOk-weaker c.push_line.result _ _
     (λ joined is.
     is
-    ∙ ap (λ (source : Option Source). is_joined source c.goal_of-goal.result) (source_is items c.args.place line c.args.role c.args.sources.now c.requires.sources c.requires.role branch c.requires.within)
+    ∙ ap (λ (source : Option Source). is_joined source c.goal_of-goal.result) (source_is items c.args.place line c.args.role c.args.sources.now c.requires.sources c.requires.role is_branch c.requires.within)
     ∙ ap (is_joined (source_of items line)) c.goal_of-goal.ensures
-    ∙ sym (ap (keeps_line items c.args.place) branch))
+    ∙ sym (ap (keeps_line items c.args.place) is_branch))
     c.push_line.ensures.joined
 
 pub returns-clause-pushed : goal.returns-clause-pushed
 returns-clause-pushed c =
     let items = c.args.layout.now.items.now in
     let line = c.in-Some.line in
-    let branch = branch_is c.args.role line (sym c.branch_of.ensures ∙ c.in-Some.is) in
+    let is_branch = branch (goal.at.returns-clause-pushed c).In-Some in
     IfOk-weaker c.push_line.result _ _
     (λ joined pushes good.
     pushes good
-    ∙ ap (λ (source : Option Source). c.args.lines.now ++ line_list (line_from source c.goal_of-goal.result)) (source_is items c.args.place line c.args.role c.args.sources.now c.requires.sources c.requires.role branch c.requires.within)
+    ∙ ap (λ (source : Option Source). c.args.lines.now ++ line_list (line_from source c.goal_of-goal.result)) (source_is items c.args.place line c.args.role c.args.sources.now c.requires.sources c.requires.role is_branch c.requires.within)
     ∙ ap (λ (end : Goal). c.args.lines.now ++ line_list (line_from (source_of items line) end)) c.goal_of-goal.ensures
-    ∙ sym (ap (λ (role : Role). c.args.lines.now ++ line_list (line_at items c.args.place role)) branch))
+    ∙ sym (ap (λ (role : Role). c.args.lines.now ++ line_list (line_at items c.args.place role)) is_branch))
     c.push_line.ensures.pushed

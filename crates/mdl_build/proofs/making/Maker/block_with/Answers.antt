@@ -23,9 +23,9 @@ returns c =
       parent = c.number.ensures ∙ ap (option_map (number_at items)) c.parent-parent.ensures;
       block_type = c.args.block_type;
       type_is = c.requires.typed;
-      settings = c.args.settings;
+      settings = c.args.settings.now;
       has = c.requires.has;
       part =
           c.in_ok-part.ensures
-          ∙ ap (λ (s : Standing). part_of s c.args.block_type c.args.settings) (c.standing.ensures ∙ ap (λ (p : Option ℕ). standing_in items p (holder_of items c.args.place)) c.parent-parent.ensures);
+          ∙ ap (λ (s : Standing). part_of s c.args.block_type c.args.settings.now) (c.standing.ensures ∙ ap (λ (p : Option ℕ). standing_in items p (holder_of items c.args.place)) c.parent-parent.ensures);
     }

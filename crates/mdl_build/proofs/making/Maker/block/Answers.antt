@@ -2,7 +2,7 @@ use Rattle.std.proofs.Common.{ap, ◌∙◌, arith}
 use Rattle.mdl_build.specs.inner.Makers.{items_of}
 use Rattle.mdl_build.specs.inner.Texts.{contents_of}
 use Rattle.mdl_build.proofs.MakingLemmas.{defaults_here, number_there}
-use Rattle.mdl_build.proofs.making.Maker.reading.Goals as goal
+use Rattle.mdl_build.proofs.making.Maker.block.Goals as goal
 
 pub read_block-requires-clause-texts : goal.read_block-requires-clause-texts
 read_block-requires-clause-texts c =
@@ -15,6 +15,3 @@ index-defaults-requires c =
     let maker = c.args.self.now in
     let there = number_there (λ texts. contents_of texts.items) (items_of maker) maker.defaults.items c.args.block_type c.number_of.result c.requires.maker.defaults c.number_of.ensures in
     omega (arith, there, maker.defaults.ok.0)
-
-pub returns : goal.returns
-returns c = c.read_block.ensures
