@@ -1,9 +1,14 @@
-use Rattle.std.proofs.Common.{◌≡◌, ◌+◌, ◌-◌, ◌∙◌, ℕ, ℤ, List, length, refl, sym, subst, arith}
+use Rattle.std.proofs.Common.{◌≡◌, ◌+◌, ◌-◌, ◌∙◌, ℕ, ℤ, List, Some, length, refl, sym, subst, arith}
+use Rattle.std.specs.Prelude.{slice_get}
 use Rattle.std.proofs.lemmas.Option.{slice_get-get_or}
 use Rattle.vl_replay.specs.inner.Sampling.{ArePut, numbers_in, sampler_at}
 use Rattle.vl_replay.proofs.Putting.{put-due, put-undue}
-use Rattle.vl_replay.proofs.samplers.put_numbers.Goals.{then-sampler-phase-via-then-sampler-phase, then-sampler-phase-via-else-sampler-phase+then-sample-sampler}
+use Rattle.vl_replay.proofs.samplers.put_numbers.Goals.{In-loop-place, then-sampler-phase-via-then-sampler-phase, then-sampler-phase-via-else-sampler-phase+then-sample-sampler}
 use Rattle.vl_replay.proofs.samplers.put_numbers.Goals as goal
+
+-- the sampler that the loop looks at
+there : (c : In-loop-place) → slice_get c.args.samplers.now c.loop-place.place ≡ Some (sampler_at c.args.samplers.now c.loop-place.place)
+there c = slice_get-get_or c.args.samplers.now c.loop-place.place (record { period = 0; delay = 0; phase = 0 }) c.loop-place-test.true
 
 pub loop-place-init : goal.loop-place-init
 loop-place-init c = record {
@@ -16,8 +21,8 @@ pub loop-place-preserved-then-sampler-phase : goal.loop-place-preserved-then-sam
 loop-place-preserved-then-sampler-phase c =
     let samplers = c.args.samplers.now in
     let place = c.loop-place.place in
-    let there = slice_get-get_or samplers place (record { period = 0; delay = 0; phase = 0 }) c.loop-place-test.true in
-    put-undue (numbers_in c.args.machine.now) samplers c.args.samples c.args.window c.args.sample c.args.phase place c.args.cells.now c.loop-place.cells (sampler_at samplers place) there c.loop-place.invariant
+    let here = there (goal.at.loop-place-preserved-then-sampler-phase c).In-loop-place in
+    put-undue (numbers_in c.args.machine.now) samplers c.args.samples c.args.window c.args.sample c.args.phase place c.args.cells.now c.loop-place.cells (sampler_at samplers place) here c.loop-place.invariant
     (λ t below own due. elim c.then-sampler-phase.branch [
       | then-sampler-phase-via-then-sampler-phase w ↦ absurd (w.if-sampler-phase.true own)
       | then-sampler-phase-via-else-sampler-phase+then-sample-sampler w ↦ (let less = w.if-sample-sampler.true in absurd (omega (arith, less, due)))
@@ -27,8 +32,8 @@ pub loop-place-preserved-then-samples-due : goal.loop-place-preserved-then-sampl
 loop-place-preserved-then-samples-due c =
     let samplers = c.args.samplers.now in
     let place = c.loop-place.place in
-    let there = slice_get-get_or samplers place (record { period = 0; delay = 0; phase = 0 }) c.loop-place-test.true in
-    put-undue (numbers_in c.args.machine.now) samplers c.args.samples c.args.window c.args.sample c.args.phase place c.args.cells.now c.loop-place.cells (sampler_at samplers place) there c.loop-place.invariant
+    let here = there (goal.at.loop-place-preserved-then-samples-due c).In-loop-place in
+    put-undue (numbers_in c.args.machine.now) samplers c.args.samples c.args.window c.args.sample c.args.phase place c.args.cells.now c.loop-place.cells (sampler_at samplers place) here c.loop-place.invariant
     (λ t below own due. let past = c.if-samples-due.true in absurd (omega (arith, past, due, below)))
 
 pub put_number-requires-clause-ring : goal.put_number-requires-clause-ring
@@ -46,12 +51,12 @@ loop-place-preserved c =
     let place = c.loop-place.place in
     let sample = c.args.sample in
     let own = sampler_at samplers place in
-    let there = slice_get-get_or samplers place (record { period = 0; delay = 0; phase = 0 }) c.loop-place-test.true in
+    let here = there (goal.at.loop-place-preserved c).In-loop-place in
     let numbers = numbers_in c.args.machine.now in
     let late = c.if-sample-sampler.false in
     let due : sample - own.delay + own.delay ≡ sample = omega (arith, late) in
     subst (λ (cells : List ℤ). ArePut numbers samplers c.args.samples c.args.window sample c.args.phase (place + 1) c.args.cells.now cells) (sym c.put_number.ensures)
-    (put-due numbers samplers c.args.samples c.args.window sample c.args.phase place c.args.cells.now c.loop-place.cells own there c.loop-place.invariant (sample - own.delay) c.if-samples-due.false c.if-sampler-phase.false due
+    (put-due numbers samplers c.args.samples c.args.window sample c.args.phase place c.args.cells.now c.loop-place.cells own here c.loop-place.invariant (sample - own.delay) c.if-samples-due.false c.if-sampler-phase.false due
     c.requires.some (c.loop-place.invariant.long ∙ c.requires.room))
 
 pub returns : goal.returns
