@@ -1,6 +1,5 @@
-ghost use Rattle.std.specs.Prelude.{◌≡◌, ◌<◌, IfOk, OnOk, Some, map, slice_get};
+ghost use Rattle.std.specs.Prelude.{◌≡◌, IfOk, OnOk, map};
 ghost use Rattle.vl_ast.specs.Conditions.{mentioned};
-ghost use Rattle.vl_check.specs.Names.{with_name};
 ghost use Rattle.vl_check.specs.inner.Mentioned.{mention_of, shown, texts};
 ghost use Rattle.vl_check.specs.inner.Names.{HasPlaces, Numbered};
 
@@ -29,26 +28,28 @@ pub fn mentioned<'a>(mention: &Mention<'a>) -> &'a [u8]
     }
 }
 
-/// The number of a name, which is the next one where it has none yet.
-fn number_of<'a>(
-    names: &mut Vec<&'a [u8]>,
-    by_name: &mut BTreeMap<&'a [u8], usize>,
-    name: &'a [u8],
-) -> Result<usize, OutOfMemory>
-    requires { HasPlaces names.old.items by_name.old }
-    ensures number { IfOk result (λ number.
-        slice_get (texts names.new.items) number ≡ Some name.now) }
-    ensures grown { OnOk result (texts names.new.items
-        ≡ with_name (texts names.old.items) name.now) }
-    ensures places { OnOk result (HasPlaces names.new.items by_name.new) }
-{
-    if let Some(number) = by_name.get(name).copied() {
-        return Ok(number);
+impl<'a> Numbers<'a> {
+    ghost use Rattle.std.specs.Prelude.{ℕ, List, ◌++◌, ◌∷◌, []};
+
+    /// Gives the name at one more place its number, which is the next one where it has none yet.
+    fn add(&mut self, name: &'a [u8]) -> Result<(), OutOfMemory>
+        requires { HasPlaces self.old.names.items self.old.by_name }
+        ensures numbered { OnOk result ((before : List (List ℕ))
+            → Numbered before (texts self.old.names.items) self.old.numbers.items
+            → Numbered (before ++ name.now ∷ []) (texts self.new.names.items)
+            self.new.numbers.items) }
+        ensures places { OnOk result (HasPlaces self.new.names.items self.new.by_name) }
+    {
+        if let Some(number) = self.by_name.get(name).copied() {
+            self.numbers.push(number)?;
+            return Ok(());
+        }
+        let number = self.names.len();
+        self.by_name.insert(name, number)?;
+        self.names.push(name)?;
+        self.numbers.push(number)?;
+        Ok(())
     }
-    let number = names.len();
-    by_name.insert(name, number)?;
-    names.push(name)?;
-    Ok(number)
 }
 
 /// Numbers the names of a text.
@@ -57,16 +58,13 @@ pub fn numbers_of<'a>(alloc: Global, mentions: &[Mention<'a>]) -> Result<Numbers
         (texts known.names.items) known.numbers.items) }
     ensures places { IfOk result (λ known. HasPlaces known.names.items known.by_name) }
 {
-    let mut names = Vec::new(alloc);
-    let mut by_name = BTreeMap::new(alloc);
-    let mut numbers = Vec::new(alloc);
+    let mut known = Numbers {
+        names: Vec::new(alloc),
+        by_name: BTreeMap::new(alloc),
+        numbers: Vec::new(alloc),
+    };
     for mention in mentions {
-        let number = number_of(&mut names, &mut by_name, mentioned(mention))?;
-        numbers.push(number)?;
+        known.add(mentioned(mention))?;
     }
-    Ok(Numbers {
-        names,
-        by_name,
-        numbers,
-    })
+    Ok(known)
 }

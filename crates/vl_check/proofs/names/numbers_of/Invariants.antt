@@ -6,6 +6,6 @@ use Rattle.vl_check.proofs.names.numbers_of.Given as goal
 
 abbrev pub invariant-loop-mention : goal.invariant-loop-mention
 invariant-loop-mention l = record {
-  numbers : Numbered (take l.mention-index (map mentioned (shown l.mentions))) (texts l.names.items) l.numbers.items;
-  places : HasPlaces l.names.items l.by_name;
+  numbers : Numbered (take l.mention-index (map mentioned (shown l.mentions))) (texts l.known.names.items) l.known.numbers.items;
+  places : HasPlaces l.known.names.items l.known.by_name;
 }
