@@ -11,7 +11,8 @@ use Rattle.hw_net.proofs.Growing.{split-last}
 use Rattle.hw_lines.specs.declared.source.Source.{Source}
 use Rattle.hw_lines.specs.declared.source.Use.{Use}
 use Rattle.hw_lines.specs.Chain.{IsSource, IsAnswer, AreAnswers, IsChained, IsCountedIn, reader_of, is_among, different_after, different, most_frames}
-use Rattle.hw_lines.specs.inner.Parts.{CanHold, Grows, AreTaps}
+use Rattle.hw_lines.specs.Register.{CanHold, Grows}
+use Rattle.hw_lines.specs.inner.Parts.{AreTaps}
 use Rattle.hw_lines.specs.inner.Ends.{IsEndFor, IsDone, frames_of}
 use Rattle.hw_lines.proofs.Steps.{tap-can-hold, taps-stay, answer-stays, grows-wider}
 use Rattle.fx_io.proofs.Places.{there_map}

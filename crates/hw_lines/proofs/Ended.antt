@@ -1,22 +1,23 @@
 -- The end of a line is an answer for its use. Crates above may cite this file.
-use Rattle.std.proofs.Common.{◌≡◌, ℕ, zero, suc, Result, Ok, Err, IfOk, OnOk, ◌+◌, ◌-◌, ◌*◌, ◌/◌, ◌%◌, ◌<◌, ◌≤◌, ◌⊎◌, length, inl, inr, List, Some, slice_get, Bool, true, false, ap, sym, ◌∙◌, subst, arith, refl}
+use Rattle.std.proofs.Common.{◌≡◌, ℕ, zero, suc, Result, Ok, Err, IfOk, OnOk, ◌+◌, ◌-◌, ◌*◌, ◌/◌, ◌%◌, ◌<◌, ◌≤◌, ◌⊎◌, length, inl, inr, List, Contains, Some, slice_get, Bool, true, false, ap, sym, ◌∙◌, subst, arith, refl}
 use Rattle.std.proofs.Math.Nat.{mul-mod_left}
 use Rattle.std.proofs.lemmas.Nat.{div-add-mod', mod_below}
 use Rattle.std.proofs.lemmas.Option.{slice_get-get_or}
+use Rattle.std.proofs.lemmas.Result.{IfOk-weaker}
 use Rattle.std.specs.Prelude.{slice_index_or, ⊤}
 use Rattle.hw_net.specs.declared.netlist.Frame.{Frame}
 use Rattle.hw_net.specs.Circuit.{Circuit}
 use Rattle.hw_net.specs.NetRows.{Rows, span_of}
 use Rattle.hw_net.specs.Registers.{IsReg, IsBridge}
 use Rattle.hw_net.specs.Growing.{Extends}
-use Rattle.hw_net.specs.Frames.{register_count}
 use Rattle.hw_net.proofs.Growing.{extends-self, longer, in-rows-first, in-rows-last, in-rows-map, in-rows-both}
 use Rattle.hw_lines.specs.declared.source.Source.{Source}
 use Rattle.hw_lines.specs.declared.source.Use.{Use}
 use Rattle.hw_lines.specs.Line.{ShowsLater}
 use Rattle.hw_lines.specs.Chain.{IsUse, IsAnswer, IsCountedIn, reader_of, line_to}
 use Rattle.hw_lines.specs.Taps.{IsTap, IsShifted, TapMeets, TapHolds, PhaseRegisterMeets, BridgeMeets}
-use Rattle.hw_lines.specs.inner.Parts.{Grows, IsHeld, IsBridged, IsTapAt}
+use Rattle.hw_lines.specs.Register.{Adds, IsHeld}
+use Rattle.hw_lines.specs.inner.Parts.{IsBridged, IsTapAt}
 use Rattle.hw_lines.specs.inner.Ends.{CanEnd, IsEnd, Ends}
 use Rattle.hw_lines.proofs.Steps.{word-of-word, reg-earlier, tap-named, grows-trans}
 
@@ -141,33 +142,20 @@ module _ (source : Source) (one : Use) (some : 0 < source.frame.period) (use_is 
         stands = inr (omega (arith, held.new.new, longer before now p));
       }
 
-pub held-ends : (now new : Circuit) (source : Source) (taps : List ℕ) (one : Use) (k tap : ℕ) → slice_get taps k ≡ Some tap → Grows now new tap ⊥ (λ (other : Frame). other ≡ source.frame)
-    → register_count new.nets ≡ register_count now.nets + 1 → Ends now new source taps one
-held-ends now new source taps one k tap there put count = record {
-  extends = put.appends.extends;
+-- what was put in for one end is of the parts of a chain
+part-ends : (now new : Circuit) (source : Source) (taps : List ℕ) (one : Use) (k tap : ℕ) (frame : Frame) (bridges given : Type 0) → slice_get taps k ≡ Some tap → (bridges → source.registered ≡ false) → ((uses : List Use) → Contains uses one → IsCountedIn source uses frame)
+    → Adds now new tap frame bridges given → Ends now new source taps one
+part-ends now new source taps one k tap frame bridges given there plain counted put = record {
+  extends = put.grown.appends.extends;
   grown = λ before uses among are grown.
-      grows-trans before now new source.from tap ⊥ (source.registered ≡ false) (λ (other : Frame). other ≡ source.frame) (IsCountedIn source uses) (λ none. absurd none) (λ frame same. inl same)
-      (tap-named before now source k tap (are.each k tap there)) grown put;
-  few = omega (arith, count);
+      grows-trans before now new source.from tap bridges (source.registered ≡ false) (λ (other : Frame). other ≡ frame) (IsCountedIn source uses) plain (λ other same. subst (IsCountedIn source uses) (sym same) (counted uses among))
+      (tap-named before now source k tap (are.each k tap there)) grown put.grown;
+  few = omega (arith, put.few);
 }
 
-pub bridged-ends : (now new : Circuit) (source : Source) (taps : List ℕ) (one : Use) (k tap : ℕ) → slice_get taps k ≡ Some tap → source.registered ≡ false → Grows now new tap ⊤ (λ (other : Frame). other ≡ reader_of source one)
-    → register_count new.nets ≡ register_count now.nets + 1 → Ends now new source taps one
-bridged-ends now new source taps one k tap there plain put count = record {
-  extends = put.appends.extends;
-  grown = λ before uses among are grown.
-      grows-trans before now new source.from tap ⊤ (source.registered ≡ false) (λ (other : Frame). other ≡ reader_of source one) (IsCountedIn source uses) (λ _. plain) (λ frame same. inr (plain, (one, (among, same))))
-      (tap-named before now source k tap (are.each k tap there)) grown put;
-  few = omega (arith, count);
-}
-
-pub if-on : {A E : Type 0} (P R : A → Type 0) (Q : Type 0) (result : Result A E) → IfOk result P → OnOk result Q → ((x : A) → P x → Q → R x) → IfOk result R
-if-on P R Q (Ok x) p q f = f x p q
-if-on P R Q (Err e) p q f = tt
-
-pub on-both : {A E : Type 0} (P Q R : Type 0) (result : Result A E) → OnOk result P → OnOk result Q → (P → Q → R) → OnOk result R
-on-both P Q R (Ok x) p q f = f p q
-on-both P Q R (Err e) p q f = tt
+on-if : {A E : Type 0} (P : A → Type 0) (Q : Type 0) (result : Result A E) → IfOk result P → ((x : A) → P x → Q) → OnOk result Q
+on-if P Q (Ok x) p f = f x p
+on-if P Q (Err e) p f = tt
 
 -- ---- the four ends
 
@@ -201,31 +189,29 @@ module _ (now : Circuit) (source : Source) (taps : List ℕ) (one : Use) (can : 
   }
 
   module _ {E : Type 0} (new : Circuit) (result : Result ℕ E) where
-    pub bridge-ends : BridgeMeets → source.registered ≡ false → IfOk result (λ number. IsBridged now new tap (reader_of source one) (source.frame.period - rest) number)
-        → OnOk result (Grows now new tap ⊤ (λ (other : Frame). other ≡ reader_of source one)) → IfOk result (λ number. IsEnd now new source taps one number)
-    bridge-ends meets plain bridged grown =
-        let below = mod_below one.shift source.frame.period can.some in
-        if-on (λ number. IsBridged now new tap (reader_of source one) (source.frame.period - rest) number) (λ number. IsEnd now new source taps one number) (Grows now new tap ⊤ (λ (other : Frame). other ≡ reader_of source one)) result bridged grown
-        (λ number is put. record {
-          answer = λ before are p. bridge-end source one can.some can.use_is before now can.cycles (one.shift / source.frame.period) tap p (are.each (one.shift / source.frame.period) tap there) new rest number put.appends.extends split meets plain below is;
-        })
+    abbrev IsBridgePut : ℕ → Type 0
+    IsBridgePut number = Adds now new tap (reader_of source one) ⊤ (IsBridged now new tap (reader_of source one) (source.frame.period - rest) number)
 
-    pub bridge-grows : source.registered ≡ false → OnOk result (Grows now new tap ⊤ (λ (other : Frame). other ≡ reader_of source one)) → OnOk result (register_count new.nets ≡ register_count now.nets + 1) → OnOk result (Ends now new source taps one)
-    bridge-grows plain grown few =
-        on-both (Grows now new tap ⊤ (λ (other : Frame). other ≡ reader_of source one)) (register_count new.nets ≡ register_count now.nets + 1) (Ends now new source taps one) result grown few
-        (λ put count. bridged-ends now new source taps one (one.shift / source.frame.period) tap there plain put count)
+    pub bridge-ends : BridgeMeets → source.registered ≡ false → IfOk result IsBridgePut → IfOk result (λ number. IsEnd now new source taps one number) × OnOk result (Ends now new source taps one)
+    bridge-ends meets plain put =
+        let below = mod_below one.shift source.frame.period can.some in (
+          IfOk-weaker result IsBridgePut (λ number. IsEnd now new source taps one number) (λ number is. record {
+            answer = λ before are p. bridge-end source one can.some can.use_is before now can.cycles (one.shift / source.frame.period) tap p (are.each (one.shift / source.frame.period) tap there) new rest number is.grown.appends.extends split meets plain below is.is;
+          }) put,
+          on-if IsBridgePut (Ends now new source taps one) result put
+              (λ number is. part-ends now new source taps one (one.shift / source.frame.period) tap (reader_of source one) ⊤ (IsBridged now new tap (reader_of source one) (source.frame.period - rest) number) there (λ _. plain) (λ uses among. inr (plain, (one, (among, refl)))) is),
+        )
 
-    pub phase-ends : PhaseRegisterMeets → source.registered ≡ true → 1 ≤ rest → (slot : ℕ) → slot ≡ rest * now.cycles - 1 → IfOk result (λ number. IsHeld now new tap source.frame slot source.first number)
-        → OnOk result (Grows now new tap ⊥ (λ (other : Frame). other ≡ source.frame)) → IfOk result (λ number. IsEnd now new source taps one number)
-    phase-ends meets registered some slot at held grown =
-        let below = mod_below one.shift source.frame.period can.some in
-        if-on (λ number. IsHeld now new tap source.frame slot source.first number) (λ number. IsEnd now new source taps one number) (Grows now new tap ⊥ (λ (other : Frame). other ≡ source.frame)) result held grown
-        (λ number is put. record {
-          answer = λ before are p. phase-end source one can.some can.use_is before now can.cycles (one.shift / source.frame.period) tap p (are.each (one.shift / source.frame.period) tap there) new rest number put.appends.extends split meets registered
-              some (omega (arith, below)) slot at is;
-        })
+    abbrev IsPhasePut : ℕ → ℕ → Type 0
+    IsPhasePut slot number = Adds now new tap source.frame ⊥ (IsHeld now new tap source.frame slot source.first number)
 
-    pub phase-grows : OnOk result (Grows now new tap ⊥ (λ (other : Frame). other ≡ source.frame)) → OnOk result (register_count new.nets ≡ register_count now.nets + 1) → OnOk result (Ends now new source taps one)
-    phase-grows grown few =
-        on-both (Grows now new tap ⊥ (λ (other : Frame). other ≡ source.frame)) (register_count new.nets ≡ register_count now.nets + 1) (Ends now new source taps one) result grown few
-        (λ put count. held-ends now new source taps one (one.shift / source.frame.period) tap there put count)
+    pub phase-ends : PhaseRegisterMeets → source.registered ≡ true → 1 ≤ rest → (slot : ℕ) → slot ≡ rest * now.cycles - 1 → IfOk result (IsPhasePut slot) → IfOk result (λ number. IsEnd now new source taps one number) × OnOk result (Ends now new source taps one)
+    phase-ends meets registered some slot at put =
+        let below = mod_below one.shift source.frame.period can.some in (
+          IfOk-weaker result (IsPhasePut slot) (λ number. IsEnd now new source taps one number) (λ number is. record {
+            answer = λ before are p. phase-end source one can.some can.use_is before now can.cycles (one.shift / source.frame.period) tap p (are.each (one.shift / source.frame.period) tap there) new rest number is.grown.appends.extends split meets registered
+                some (omega (arith, below)) slot at is.is;
+          }) put,
+          on-if (IsPhasePut slot) (Ends now new source taps one) result put
+              (λ number is. part-ends now new source taps one (one.shift / source.frame.period) tap source.frame ⊥ (IsHeld now new tap source.frame slot source.first number) there (λ none. absurd none) (λ uses among. inl refl) is),
+        )

@@ -45,14 +45,10 @@ module _ (n : ℕ) (line : Line) (k : ℕ) (first : ℤ) (source wave : Wave) (w
   pub tap-holds : 0 < k → IsTap n (span_of line.cycles line.own) k first source wave → IsRegistered n line first source wave
   tap-holds some tap = record {
     shows = λ t c sees.
-        let i : ℕ = t / line.own.period in
-        let hit : t % line.own.period ≡ 0 = rw same at sees.is_hit in
-        let e : t ≡ i * line.own.period = hit-number t line.own.period hit in
-        let s = seen-frame t line.own.latency line.reader.latency line.cycles line.own.period i k 0 e whole in
-        let f = end-frame t line.own.latency line.cycles line.own.period i e in
-        let w : line.reader.period * line.cycles ≡ line.own.period * line.cycles = ap (λ (x : ℕ). x * line.cycles) same in
-        let past : 1 * (line.own.period * line.cycles) ≤ k * (line.own.period * line.cycles) = mul-le-mul_right (line.own.period * line.cycles) some in
-        tap.shows i c sees.below (omega (arith, sees.from)) (omega (arith, sees.until)) ∙ ap source (omega (arith, sees.from));
+        let later : 1 * line.own.period ≤ k * line.own.period = mul-le-mul_right line.own.period some in
+        let order : t + line.own.latency + line.own.period ≤ t + line.reader.latency = omega (arith, later, whole) in
+        let past : (t + line.own.latency + line.own.period) * line.cycles ≤ (t + line.reader.latency) * line.cycles = mul-le-mul_right line.cycles order in
+        (tap-meets tap).shows t c sees ∙ ap source (omega (arith, past, sees.from));
     begins = λ c h below.
         let s = seen-frame 0 line.own.latency line.reader.latency line.cycles line.own.period 0 k 0 (omega arith) whole in
         tap.begins c some h (omega arith);

@@ -16,15 +16,16 @@ use Rattle.hw_net.specs.NetRows.{Inputs, Rows, NetShows, span_of}
 use Rattle.hw_net.specs.Growing.{Extends, MayRead, MayReadNow, InRows, Appends, IsCounted, AddsCounter, with_net}
 use Rattle.hw_net.proofs.Growing.{last-of, split-last, longer, extends-one, still-there, stood-there, in-rows-one, in-rows-last, differ-other, appends-one, appends-trans, appends-counter, counter-stays, count-append}
 use Rattle.hw_lines.specs.Chain.{IsPart}
-use Rattle.hw_lines.specs.inner.Parts.{Grows, SameWord, IsHeld, IsBridged}
+use Rattle.hw_lines.specs.Register.{Adds, Grows, SameWord, IsHeld}
+use Rattle.hw_lines.specs.inner.Parts.{IsBridged}
 
 -- what the Counter adds
 module _ (a b : Circuit) (frame : Frame) (some : 0 < frame.period) (counted : IsCounted a b frame) where
   -- an appended net is the Counter
-  counter-part : (bridges : Type 0) (k : ℕ) (net : Net) → length a.nets ≤ k → slice_get b.nets k ≡ Some net → IsPart bridges (λ other. other ≡ frame) net.kind
-  counter-part bridges k net past there = by (counter_of a.nets frame) refl
+  pub counter-part : (part : NetKind → Type 0) → part (Counter frame) → (k : ℕ) (net : Net) → length a.nets ≤ k → slice_get b.nets k ≡ Some net → part net.kind
+  counter-part part own k net past there = by (counter_of a.nets frame) refl
     where
-      by : (found : Option ℕ) → counter_of a.nets frame ≡ found → IsPart bridges (λ other. other ≡ frame) net.kind
+      by : (found : Option ℕ) → counter_of a.nets frame ≡ found → part net.kind
       by (Some number) e =
           let same : b ≡ a = counted.stays (rw e refl) in
           absurd (omega (arith, past, slice_get_within a.nets k net (ap (λ (x : Circuit). slice_get x.nets k) (sym same) ∙ there)))
@@ -34,10 +35,10 @@ module _ (a b : Circuit) (frame : Frame) (some : 0 < frame.period) (counted : Is
             | inl front ↦ absurd (omega (arith, front.0, past))
             | inr last ↦
                 let kind : Counter frame ≡ net.kind = sym added.counter.kind ∙ ap (λ (x : Net). x.kind) last.1 in
-                subst (IsPart bridges (λ other. other ≡ frame)) kind refl
+                subst part kind own
           ]
 
-  counter-count : register_count b.nets ≡ register_count a.nets
+  pub counter-count : register_count b.nets ≡ register_count a.nets
   counter-count = by (counter_of a.nets frame) refl
     where
       by : (found : Option ℕ) → counter_of a.nets frame ≡ found → register_count b.nets ≡ register_count a.nets
@@ -109,7 +110,7 @@ module _ (a b : Circuit) (frame : Frame) (some : 0 < frame.period) (counted : Is
         appends = appends-trans a b c (from ∷ []) (from ∷ []) (λ read named. inl named) counter-grows part-appends;
         parts = λ k net past stands.
             elim (cases_lt k (length b.nets)) [
-              | inl less ↦ counter-part bridges k net past (stood-there b c k net part-extends less stands)
+              | inl less ↦ counter-part (IsPart bridges (λ other. other ≡ frame)) refl k net past (stood-there b c k net part-extends less stands)
               | inr more ↦ elim (split-last b.nets one net k (ap (λ (x : Circuit). slice_get x.nets k) (sym grown) ∙ stands)) [
                 | inl front ↦ absurd (omega (arith, front.0, more))
                 | inr last ↦ subst (IsPart bridges (λ other. other ≡ frame)) (ap (λ (x : Net). x.kind) last.1) is
@@ -145,12 +146,11 @@ module _ (a b : Circuit) (frame : Frame) (some : 0 < frame.period) (counted : Is
 
   pub register-part : {E : Type 0} (result : Result ℕ E) (slot : ℕ) (first : ℤ) → InWord source.width source.signed first
       → IfOk result (λ number. number ≡ length b.nets) → OnOk result (c ≡ with_net b (record { signed = source.signed; width = source.width; kind = Reg frame slot first from }))
-      → IfOk result (λ number. IsHeld a c from frame slot first number)
-      × OnOk result (Grows a c from ⊥ (λ other. other ≡ frame))
-      × OnOk result (register_count c.nets ≡ register_count a.nets + 1)
+      → IfOk result (λ number. Adds a c from frame ⊥ (IsHeld a c from frame slot first number))
   register-part (Ok number) slot first fits at grown =
-      let kind : NetKind = Reg frame slot first from in (
-        record {
+      let kind : NetKind = Reg frame slot first from in
+      record {
+        is = record {
           shows = part-shows a b frame some counted c from number source kind there word at has grown (λ n rows. IsReg n (span_of a.cycles frame) slot first (rows from) (rows number)) (λ n inputs rows is. is);
           word = part-word a b frame some counted c from number source kind there word at has grown;
           new = record {
@@ -163,25 +163,24 @@ module _ (a b : Circuit) (frame : Frame) (some : 0 < frame.period) (counted : Is
             holds = refl;
             new = part-new a b frame some counted c from number source kind there word at has grown;
           };
-        },
-        part-grows a b frame some counted c from number source kind there word at has grown refl refl (λ P p. one-all P from p) (λ P p. none-all P) (λ is. (some, is, fits)) ⊥ tt,
-        part-count a b frame some counted c from number source kind there word at has grown refl,
-      )
-  register-part (Err e) slot first fits at grown = (tt, tt, tt)
+        };
+        grown = part-grows a b frame some counted c from number source kind there word at has grown refl refl (λ P p. one-all P from p) (λ P p. none-all P) (λ is. (some, is, fits)) ⊥ tt;
+        few = part-count a b frame some counted c from number source kind there word at has grown refl;
+      }
+  register-part (Err e) slot first fits at grown = tt
 
   pub bridge-part : {E : Type 0} (result : Result ℕ E) (live : ℕ) → 0 < live
       → IfOk result (λ number. number ≡ length b.nets) → OnOk result (c ≡ with_net b (record { signed = source.signed; width = source.width; kind = Bridge frame live from }))
-      → IfOk result (λ number. IsBridged a c from frame live number)
-      × OnOk result (Grows a c from ⊤ (λ other. other ≡ frame))
-      × OnOk result (register_count c.nets ≡ register_count a.nets + 1)
+      → IfOk result (λ number. Adds a c from frame ⊤ (IsBridged a c from frame live number))
   bridge-part (Ok number) live lives at grown =
-      let kind : NetKind = Bridge frame live from in (
-        record {
+      let kind : NetKind = Bridge frame live from in
+      record {
+        is = record {
           shows = part-shows a b frame some counted c from number source kind there word at has grown (λ n rows. IsBridge n (span_of a.cycles frame) (live * a.cycles) (rows from) (rows number)) (λ n inputs rows is. is);
           word = part-word a b frame some counted c from number source kind there word at has grown;
           new = part-new a b frame some counted c from number source kind there word at has grown;
-        },
-        part-grows a b frame some counted c from number source kind there word at has grown refl refl (λ P p. one-all P from p) (λ P p. one-all P from p) (λ is. (some, lives, is)) ⊤ tt,
-        part-count a b frame some counted c from number source kind there word at has grown refl,
-      )
-  bridge-part (Err e) live lives at grown = (tt, tt, tt)
+        };
+        grown = part-grows a b frame some counted c from number source kind there word at has grown refl refl (λ P p. one-all P from p) (λ P p. one-all P from p) (λ is. (some, lives, is)) ⊤ tt;
+        few = part-count a b frame some counted c from number source kind there word at has grown refl;
+      }
+  bridge-part (Err e) live lives at grown = tt

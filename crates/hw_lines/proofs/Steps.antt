@@ -16,7 +16,8 @@ use Rattle.hw_lines.specs.declared.source.Source.{Source}
 use Rattle.hw_lines.specs.Chain.{IsSource, IsPart, IsAnswer}
 use Rattle.hw_net.specs.Growing.{IsNewReg}
 use Rattle.hw_lines.specs.Taps.{IsTap, TapSteps}
-use Rattle.hw_lines.specs.inner.Parts.{CanHold, Grows, SameWord, IsHeld, IsTapAt, AreTaps}
+use Rattle.hw_lines.specs.Register.{CanHold, Grows, SameWord, IsHeld}
+use Rattle.hw_lines.specs.inner.Parts.{IsTapAt, AreTaps}
 
 pub source-there : (a : Circuit) (source : Source) → IsSource a source → CanHold a source.from source.first
 source-there a source is = record { there = record { net = is.net; is = is.is; word = is.word }; has_first = is.first }

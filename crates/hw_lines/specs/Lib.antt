@@ -1,4 +1,5 @@
 pub mod Chain
 pub mod Line
+pub mod Register
 pub mod Taps
 pub mod inner

@@ -2,7 +2,8 @@
 //!
 //! `specs/Line` says what a line owes its reader, and `specs/Chain` what a chain owes for all uses
 //! of a source: its answers, and which nets it puts behind the others. `laws` says which registers
-//! pay it, from what a register shows alone (`specs/Taps`).
+//! pay it, from what a register shows alone (`specs/Taps`). A register behind a net, with the
+//! Counter of its frame, is `register_at`.
 #![tactic(auto)]
 
 mod ends;
@@ -14,4 +15,5 @@ mod source_taps;
 
 pub use laws::{bridge_meets, phase_register_meets, tap_holds, tap_meets, tap_steps};
 pub use lines::{chain, line};
+pub use registers::register_at;
 pub use source::{Source, Use};

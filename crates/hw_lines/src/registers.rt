@@ -1,12 +1,15 @@
 //! Registers and bridges behind a net, with its word, and the Counters of their frames.
-ghost use Rattle.std.specs.Prelude.{◌≡◌, ◌+◌, ◌<◌, IfOk, OnOk, ⊤};
-ghost use Rattle.hw_net.specs.Frames.{register_count};
-ghost use Rattle.hw_lines.specs.inner.Parts.{IsThere, CanHold, Grows, IsHeld, IsBridged};
+ghost use Rattle.std.specs.Prelude.{◌<◌, IfOk, ⊤};
+ghost use Rattle.hw_lines.specs.Register.{Adds, CanHold, IsHeld, IsThere};
+ghost use Rattle.hw_lines.specs.inner.Parts.{IsBridged};
 
 use fx_io::OutOfMemory;
 use hw_net::{Frame, Net, NetKind, Netlist};
 
-/// Puts in a register that takes a net at a slot of a frame.
+/// Puts in a register that takes a net at a slot of a frame, and has its first number before.
+///
+/// # Errors
+/// Want of memory, also where the number of a net has no room in 32 bits.
 pub fn register_at(
     net: &mut Netlist,
     from: u32,
@@ -17,9 +20,8 @@ pub fn register_at(
     requires cycles { 0 < net.old.cycles }
     requires period { 0 < frame.period }
     requires from { CanHold net.old from first }
-    ensures held { IfOk result (λ number. IsHeld net.old net.new from frame slot first number) }
-    ensures grown { OnOk result (Grows net.old net.new from ⊥ (λ other. other ≡ frame)) }
-    ensures few { OnOk result (register_count net.new.nets ≡ register_count net.old.nets + 1) }
+    ensures { IfOk result (λ number. Adds net.old net.new from frame ⊥
+        (IsHeld net.old net.new from frame slot first number)) }
 {
     let Net { signed, width, .. } = &net.nets()[from as usize];
     let (signed, width) = (*signed, *width);
@@ -43,9 +45,8 @@ pub fn bridge_at(net: &mut Netlist, from: u32, frame: Frame, live: u32) -> Resul
     requires period { 0 < frame.period }
     requires live { 0 < live }
     requires from { IsThere net.old from }
-    ensures bridged { IfOk result (λ number. IsBridged net.old net.new from frame live number) }
-    ensures grown { OnOk result (Grows net.old net.new from ⊤ (λ other. other ≡ frame)) }
-    ensures few { OnOk result (register_count net.new.nets ≡ register_count net.old.nets + 1) }
+    ensures { IfOk result (λ number. Adds net.old net.new from frame ⊤
+        (IsBridged net.old net.new from frame live number)) }
 {
     let Net { signed, width, .. } = &net.nets()[from as usize];
     let (signed, width) = (*signed, *width);

@@ -2,7 +2,8 @@
 ghost use Rattle.std.specs.Prelude.{◌≡◌, ◌+◌, ◌*◌, ◌<◌, ◌^◌, length, IfOk, OnOk};
 ghost use Rattle.hw_net.specs.Frames.{register_count};
 ghost use Rattle.hw_lines.specs.Chain.{IsSource, most_frames};
-ghost use Rattle.hw_lines.specs.inner.Parts.{AreTaps, Grows};
+ghost use Rattle.hw_lines.specs.Register.{Grows};
+ghost use Rattle.hw_lines.specs.inner.Parts.{AreTaps};
 
 use crate::laws::tap_steps;
 use crate::registers::register_at;

@@ -19,7 +19,8 @@ use Rattle.hw_net.specs.Netlist.{HasWord}
 use Rattle.hw_net.specs.NetRows.{span_of}
 use Rattle.hw_net.specs.Growing.{Extends, InRows, IsCounted, MayReadNow, with_net}
 use Rattle.hw_net.proofs.Growing.{longer, still-there, extends-trans, is-counter-stays, in-rows-first, in-rows-last, in-rows-both, in-rows-one}
-use Rattle.hw_share.specs.inner.Parts.{IsNamed, Grows, IsChoosing, IsThere}
+use Rattle.hw_lines.specs.Register.{IsThere}
+use Rattle.hw_share.specs.inner.Parts.{IsNamed, Grows, IsChoosing}
 use Rattle.hw_share.specs.inner.Choices.{Tests, Chooses, IsTestAt, IsChoiceAt, HaveOneWord}
 use Rattle.hw_share.proofs.Numbers.{bit-word, truth-is, chosen-on, chosen-off}
 use Rattle.hw_net.proofs.Numbers.{wrapped-is}

@@ -1,5 +1,5 @@
 -- The Counter of a frame, and a test for a clock of the frame by it. Crates above may cite this file.
-use Rattle.std.proofs.Common.{◌≡◌, ℕ, suc, ◌+◌, ◌-◌, ◌<◌, ◌≤◌, inl, inr, Bool, true, false, if◌then◌else◌, List, [], ◌∷◌, length, Option, None, Some, slice_get, pos, ap, sym, ◌∙◌, subst, arith, refl, true≢false}
+use Rattle.std.proofs.Common.{◌≡◌, ℕ, suc, ◌+◌, ◌-◌, ◌<◌, inl, inr, Bool, true, false, if◌then◌else◌, List, [], ◌∷◌, length, Option, None, Some, slice_get, pos, ap, sym, ◌∙◌, subst, arith, refl, true≢false}
 use Rattle.std.specs.Ordering.{int_eq}
 use Rattle.std.proofs.lemmas.Option.{slice_get_within, none-some, same_Some}
 use Rattle.hw_net.specs.declared.netlist.Frame.{Frame}
@@ -9,12 +9,13 @@ use Rattle.hw_net.specs.declared.netlist.NetKind.TheVariants.{Comb, Reg, EnReg, 
 use Rattle.hw_net.specs.Circuit.{Circuit}
 use Rattle.hw_net.specs.Operation.{truth}
 use Rattle.hw_net.specs.Closed.{CounterTells}
-use Rattle.hw_net.specs.Frames.{is_frame, counted_frame, counter_from, counter_of, is_register, register_count, IsCounterAt}
+use Rattle.hw_net.specs.Frames.{is_frame, counted_frame, counter_from, counter_of, IsCounterAt}
 use Rattle.hw_net.specs.Registers.{Wave, Span, IsCounter}
 use Rattle.hw_net.specs.NetRows.{NetShows, span_of}
-use Rattle.hw_net.specs.Growing.{Extends, InRows, IsCounted, AddsCounter}
+use Rattle.hw_net.specs.Growing.{Extends, InRows, IsCounted}
 use Rattle.hw_net.proofs.Index.{same-is}
-use Rattle.hw_net.proofs.Growing.{split-last, still-there, appends-counter, count-append}
+use Rattle.hw_lines.proofs.Parts.{counter-part, counter-count}
+use Rattle.hw_net.proofs.Growing.{still-there, appends-counter}
 use Rattle.hw_share.specs.inner.Parts.{Grows}
 use Rattle.hw_share.specs.inner.Choices.{Tests}
 use Rattle.hw_net.proofs.Modular.{is-same, not-same}
@@ -73,39 +74,14 @@ counter-shows a b frame k p found = record {
 }
 
 -- what a Counter adds, if one is put in
-module _ (a b : Circuit) (frame : Frame) (some : 0 < frame.period) (counted : IsCounted a b frame) where
-  counter-part : (part : NetKind → Type 0) → part (Counter frame) → (k : ℕ) (net : Net) → length a.nets ≤ k → slice_get b.nets k ≡ Some net → part net.kind
-  counter-part part own k net past there = by (counter_of a.nets frame) refl
-    where
-      by : (found : Option ℕ) → counter_of a.nets frame ≡ found → part net.kind
-      by (Some number) e =
-          let same : b ≡ a = counted.stays (rw e refl) in
-          absurd (omega (arith, past, slice_get_within a.nets k net (ap (λ (x : Circuit). slice_get x.nets k) (sym same) ∙ there)))
-      by None e =
-          let added : AddsCounter a b frame = counted.grows e in
-          elim (split-last a.nets added.net net k (ap (λ (x : Circuit). slice_get x.nets k) (sym added.grown) ∙ there)) [
-            | inl front ↦ absurd (omega (arith, front.0, past))
-            | inr last ↦
-                let kind : Counter frame ≡ net.kind = sym added.counter.kind ∙ ap (λ (x : Net). x.kind) last.1 in
-                subst part kind own
-          ]
-
-  counter-count : register_count b.nets ≡ register_count a.nets + 0
-  counter-count = by (counter_of a.nets frame) refl
-    where
-      by : (found : Option ℕ) → counter_of a.nets frame ≡ found → register_count b.nets ≡ register_count a.nets + 0
-      by (Some number) e = ap (λ (x : Circuit). register_count x.nets) (counted.stays (rw e refl)) ∙ omega arith
-      by None e =
-          let added : AddsCounter a b frame = counted.grows e in
-          let none : is_register added.net.kind ≡ false = ap is_register added.counter.kind in
-          ap (λ (x : Circuit). register_count x.nets) added.grown ∙ count-append a.nets (added.net ∷ []) ∙ rw none (omega arith)
-
-  pub counter-grows : (named : List ℕ) (part : NetKind → Type 0) → part (Counter frame) → Grows a b named part 0
-  counter-grows named part own = record {
-    appends = appends-counter a b named frame some counted;
-    parts = counter-part part own;
-    registers = counter-count;
-  }
+pub counter-grows : (a b : Circuit) (frame : Frame) → 0 < frame.period → IsCounted a b frame → (named : List ℕ) (part : NetKind → Type 0) → part (Counter frame) → Grows a b named part 0
+counter-grows a b frame some counted named part own =
+    let same = counter-count a b frame some counted in
+    record {
+      appends = appends-counter a b named frame some counted;
+      parts = counter-part a b frame some counted part own;
+      registers = omega (arith, same);
+    }
 
 -- in the clock of the slot the counter has as many clocks to come
 pub tests-of : (n : ℕ) (span : Span) (slot : ℕ) (counter literal test : Wave) → slot < span.length → CounterTells n span counter → ((c : ℕ) → c < n → literal c ≡ pos (span.length - 1 - slot))

@@ -1,4 +1,4 @@
--- Netlists that grow by such parts, and what is kept of them.
+-- Netlists that grow by such parts, and what is kept of them. Crates above may cite this file.
 use Rattle.std.proofs.Common.{◌≡◌, ℕ, ◌+◌, inl, inr, List, [], ◌∷◌, length, All, Some, slice_get, ap, sym, ◌∙◌, arith, refl}
 use Rattle.std.proofs.lemmas.Bool.{cases_lt}
 use Rattle.std.proofs.lemmas.Option.{slice_get_within, same_Some}
@@ -12,7 +12,8 @@ use Rattle.hw_net.specs.Netlist.{HasWord}
 use Rattle.hw_net.specs.Growing.{Extends}
 use Rattle.hw_net.proofs.Growing.{longer, still-there, stood-there, word-stays, appends-self, appends-trans}
 use Rattle.hw_share.specs.Operations.{SameWord}
-use Rattle.hw_share.specs.inner.Parts.{IsNamed, Grows, IsChoosing, IsKeeping, IsThere}
+use Rattle.hw_lines.specs.Register.{IsThere}
+use Rattle.hw_share.specs.inner.Parts.{IsNamed, Grows, IsChoosing, IsKeeping}
 
 pub all-two : (P : ℕ → Type 0) (x y : ℕ) → P x → P y → All P (x ∷ y ∷ [])
 all-two P x y p q = All-cons P x (y ∷ []) p (All-cons P y [] q (All-nil P))

@@ -13,7 +13,8 @@ use Rattle.hw_share.specs.declared.operation.Operation.{Operation}
 use Rattle.hw_share.specs.declared.joining.Ends.{Ends}
 use Rattle.hw_share.specs.Operations.{SameWord}
 use Rattle.hw_share.specs.Shared.{IsFrameOf}
-use Rattle.hw_share.specs.inner.Parts.{IsNamed, Grows, IsChoosing, IsThere}
+use Rattle.hw_lines.specs.Register.{IsThere}
+use Rattle.hw_share.specs.inner.Parts.{IsNamed, Grows, IsChoosing}
 use Rattle.hw_share.specs.inner.Choices.{Tests, Chooses, IsTestAt, IsChoiceAt, HaveOneWord}
 use Rattle.hw_share.specs.inner.Joined.{Selects, GrowsOn, CanJoin, HasJoined, IsJoined, own_ends}
 use Rattle.hw_share.proofs.Grown.{all-three, grows-then, choosing-wider, word-from, word-later, there-later, named-later}

@@ -18,9 +18,10 @@ use Rattle.hw_share.specs.declared.joining.Ends.{Ends}
 use Rattle.hw_share.specs.Operations.{IsOperation, CanShare, operands_of, unit_count}
 use Rattle.hw_share.specs.Serving.{Serves}
 use Rattle.hw_share.specs.Shared.{IsServed, IsPart, IsFrameOf, AreUnits, AreShared, is_unit}
+use Rattle.hw_lines.specs.Register.{IsHeld}
 use Rattle.hw_share.specs.inner.Parts.{IsNamed, Grows, IsChoosing, IsMultiplying, IsKeeping}
 use Rattle.hw_share.specs.inner.Joined.{Offers, AreEnds, ends_at}
-use Rattle.hw_share.specs.inner.Steps.{Multiplies, IsMultiplier, IsHeld, AreMultipliers, AreResults, CanKeep, reads_of}
+use Rattle.hw_share.specs.inner.Steps.{Multiplies, IsMultiplier, AreMultipliers, AreResults, CanKeep, reads_of}
 use Rattle.hw_share.proofs.Grown.{grows-then, grows-wider}
 use Rattle.hw_share.proofs.Named.{unit-below}
 use Rattle.hw_share.proofs.Ready.{ends-of-unit}
@@ -75,8 +76,8 @@ module _ (closed : RegisterIsClosed) (a b c d : Circuit) (operations : List Oper
     unit-is : IsMultiplier b c own (length b.nets + one.unit)
     unit-is = made.each one.unit own inside (slice_get-get_or ends one.unit None inside ∙ ap Some known)
 
-    held : IsHeld c d (length b.nets + one.unit) one.frame one.slot result
-    held = subst (λ (x : ℕ). IsHeld c d x one.frame one.slot result) number-is (kept.each k one result at there)
+    held : IsHeld c d (length b.nets + one.unit) one.frame one.slot (pos 0) result
+    held = subst (λ (x : ℕ). IsHeld c d x one.frame one.slot (pos 0) result) number-is (kept.each k one result at there)
 
     product-shows : InRows a d (λ n rows. Multiplies n (rows own.left) (rows own.right) (rows (length b.nets + one.unit)) × IsReg n (span_of a.cycles one.frame) one.slot (pos 0) (rows (length b.nets + one.unit)) (rows result))
     product-shows = in-rows-both a d

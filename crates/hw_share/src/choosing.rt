@@ -1,6 +1,7 @@
 //! A choice between two nets.
 ghost use Rattle.std.specs.Prelude.{◌∷◌, [], IfOk, OnOk};
-ghost use Rattle.hw_share.specs.inner.Parts.{Grows, IsChoosing, IsThere};
+ghost use Rattle.hw_lines.specs.Register.{IsThere};
+ghost use Rattle.hw_share.specs.inner.Parts.{Grows, IsChoosing};
 ghost use Rattle.hw_share.specs.inner.Choices.{HaveOneWord, IsChoiceAt};
 
 use crate::combining::combine;

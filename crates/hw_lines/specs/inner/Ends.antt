@@ -9,7 +9,8 @@ use Rattle.hw_net.specs.Growing.{Extends}
 use Rattle.hw_lines.specs.declared.source.Source.{Source}
 use Rattle.hw_lines.specs.declared.source.Use.{Use}
 use Rattle.hw_lines.specs.Chain.{IsUse, IsAnswer, IsCountedIn, reader_of, is_among, different_after}
-use Rattle.hw_lines.specs.inner.Parts.{CanHold, Grows, AreTaps}
+use Rattle.hw_lines.specs.Register.{CanHold, Grows}
+use Rattle.hw_lines.specs.inner.Parts.{AreTaps}
 
 -- the taps reach the use, and the numbers that come have room
 pub record CanEnd (netlist : Circuit) (source : Source) (taps : List ℕ) (one : Use) : Type 0 where

@@ -6,7 +6,7 @@ use Rattle.hw_net.specs.Registers.{Wave, Span, Takes}
 use Rattle.hw_net.specs.NetRows.{span_of}
 use Rattle.hw_net.specs.Growing.{InRows}
 use Rattle.hw_share.specs.Operations.{SameWord}
-use Rattle.hw_share.specs.inner.Parts.{IsThere}
+use Rattle.hw_lines.specs.Register.{IsThere}
 
 -- the slot is one of the frame's
 pub record IsSlotOf (netlist : Circuit) (frame : Frame) (slot : ℕ) : Type 0 where

@@ -1,7 +1,6 @@
--- How a netlist grows while units are put in.
+-- How a netlist grows while units are put in. Crates above may cite this file.
 use Rattle.std.specs.Prelude.{◌≡◌, ℕ, ◌+◌, ◌<◌, ◌≤◌, ◌⊎◌, List, length, Contains, slice_get}
 use Rattle.std.specs.Prelude.{Some, ⊤}
-use Rattle.fx_num.specs.Word.{IsWord}
 use Rattle.hw_net.specs.declared.netlist.Frame.{Frame}
 use Rattle.hw_net.specs.declared.netlist.Net.{Net}
 use Rattle.hw_net.specs.declared.netlist.NetKind.{NetKind}
@@ -10,6 +9,7 @@ use Rattle.hw_net.specs.declared.netlist.NetKind.TheVariants.{Counter}
 use Rattle.hw_net.specs.Circuit.{Circuit}
 use Rattle.hw_net.specs.Frames.{register_count}
 use Rattle.hw_net.specs.Growing.{Appends}
+use Rattle.hw_lines.specs.Chain.{IsPart as IsLinePart}
 use Rattle.hw_share.specs.Shared.{IsChoosingOp}
 
 -- a call names the net, or has put it in
@@ -45,15 +45,4 @@ IsMultiplying (Counter frame) = ⊥
 
 -- registers of results
 abbrev pub IsKeeping : (Frame → Type 0) → NetKind → Type 0
-IsKeeping frames (Comb op args) = ⊥
-IsKeeping frames (Reg frame slot first from) = ⊤
-IsKeeping frames (EnReg frame enable reset first from) = ⊥
-IsKeeping frames (Bridge frame live from) = ⊥
-IsKeeping frames (Unit left right) = ⊥
-IsKeeping frames (Counter frame) = frames frame
-
--- the net is there in a word
-pub record IsThere (netlist : Circuit) (from : ℕ) : Type 0 where
-  pub net : Net
-  pub is : slice_get netlist.nets from ≡ Some net
-  pub word : IsWord net.width net.signed
+IsKeeping frames = IsLinePart ⊥ frames

@@ -2,17 +2,14 @@
 use Rattle.std.specs.Prelude.{◌≡◌, ℕ, ◌+◌, ◌*ℤ◌, ◌<◌, ◌||◌, List, [], ◌∷◌, length}
 use Rattle.std.specs.Prelude.{slice_get, slice_index_or, Option, None, Some, pos}
 use Rattle.fx_num.specs.Word.{IsWord}
-use Rattle.hw_net.specs.declared.netlist.Frame.{Frame}
 use Rattle.hw_net.specs.Circuit.{Circuit}
-use Rattle.hw_net.specs.NetRows.{span_of}
-use Rattle.hw_net.specs.Registers.{Wave, IsReg}
+use Rattle.hw_net.specs.Registers.{Wave}
 use Rattle.hw_net.specs.Growing.{InRows}
 use Rattle.hw_share.specs.declared.operation.Operation.{Operation}
 use Rattle.hw_share.specs.declared.joining.Ends.{Ends}
-use Rattle.hw_share.specs.Operations.{SameWord}
 use Rattle.hw_share.specs.Shared.{IsUnitAt, HasProductWord, IsFrameOf}
-use Rattle.hw_net.specs.Growing.{IsNewReg}
-use Rattle.hw_share.specs.inner.Parts.{Grows, IsMultiplying, IsKeeping, IsThere}
+use Rattle.hw_lines.specs.Register.{IsHeld, IsThere}
+use Rattle.hw_share.specs.inner.Parts.{Grows, IsMultiplying, IsKeeping}
 
 -- the nets are there in words whose product has a word
 pub record CanMultiply (netlist : Circuit) (ends : Ends) : Type 0 where
@@ -53,14 +50,6 @@ pub record AreMultipliers (before after : Circuit) (ends : List (Option Ends))
       → IsMultiplier before after own (length before.nets + unit)
   pub grown : Grows before after (reads_of ends) IsMultiplying 0
 
--- the net is a register of its own that takes another at a slot of a frame, and is 0 before
-pub record IsHeld (before after : Circuit) (from : ℕ) (frame : Frame) (slot number : ℕ)
-    : Type 0 where
-  pub shows : InRows before after (λ n rows.
-      IsReg n (span_of before.cycles frame) slot (pos 0) (rows from) (rows number))
-  pub word : SameWord before after from number
-  pub new : IsNewReg before after number
-
 -- the multiplier of each operation is there, and its slot is a number of 32 bits
 pub record CanKeep (netlist : Circuit) (operations : List Operation) (numbers : List ℕ)
     : Type 0 where
@@ -77,5 +66,5 @@ pub record AreResults (before after : Circuit) (operations : List Operation)
   pub size : length results ≡ count
   pub each : (k : ℕ) (one : Operation) (result : ℕ) → slice_get operations k ≡ Some one
       → slice_get results k ≡ Some result
-      → IsHeld before after (slice_index_or numbers one.unit 0) one.frame one.slot result
+      → IsHeld before after (slice_index_or numbers one.unit 0) one.frame one.slot (pos 0) result
   pub grown : Grows before after numbers (IsKeeping (IsFrameOf operations)) count

@@ -3,7 +3,8 @@ use Rattle.std.specs.Int.{w128}
 use Rattle.std.proofs.lemmas.Int.{to_z-of_z}
 use Rattle.hw_net.specs.declared.netlist.Frame.{Frame}
 use Rattle.hw_net.proofs.Growing.{last-of}
-use Rattle.hw_lines.specs.inner.Parts.{CanHold, IsTapAt}
+use Rattle.hw_lines.specs.Register.{CanHold}
+use Rattle.hw_lines.specs.inner.Parts.{IsTapAt}
 use Rattle.hw_lines.proofs.Steps.{tap-can-hold, tap-behind, tap-named, taps-first, taps-more, taps-stay, grows-self, grows-trans}
 use Rattle.hw_lines.proofs.source_taps.taps_of.Goals as goal
 
@@ -35,7 +36,7 @@ loop-step-preserved c =
     let now = c.loop-step.net in
     let new = c.register_at.new.net in
     let tap = inv.are.each c.loop-step.step c.loop-step.last inv.last_is in
-    let held = rw first at c.in_ok-last.ensures.held in
+    let held = rw first at c.in_ok-last.ensures.is in
     let grown = c.in_ok-last.ensures.grown in
     let slot : c.args.source.frame.period * c.cycles.result - 1 ≡ c.args.source.frame.period * c.args.net.now.cycles - 1 = ap (λ (x : ℕ). c.args.source.frame.period * x - 1) c.cycles.ensures in
     let next = tap-behind c.tap_steps.ensures c.args.net.now now new c.args.source c.loop-step.step c.loop-step.last (c.args.source.frame.period * c.cycles.result - 1) c.in_ok-last.last c.requires.cycles c.requires.source

@@ -1,6 +1,7 @@
 use Rattle.std.proofs.Common.{◌≡◌, ◌+◌, length, Some, slice_get}
 use Rattle.hw_net.specs.Frames.{register_count}
-use Rattle.hw_lines.specs.inner.Parts.{AreTaps, Grows}
+use Rattle.hw_lines.specs.Register.{Grows}
+use Rattle.hw_lines.specs.inner.Parts.{AreTaps}
 use Rattle.hw_lines.proofs.source_taps.taps_of.Given as goal
 
 abbrev pub invariant-loop-step : goal.invariant-loop-step

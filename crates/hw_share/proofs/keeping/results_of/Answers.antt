@@ -4,6 +4,7 @@ use Rattle.hw_share.specs.declared.operation.Operation.{Operation}
 use Rattle.hw_share.specs.inner.Steps.{AreResults}
 use Rattle.hw_share.proofs.Grown.{there-later}
 use Rattle.hw_share.proofs.Kept.{results-begun, results-more, no-operation}
+use Rattle.hw_share.proofs.Numbers.{zero-in}
 use Rattle.hw_share.proofs.keeping.results_of.Goals as goal
 
 pub bounds-numbers-one : goal.bounds-numbers-one
@@ -22,10 +23,11 @@ register_at-requires c =
     let one : Operation = slice_index_or c.args.operations.now c.loop-one.one-index no-operation in
     let at = slice_get-get_or c.args.operations.now c.loop-one.one-index no-operation c.loop-one-test.true in
     let cycles : c.loop-one.net.cycles ≡ c.args.net.now.cycles = inv.grown.appends.extends.cycles in
+    let there = there-later c.args.net.now c.loop-one.net (slice_index_or c.args.numbers.now one.unit 0) inv.grown.appends.extends (c.requires.can.there c.loop-one.one-index one at) in
     record {
       cycles = omega (arith, cycles, c.requires.cycles);
       period = c.requires.can.some c.loop-one.one-index one at;
-      from = there-later c.args.net.now c.loop-one.net (slice_index_or c.args.numbers.now one.unit 0) inv.grown.appends.extends (c.requires.can.there c.loop-one.one-index one at);
+      from = record { there = there; has_first = zero-in there.net.width there.net.signed there.word };
     }
 
 pub loop-one-init : goal.loop-one-init
@@ -35,10 +37,10 @@ pub loop-one-preserved : goal.loop-one-preserved
 loop-one-preserved c =
     let one : Operation = slice_index_or c.args.operations.now c.loop-one.one-index no-operation in
     let at = slice_get-get_or c.args.operations.now c.loop-one.one-index no-operation c.loop-one-test.true in
-    let held = c.in_ok-result.ensures.held in
+    let put = c.in_ok-result.ensures in
     rw c.in_ok-push.ensures.appended
     (results-more c.args.net.now c.loop-one.net c.register_at.new.net c.args.operations.now c.args.numbers.now c.loop-one.results c.loop-one.one-index c.in_ok-result.result one c.requires.can c.loop-one.invariant at
-    held c.in_ok-result.ensures.grown)
+    put.is (record { appends = put.grown.appends; parts = put.grown.parts; registers = put.few }))
 
 pub returns : goal.returns
 returns c =
