@@ -13,18 +13,19 @@ use Rattle.hw_net.specs.declared.netlist.NetKind.TheVariants.{Comb}
 use Rattle.hw_net.specs.declared.netlist.NetOp.TheVariants.{Const, Less, Or}
 use Rattle.hw_net.specs.Circuit.{Circuit}
 use Rattle.hw_net.specs.Growing.{with_net}
-use Rattle.hw_net.proofs.Growing.{longer}
+use Rattle.hw_net.proofs.Growing.{longer, one-longer}
 use Rattle.hw_shows.specs.Series.{AreSame, steady}
 use Rattle.hw_build.specs.inner.Controls.{IsGate, Tells, any_above, PutsControl, PutsAny}
-use Rattle.hw_build.specs.inner.Grown.{Grows}
+use Rattle.hw_share.specs.inner.Parts.{Grows, IsNamed}
 use Rattle.hw_build.specs.inner.Growth.{GoesOn, InLater}
-use Rattle.hw_build.proofs.Adding.{IsNamedIn, comb_grows, grows_then, put_extends, put_size, put_there, put_word}
+use Rattle.hw_build.proofs.Adding.{comb_grows, grows_then, put_word}
 use Rattle.dg_tables.proofs.Given.{zero_range}
 use Rattle.hw_build.proofs.Entering.{const_shows, grows_naming, none_named}
 use Rattle.hw_build.proofs.Growth.{goes_appended, goes_then, later_on}
 use Rattle.hw_build.proofs.Nets.{constant}
 use Rattle.hw_build.proofs.Tests.{above_shows, either_shows, in_bit}
 use Rattle.fx_type.proofs.Ranges.{type-word}
+use Rattle.hw_share.proofs.Put.{put-extends, put-there}
 
 -- ---- one more
 
@@ -69,8 +70,8 @@ module _ (before middle after : Circuit) (operands : List ℕ) (type : FxType) (
     any_begun =
         let zero_net : Net = record { signed = is_signed type; width = width_of type; kind = Comb (Const (pos 0)) [] } in
         let some_net : Net = record { signed = false; width = 1; kind = Comb (Const (pos 0)) [] } in
-        let size = put_size before middle zero_net zeroed in
-        let more = put_size middle after some_net begun in
+        let size = one-longer before middle zero_net zeroed in
+        let more = one-longer middle after some_net begun in
         record {
           grows =
               grows_then before middle after operands [] IsGate IsGate 0 0 (λ read is. absurd (omega (arith, is.1))) (λ kind is. is)
@@ -81,10 +82,10 @@ module _ (before middle after : Circuit) (operands : List ℕ) (type : FxType) (
           zero_new = omega arith;
           zero_inside = omega (arith, size, more);
           zeros = λ closed hubs small.
-              later_on closed closed hubs middle after (λ n rows. AreSame n (rows (length before.nets)) (steady (pos 0))) (omega arith) (goes_appended closed hubs middle after (put_extends middle after some_net begun))
+              later_on closed closed hubs middle after (λ n rows. AreSame n (rows (length before.nets)) (steady (pos 0))) (omega arith) (goes_appended closed hubs middle after (put-extends middle after some_net begun))
               (const_shows before middle type (pos 0) is_type (zero_range type is_type) zeroed closed hubs (length before.nets) refl small);
           tells = λ closed hubs small.
-              let shows = constant closed hubs after (length middle.nets) (pos 0) some_net (record { at = put_there middle after some_net begun; settled = inr (omega (arith, small, size)) }) refl one_bit (in_bit false) in
+              let shows = constant closed hubs after (length middle.nets) (pos 0) some_net (record { at = put-there middle after some_net begun; settled = inr (omega (arith, small, size)) }) refl one_bit (in_bit false) in
               record { holds = λ later goes n inputs rows are. record { at = λ c below. (shows.holds later goes n inputs rows are).at c below } };
         }
 
@@ -97,8 +98,8 @@ module _ (a b c d : Circuit) (operands : List ℕ) (count zero_at some operand :
     any_next =
         let test : Net = record { signed = false; width = 1; kind = Comb Less (zero_at ∷ operand ∷ []) } in
         let join : Net = record { signed = false; width = 1; kind = Comb Or (some ∷ length b.nets ∷ []) } in
-        let size = put_size b c test tested in
-        let more = put_size c d join joined in
+        let size = one-longer b c test tested in
+        let more = one-longer c d join joined in
         let old = longer a b any.grows.appends.extends in
         let inside = any.zero_inside in
         let zero_new = any.zero_new in
@@ -107,10 +108,10 @@ module _ (a b c d : Circuit) (operands : List ℕ) (count zero_at some operand :
         let low = All-contains (λ (x : ℕ). x < length a.nets) operands operand there among in
         let one : Grows b c (zero_at ∷ operand ∷ []) IsGate 0 = comb_grows b c Less (zero_at ∷ operand ∷ []) false 1 IsGate tested one_bit (refl, tt) (λ read names. two_are zero_at operand read (λ (x : ℕ). x < length b.nets) inside (omega (arith, low, old)) names) (λ e. cc) in
         let two : Grows c d (some ∷ length b.nets ∷ []) IsGate 0 = comb_grows c d Or (some ∷ length b.nets ∷ []) false 1 IsGate joined one_bit (refl, tt) (λ read names. two_are some (length b.nets) read (λ (x : ℕ). x < length c.nets) (omega (arith, some_inside, size)) (omega (arith, size)) names) (λ e. cc) in
-        let up_to : Grows a c operands IsGate 0 = grows_then a b c operands (zero_at ∷ operand ∷ []) IsGate IsGate 0 0 (λ read names. two_are zero_at operand read (IsNamedIn a b operands) (inr (zero_new, inside)) (inl among) names) (λ kind gate. gate) any.grows one in
+        let up_to : Grows a c operands IsGate 0 = grows_then a b c operands (zero_at ∷ operand ∷ []) IsGate IsGate 0 0 (λ read names. two_are zero_at operand read (IsNamed a b operands) (inr (zero_new, inside)) (inl among) names) (λ kind gate. gate) any.grows one in
         record {
           grows = grows_then a c d operands (some ∷ length b.nets ∷ []) IsGate IsGate 0 0
-              (λ read names. two_are some (length b.nets) read (IsNamedIn a c operands) (inr (new, omega (arith, some_inside, size))) (inr (old, omega (arith, size))) names) (λ kind gate. gate) up_to two;
+              (λ read names. two_are some (length b.nets) read (IsNamed a c operands) (inr (new, omega (arith, some_inside, size))) (inr (old, omega (arith, size))) names) (λ kind gate. gate) up_to two;
           word = put_word c d join joined;
           new = omega (arith, old, size);
           zero_new = zero_new;
@@ -118,11 +119,11 @@ module _ (a b c d : Circuit) (operands : List ℕ) (count zero_at some operand :
           zeros = λ closed hubs small.
               later_on closed closed hubs b d (λ n rows. AreSame n (rows zero_at) (steady (pos 0))) (omega arith) (goes_to closed hubs) (any.zeros closed hubs small);
           tells = λ closed hubs small.
-              let zeros = later_on closed closed hubs b c (λ n rows. AreSame n (rows zero_at) (steady (pos 0))) (omega arith) (goes_appended closed hubs b c (put_extends b c test tested)) (any.zeros closed hubs small) in
-              let above = above_shows closed hubs c (length b.nets) zero_at operand test (record { at = put_there b c test tested; settled = inr (omega (arith, small, old)) }) refl refl refl zeros in
-              let above_d = later_on closed closed hubs c d (λ n rows. Tells n (λ clock. int_lt (pos 0) (rows operand clock)) (rows (length b.nets))) (omega arith) (goes_appended closed hubs c d (put_extends c d join joined)) above in
+              let zeros = later_on closed closed hubs b c (λ n rows. AreSame n (rows zero_at) (steady (pos 0))) (omega arith) (goes_appended closed hubs b c (put-extends b c test tested)) (any.zeros closed hubs small) in
+              let above = above_shows closed hubs c (length b.nets) zero_at operand test (record { at = put-there b c test tested; settled = inr (omega (arith, small, old)) }) refl refl refl zeros in
+              let above_d = later_on closed closed hubs c d (λ n rows. Tells n (λ clock. int_lt (pos 0) (rows operand clock)) (rows (length b.nets))) (omega arith) (goes_appended closed hubs c d (put-extends c d join joined)) above in
               let before_d = later_on closed closed hubs b d (λ n rows. Tells n (any_above (take count operands) rows) (rows some)) (omega arith) (goes_to closed hubs) (any.tells closed hubs small) in
-              let either = either_shows closed hubs d (length c.nets) some (length b.nets) join (any_above (take count operands)) (λ rows clock. int_lt (pos 0) (rows operand clock)) (record { at = put_there c d join joined; settled = inr (omega (arith, small, old, size)) }) refl refl refl before_d above_d in
+              let either = either_shows closed hubs d (length c.nets) some (length b.nets) join (any_above (take count operands)) (λ rows clock. int_lt (pos 0) (rows operand clock)) (record { at = put-there c d join joined; settled = inr (omega (arith, small, old, size)) }) refl refl refl before_d above_d in
               record {
                 holds = λ later goes n inputs rows are. record {
                   at = λ clock below. (either.holds later goes n inputs rows are).at clock below ∙ ap stored_truth (sym (any_more (λ k. int_lt (pos 0) (rows k clock)) operands count operand is));
@@ -132,8 +133,8 @@ module _ (a b c d : Circuit) (operands : List ℕ) (count zero_at some operand :
       where
         goes_to : (closed hubs : ℕ) → GoesOn closed hubs b d
         goes_to closed hubs =
-            goes_then closed hubs b c d (goes_appended closed hubs b c (put_extends b c (record { signed = false; width = 1; kind = Comb Less (zero_at ∷ operand ∷ []) }) tested))
-            (goes_appended closed hubs c d (put_extends c d (record { signed = false; width = 1; kind = Comb Or (some ∷ length b.nets ∷ []) }) joined))
+            goes_then closed hubs b c d (goes_appended closed hubs b c (put-extends b c (record { signed = false; width = 1; kind = Comb Less (zero_at ∷ operand ∷ []) }) tested))
+            (goes_appended closed hubs c d (put-extends c d (record { signed = false; width = 1; kind = Comb Or (some ∷ length b.nets ∷ []) }) joined))
 
 -- of all
 pub any_all : (before after : Circuit) (operands : List ℕ) (zero_at some : ℕ) → PutsAny before after operands (length operands) zero_at some → PutsControl before after operands some

@@ -21,11 +21,13 @@ use Rattle.hw_shows.specs.Series.{AreSame, steady}
 use Rattle.hw_build.specs.declared.entries.Entry.{Entry}
 use Rattle.hw_build.specs.declared.parts.Word.{Word}
 use Rattle.hw_build.specs.inner.Entries.{IsEntryPart, IsOwnMultiply, IsHeldAt, IsMadeBy, PutsEntry, kept_each, keeps_entry, multiply_at}
-use Rattle.hw_build.specs.inner.Grown.{Grows}
+use Rattle.hw_share.specs.inner.Parts.{Grows}
 use Rattle.hw_build.specs.inner.Growth.{InLater}
-use Rattle.hw_build.proofs.Adding.{comb_grows, grows_self, grows_then, put_there, put_word}
+use Rattle.hw_build.proofs.Adding.{comb_grows, grows_then, put_word}
 use Rattle.hw_build.proofs.Nets.{constant}
 use Rattle.fx_type.proofs.Ranges.{type-word, range-word}
+use Rattle.hw_share.proofs.Grown.{grows-self}
+use Rattle.hw_share.proofs.Put.{put-there}
 
 -- ---- no multiplication
 
@@ -50,7 +52,7 @@ quiet_multiply diagram timing block before after named count grows = record {
 -- what a call names may be more
 pub grows_naming : (before after : Circuit) (named more : List ℕ) (part : NetKind → Type 0) (count : ℕ) → ((read : ℕ) → Contains named read → Contains more read) → Grows before after named part count → Grows before after more part count
 grows_naming before after named more part count names grows =
-    subst (Grows before after more part) e (grows_then before before after more named part part 0 count (λ read is. inl (names read is)) (λ kind is. is) (grows_self before more part) grows)
+    subst (Grows before after more part) e (grows_then before before after more named part part 0 count (λ read is. inl (names read is)) (λ kind is. is) (grows-self before more part) grows)
   where
     e : 0 + count ≡ count
     e = omega arith
@@ -100,4 +102,4 @@ module _ (before after : Circuit) (type : FxType) (value : ℤ) (is_type : IsTyp
     pub const_shows : (closed hubs number : ℕ) → number ≡ length before.nets → hubs ≤ length before.nets → InLater closed hubs after (λ n rows. AreSame n (rows number) (steady value))
     const_shows closed hubs number at small =
         subst (λ (k : ℕ). InLater closed hubs after (λ n rows. AreSame n (rows k) (steady value))) (sym at)
-        (constant closed hubs after (length before.nets) value const_net (record { at = put_there before after const_net grown; settled = inr small }) refl (type-word type is_type) (range-word type value range))
+        (constant closed hubs after (length before.nets) value const_net (record { at = put-there before after const_net grown; settled = inr small }) refl (type-word type is_type) (range-word type value range))

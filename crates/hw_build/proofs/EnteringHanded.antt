@@ -20,10 +20,10 @@ use Rattle.hw_shows.specs.Timing.{Timing}
 use Rattle.hw_build.specs.Places.{Places}
 use Rattle.hw_build.specs.declared.entries.Entry.{Entry}
 use Rattle.hw_build.specs.inner.Entries.{AreOffered, HasFirst, PutsEntry, enable_types, hands_on, keeps_entry, multiply_at, operand_types}
-use Rattle.hw_build.proofs.Adding.{grows_self}
 use Rattle.hw_build.proofs.Entering.{IsQuiet, quiet_entry}
 use Rattle.hw_build.proofs.EnteringKept.{first_operand}
 use Rattle.hw_build.proofs.Making.{IsMadeLater, delay_on_line, made_kind}
+use Rattle.hw_share.proofs.Grown.{grows-self}
 
 -- a Delay whose line has its registers
 pub free_is : (enable driver : Option ℕ) → not (keeps_own enable driver) ≡ true → (enable ≡ None) × (source : ℕ) × (driver ≡ Some source)
@@ -82,7 +82,7 @@ pub handed_entry : (diagram : Diagram) (timing : Timing) (net : Circuit) (block 
 handed_entry diagram timing net block b port element operands entry hands args head none =
     let own : AreArgs net ((attributes_of diagram).type_at block port ∷ []) operands = subst (λ (types : List FxType). AreArgs net types operands) (hands_types diagram block b port b.kind hands) args in
     let count = own.count in
-    quiet_entry diagram timing net net block b port element operands entry b.kind 0 refl (grows_self net operands (IsQuiet diagram timing block)) (omega arith) none
+    quiet_entry diagram timing net net block b port element operands entry b.kind 0 refl (grows-self net operands (IsQuiet diagram timing block)) (omega arith) none
     (hands_multiply (length net.nets) b.enable (period_into diagram (attributes_of diagram) block 1) b.kind hands)
     (subst (λ (n : ℕ). HasWord net.nets n (width_of ((attributes_of diagram).type_at block port)) (is_signed ((attributes_of diagram).type_at block port))) (sym head) (first_operand net ((attributes_of diagram).type_at block port) [] operands own))
     (inl (subst (Contains operands) (sym head) (Contains-get_or operands 0 0 (omega (arith, count)))))

@@ -38,10 +38,10 @@ use Rattle.hw_build.specs.inner.Entries.{AreOffered, HasFirst, IsFrameOf, IsHeld
 use Rattle.hw_build.specs.inner.Growth.{InLater}
 use Rattle.hw_build.specs.inner.Registering.{enables_by, taken_by, IsOfFrame, AreSeries}
 use Rattle.hw_build.specs.inner.Sites.{HasEnabledOperands, IsKept, Puts, TakesAs}
-use Rattle.hw_build.proofs.Adding.{grows_wider}
 use Rattle.hw_build.proofs.Entering.{IsQuiet, grows_naming, quiet_entry}
 use Rattle.hw_build.proofs.Making.{made_kind, delay_alone, delay_enabled}
 use Rattle.hw_build.proofs.Nets.{registered, enabled, series, enabled_series}
+use Rattle.hw_share.proofs.Grown.{grows-wider}
 
 -- registers of the frame of a block
 pub quiet_frame : (diagram : Diagram) (timing : Timing) (block : ℕ) (frame : Frame) → IsFrameOf diagram timing block frame → (kind : NetKind) → IsOfFrame frame kind → IsQuiet diagram timing block kind
@@ -166,7 +166,7 @@ module _ (diagram : Diagram) (timing : Timing) (before after : Circuit) (block :
         let new = last.new in
         let much = kept_is keeps in
         quiet_entry diagram timing before after block b port element operands entry (Delay delay list reset) delay is
-        (grows_naming before after named operands (IsQuiet diagram timing block) delay names (grows_wider before after named (IsOfFrame frame) (IsQuiet diagram timing block) delay (quiet_frame diagram timing block frame own) are.grows))
+        (grows_naming before after named operands (IsQuiet diagram timing block) delay names (grows-wider before after named (IsOfFrame frame) (IsQuiet diagram timing block) delay (quiet_frame diagram timing block frame own) are.grows))
         (omega (arith, much)) none refl
         (subst (λ (n : ℕ). HasWord after.nets n (width_of ((attributes_of diagram).type_at block port)) (is_signed ((attributes_of diagram).type_at block port))) (sym net)
         (subst (λ (t : FxType). HasWord after.nets (taken_by From begin delay) (width_of t) (is_signed t)) (types port) (subst (λ (w : Word). HasWord after.nets (taken_by From begin delay) w.width w.signed) word_is are.last)))

@@ -28,7 +28,7 @@ use Rattle.hw_net.specs.declared.netlist.NetOp.TheVariants.{Const, Choose}
 use Rattle.hw_net.specs.Circuit.{Circuit}
 use Rattle.hw_net.specs.Growing.{with_net}
 use Rattle.hw_net.specs.Netlist.{HasWord}
-use Rattle.hw_net.proofs.Growing.{longer, word-stays}
+use Rattle.hw_net.proofs.Growing.{longer, word-stays, one-longer}
 use Rattle.hw_lower.specs.Lowered.{AreArgs}
 use Rattle.hw_sched.specs.Storage.{keeps_own, kept_by_role}
 use Rattle.hw_shows.specs.Timing.{Timing}
@@ -38,16 +38,18 @@ use Rattle.hw_build.specs.declared.entries.Entry.{Entry}
 use Rattle.hw_build.specs.declared.parts.Word.{Word}
 use Rattle.hw_build.specs.inner.Controls.{IsGate, PutsControl, any_above}
 use Rattle.hw_build.specs.inner.Entries.{AreOffered, HasFirst, IsFrameOf, PutsEntry, enable_types, enables_of, kept_each}
-use Rattle.hw_build.specs.inner.Grown.{Grows}
+use Rattle.hw_share.specs.inner.Parts.{Grows, IsNamed}
 use Rattle.hw_build.specs.inner.Growth.{InLater}
 use Rattle.hw_build.specs.inner.Registering.{taken_by, IsOfFrame, AreSeries}
-use Rattle.hw_build.proofs.Adding.{IsNamedIn, comb_grows, grows_then, grows_wider, put_extends, put_size, put_there, put_word}
+use Rattle.hw_build.proofs.Adding.{comb_grows, grows_then, put_word}
 use Rattle.hw_build.proofs.Entering.{IsQuiet, grows_naming, quiet_entry, const_grows, const_shows, const_word}
 use Rattle.hw_build.proofs.EnteringKept.{quiet_frame, state_is, enabled_shows, first_operand, second_operand, two_named}
 use Rattle.hw_build.proofs.Growth.{goes_appended, later_on}
 use Rattle.hw_build.proofs.Making.{IsMadeLater, made_kind, out_held, out_reset}
 use Rattle.hw_build.proofs.Nets.{chosen}
 use Rattle.fx_type.proofs.Ranges.{type-word}
+use Rattle.hw_share.proofs.Grown.{grows-wider}
+use Rattle.hw_share.proofs.Put.{put-extends, put-there}
 
 -- ---- a control
 
@@ -66,7 +68,7 @@ quiet_gate diagram timing block (Counter frame) is = absurd is
 pub tested_entry : (diagram : Diagram) (timing : Timing) (before after : Circuit) (block : ℕ) (b : Block) (port element : ℕ) (operands : List ℕ) (entry : Entry) (type : FxType) → b.kind ≡ EnableTest → ((port : ℕ) → type ≡ (attributes_of diagram).type_at block port) → (attributes_of diagram).type_at block 1 ≡ Logical
     → PutsControl before after operands entry.net → entry.multiply ≡ None → PutsEntry diagram timing before after block b port element operands entry
 tested_entry diagram timing before after block b port element operands entry type is types logical puts none =
-    quiet_entry diagram timing before after block b port element operands entry EnableTest 0 is (grows_wider before after operands IsGate (IsQuiet diagram timing block) 0 (quiet_gate diagram timing block) puts.grows) (omega arith) none refl
+    quiet_entry diagram timing before after block b port element operands entry EnableTest 0 is (grows-wider before after operands IsGate (IsQuiet diagram timing block) 0 (quiet_gate diagram timing block) puts.grows) (omega arith) none refl
     (subst (λ (t : FxType). HasWord after.nets entry.net (width_of t) (is_signed t)) (sym logical ∙ sym (types 1) ∙ types port) puts.word) (inr puts.new) (λ e. absurd (false≢true e))
     (λ closed hubs places small cycles offered at first slot.
     let given : operands ≡ map (places.offered block 1) (numbers_from 0 (width_into diagram (attributes_of diagram) block 1)) = subst (λ (k : Kind). AreOffered diagram places block b port element k operands) is offered in
@@ -141,14 +143,14 @@ module _ (diagram : Diagram) (timing : Timing) (before middle after : Circuit) (
           let more = second.1 in
           let from_there = slice_get_within before.nets From from_word.net from_word.is in
           let other_there = slice_get_within middle.nets other other_word.net other_word.is in
-          let size = put_size middle after Choice grown in
+          let size = one-longer middle after Choice grown in
           let much = kept_is in
           let choice : Grows middle after (Enable ∷ From ∷ other ∷ []) (IsQuiet diagram timing block) 0 =
           comb_grows middle after Choose (Enable ∷ From ∷ other ∷ []) (is_signed type) (width_of type) (IsQuiet diagram timing block) grown (type-word type is_type) (refl, tt)
           (λ read names. three_are Enable From other read (λ (x : ℕ). x < length middle.nets) (omega (arith, more, old)) (omega (arith, from_there, old)) other_there names) (tt, λ e. cc) in
           quiet_entry diagram timing before after block b port element operands entry (EnOut reset list) ((if reset then 0 else 1) + 0) is
           (grows_then before middle after operands (Enable ∷ From ∷ other ∷ []) (IsQuiet diagram timing block) (IsQuiet diagram timing block) (if reset then 0 else 1) 0
-          (λ read names. three_are Enable From other read (IsNamedIn before middle operands) (inl (Contains-get_or operands 1 0 second.0)) (inl (Contains-get_or operands 0 0 (first_there second.0))) (inr (other_new, other_there)) names) (λ kind quiet. quiet) first_part choice)
+          (λ read names. three_are Enable From other read (IsNamed before middle operands) (inl (Contains-get_or operands 1 0 second.0)) (inl (Contains-get_or operands 0 0 (first_there second.0))) (inr (other_new, other_there)) names) (λ kind quiet. quiet) first_part choice)
           (at_most reset much) none refl
           (subst (λ (n : ℕ). HasWord after.nets n (width_of ((attributes_of diagram).type_at block port)) (is_signed ((attributes_of diagram).type_at block port))) (sym net)
           (subst (λ (t : FxType). HasWord after.nets (length middle.nets) (width_of t) (is_signed t)) (types port) (put_word middle after Choice grown)))
@@ -158,9 +160,9 @@ module _ (diagram : Diagram) (timing : Timing) (before middle after : Circuit) (
           let offer : From ≡ places.offered block 1 element = ap (λ (l : List ℕ). slice_index_or l 0 0) given in
           let enables : Enable ≡ places.enable block = ap (λ (l : List ℕ). slice_index_or l 1 0) given ∙ ap (λ (e : Option ℕ). slice_index_or (places.offered block 1 element ∷ enables_of places block e) 1 0) inside in
           let named : places.entry block port element ≡ length middle.nets = at.net ∙ net in
-          let shows = chosen closed hubs after (length middle.nets) Enable From other (width_of type) (is_signed type) Choice (record { at = put_there middle after Choice grown; settled = inr (omega (arith, small, old)) }) refl refl refl (type-word type is_type)
-          (word-stays middle after From (width_of type) (is_signed type) (put_extends middle after Choice grown) (word-stays before middle From (width_of type) (is_signed type) first_part.appends.extends from_word))
-          (word-stays middle after other (width_of type) (is_signed type) (put_extends middle after Choice grown) other_word) in
+          let shows = chosen closed hubs after (length middle.nets) Enable From other (width_of type) (is_signed type) Choice (record { at = put-there middle after Choice grown; settled = inr (omega (arith, small, old)) }) refl refl refl (type-word type is_type)
+          (word-stays middle after From (width_of type) (is_signed type) (put-extends middle after Choice grown) (word-stays before middle From (width_of type) (is_signed type) first_part.appends.extends from_word))
+          (word-stays middle after other (width_of type) (is_signed type) (put-extends middle after Choice grown) other_word) in
           made_kind diagram timing places closed hubs after block b port element (EnOut reset list) is
           (makes closed hubs places small cycles offer enables named (at.begins asks) (at.state asks) first
           (subst (λ (x : ℕ). InLater closed hubs after (λ n rows. IsChosen n (rows x) (rows (places.offered block 1 element)) (rows other) (rows (places.entry block port element)))) enables
@@ -184,7 +186,7 @@ pub held_entry : (diagram : Diagram) (timing : Timing) (before middle after : Ci
 held_entry diagram timing before middle after block b port element operands entry control list value type frame word last is inside types is_type one args word_is own are last_is grown net none =
     out_entry diagram timing before middle after block b port element operands entry control list false value type last is inside types is_type one args grown net none
     (grows_naming before middle (slice_index_or operands 1 0 ∷ slice_index_or operands 0 0 ∷ []) operands (IsQuiet diagram timing block) 1 (two_named operands two.0)
-    (grows_wider before middle (slice_index_or operands 1 0 ∷ slice_index_or operands 0 0 ∷ []) (IsOfFrame frame) (IsQuiet diagram timing block) 1 (quiet_frame diagram timing block frame own) are.grows))
+    (grows-wider before middle (slice_index_or operands 1 0 ∷ slice_index_or operands 0 0 ∷ []) (IsOfFrame frame) (IsQuiet diagram timing block) 1 (quiet_frame diagram timing block frame own) are.grows))
     (omega (arith, begin_new, last_begin))
     (subst (λ (x : ℕ). HasWord middle.nets x (width_of type) (is_signed type)) (sym last_is) (subst (λ (w : Word). HasWord middle.nets (taken_by (slice_index_or operands 0 0) entry.state 1) w.width w.signed) word_is are.last))
     (λ closed hubs places small cycles offer enables named begins states first choice.
@@ -195,7 +197,7 @@ held_entry diagram timing before middle after block b port element operands entr
     (λ period is_period.
     let shows = enabled_shows diagram timing before middle block frame word (slice_index_or operands 1 0 ∷ slice_index_or operands 0 0 ∷ []) (slice_index_or operands 0 0) entry.state 1 own closed hubs small cycles (places.state block element) numbers period is_period (slice_index_or operands 1 0) false value are in
     later_on closed closed hubs middle after (λ n rows. IsEnabledSeries n (span_at timing period block) 1 false (places.first block element) (rows (places.enable block)) (rows (places.offered block 1 element)) (λ k. rows (places.state block element k))) (omega arith)
-    (goes_appended closed hubs middle after (put_extends middle after (record { signed = is_signed type; width = width_of type; kind = Comb Choose (slice_index_or operands 1 0 ∷ slice_index_or operands 0 0 ∷ last ∷ []) }) grown))
+    (goes_appended closed hubs middle after (put-extends middle after (record { signed = is_signed type; width = width_of type; kind = Comb Choose (slice_index_or operands 1 0 ∷ slice_index_or operands 0 0 ∷ last ∷ []) }) grown))
     (subst (λ (v : ℤ). InLater closed hubs middle (λ n rows. IsEnabledSeries n (span_at timing period block) 1 false v (rows (places.enable block)) (rows (places.offered block 1 element)) (λ k. rows (places.state block element k)))) (sym value_is)
     (subst (λ (e : ℕ). InLater closed hubs middle (λ n rows. IsEnabledSeries n (span_at timing period block) 1 false value (rows e) (rows (places.offered block 1 element)) (λ k. rows (places.state block element k)))) enables
     (subst (λ (f : ℕ). InLater closed hubs middle (λ n rows. IsEnabledSeries n (span_at timing period block) 1 false value (rows (slice_index_or operands 1 0)) (rows f) (λ k. rows (places.state block element k)))) offer shows)))))
@@ -226,7 +228,7 @@ reset_entry diagram timing before middle after block b port element operands ent
     out_reset diagram timing places closed hubs after block b port element list constant (subst (λ (k : Kind). HasFirst diagram block element k (places.first block element)) is first)
     (subst (λ (v : ℤ). InLater closed hubs after (λ n rows. AreSame n (rows constant) (steady v))) (sym value_is)
     (later_on closed closed hubs middle after (λ n rows. AreSame n (rows constant) (steady value)) (omega arith)
-    (goes_appended closed hubs middle after (put_extends middle after (record { signed = is_signed type; width = width_of type; kind = Comb Choose (slice_index_or operands 1 0 ∷ slice_index_or operands 0 0 ∷ constant ∷ []) }) grown))
+    (goes_appended closed hubs middle after (put-extends middle after (record { signed = is_signed type; width = width_of type; kind = Comb Choose (slice_index_or operands 1 0 ∷ slice_index_or operands 0 0 ∷ constant ∷ []) }) grown))
     (const_shows before middle type value is_type range made closed hubs constant number small))) choice)
   where
     first_of : (places : Places) → HasFirst diagram block element b.kind (places.first block element) → places.first block element ≡ value

@@ -28,7 +28,7 @@ use Rattle.hw_shows.specs.Waves.{IsCarriedOut}
 use Rattle.hw_build.specs.Places.{Places, waves_of}
 use Rattle.hw_build.specs.declared.entries.Entry.{Entry}
 use Rattle.hw_build.specs.inner.Entries.{AreOffered, IsEntryPart, IsOwnMultiply, PutsEntry, keeps_entry, multiply_at, number_behind, operand_types}
-use Rattle.hw_build.specs.inner.Grown.{Grows}
+use Rattle.hw_share.specs.inner.Parts.{Grows}
 use Rattle.hw_build.specs.inner.Growth.{InLater}
 use Rattle.hw_build.specs.inner.Lowering.{IsLoweredIn, offered_args, operation_at}
 use Rattle.hw_build.proofs.Elements.{carried_out, lowered_by_call}

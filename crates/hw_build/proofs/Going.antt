@@ -44,6 +44,12 @@ module _ (diagram : Diagram) (timing : Timing) (places : Places) (place_of : ℕ
   pub piped_later : (closed more : ℕ) (now later : Circuit) (block port element : ℕ) → closed ≤ more → GoesOn closed hubs now later → IsElementPiped diagram timing places closed hubs now block port element → IsElementPiped diagram timing places more hubs later block port element
   piped_later closed more now later block port element less goes piped = later_on closed more hubs now later (λ n rows. IsPiped diagram (attributes_of diagram) timing n (waves_of places rows) ((attributes_of diagram).period_at block) block port element) less goes piped
 
+  low_later : (closed : ℕ) (now later : Circuit) (level : ℕ → ℕ) → GoesOn closed hubs now later → IsGoing diagram timing places place_of begun start closed hubs now level
+      → (block : ℕ) (b : Block) (element slot : ℕ) → slice_get diagram.blocks block ≡ Some b → element < (attributes_of diagram).width_at block 1 → timing.slot block element ≡ Some slot → (places.product block element < length later.nets) × (level (places.product block element) ≡ 0)
+  low_later closed now later level goes going block b element slot at below told =
+      let is = going.low block b element slot at below told in
+      (still_within closed hubs now later goes (places.product block element) is.0, is.1)
+
   -- ---- another netlist of the same nets
 
   same_goes : (closed : ℕ) (now later : Circuit) → later.nets ≡ now.nets → later.cycles ≡ now.cycles → GoesOn closed hubs now later
@@ -112,9 +118,7 @@ module _ (diagram : Diagram) (timing : Timing) (places : Places) (place_of : ℕ
         way = way_same closed 0 now later level nets cycles going.way;
         few = omega (arith, few, count);
         late = going.late;
-        low = λ block b element slot at below told.
-            let is = going.low block b element slot at below told in
-            (still_within closed hubs now later goes (places.product block element) is.0, is.1);
+        low = low_later closed now later level goes going;
         waits = λ block b port element shown past.
             let is = going.waits block b port element shown past in
             record { at = ap (λ (all : List Net). slice_get all (places.after block port element)) nets ∙ is.at; level_is = is.level_is };
@@ -160,9 +164,7 @@ module _ (diagram : Diagram) (timing : Timing) (places : Places) (place_of : ℕ
           way = by_connect diagram timing places place_of hubs closed 0 argument before after level [] is kind_is (subst (λ (n : Net). IsWord n.width n.signed) net_is typed) high there (omega (arith, level_is, low)) going.way;
           few = omega (arith, few, inputs);
           late = going.late;
-          low = λ other q member slot at below told.
-              let own = going.low other q member slot at below told in
-              (still_within closed hubs before after connected_goes (places.product other member) own.0, own.1);
+          low = low_later closed before after level connected_goes going;
           waits = λ other q outer member also past.
               let own = going.waits other q outer member also (omega (arith, past)) in
               record {

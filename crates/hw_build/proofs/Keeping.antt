@@ -12,20 +12,14 @@ use Rattle.hw_net.specs.Circuit.{Circuit}
 use Rattle.hw_net.specs.Frames.{frame_of, counted_frame, counter_of, is_register}
 use Rattle.hw_net.specs.Netlist.{IsKind, HasWord, reads, reads_now}
 use Rattle.hw_net.specs.Growing.{IsCounted, with_net}
-use Rattle.hw_net.proofs.Growing.{longer, still-there, word-stays, counter-stays}
+use Rattle.hw_net.proofs.Growing.{longer, still-there, word-stays, counter-stays, one-longer}
 use Rattle.hw_share.proofs.Counters.{counter-grows}
 use Rattle.hw_build.specs.declared.parts.Word.{Word}
 use Rattle.hw_build.specs.declared.states.Enabled.{Enabled}
-use Rattle.hw_build.specs.inner.Grown.{Grows}
+use Rattle.hw_share.specs.inner.Parts.{Grows, IsNamed}
 use Rattle.hw_build.specs.inner.Registering.{enables_by, register_of, taken_by, IsOfFrame, AreSeries}
-use Rattle.hw_build.proofs.Adding.{IsNamedIn, grows_then, put_extends, put_there, put_size, put_word, put_grows}
-
--- ---- the Counter
-
-counter_grows : (a b : Circuit) (named : List ℕ) (frame : Frame) → 0 < frame.period → IsCounted a b frame → Grows a b named (IsOfFrame frame) 0
-counter_grows a b named frame some counted =
-    let grows = counter-grows a b frame some counted named (IsOfFrame frame) refl in
-    record { appends = grows.appends; parts = grows.parts; registers = grows.registers }
+use Rattle.hw_build.proofs.Adding.{grows_then, put_word}
+use Rattle.hw_share.proofs.Put.{put-extends, put-there, put-grows}
 
 -- ---- what is put in of one form
 
@@ -66,7 +60,7 @@ module _ (make : ℕ → NetKind) (frame : Frame) (others : List ℕ) (word : Wo
   -- none yet
   pub series_begun : (a b : Circuit) (number begin : ℕ) → 0 < frame.period → IsCounted a b frame → counter_of b.nets frame ≡ Some number → HasWord a.nets from word.width word.signed → begin ≡ length b.nets → AreSeries make a b Named frame word from begin 0
   series_begun a b number begin some counted found has is =
-      let grows = counter_grows a b Named frame some counted in
+      let grows = counter-grows a b frame some counted Named (IsOfFrame frame) refl in
       record {
         grows = grows;
         each = λ k below. absurd (omega (arith, below));
@@ -81,9 +75,9 @@ module _ (make : ℕ → NetKind) (frame : Frame) (others : List ℕ) (word : Wo
       → c ≡ with_net b (record { signed = word.signed; width = word.width; kind = make last }) → AreSeries make a c Named frame word from begin (suc count)
   series_more a b c begin count last there are same grown =
       let one : Net = record { signed = word.signed; width = word.width; kind = make last } in
-      let extends = put_extends b c one grown in
-      let at = put_there b c one grown in
-      let size = put_size b c one grown in
+      let extends = put-extends b c one grown in
+      let at = put-there b c one grown in
+      let size = one-longer b c one grown in
       let was = are.size in
       let old = longer a b are.grows.appends.extends in
       let last_word = subst (λ (x : ℕ). HasWord b.nets x word.width word.signed) (sym same) are.last in
@@ -94,7 +88,7 @@ module _ (make : ℕ → NetKind) (frame : Frame) (others : List ℕ) (word : Wo
         | inr own ↦ omega (arith, own, inside)
       ] in
       let step : Grows b c (reads (make last)) (IsOfFrame frame) 1 =
-      put_grows b c one grown (reads (make last)) (IsOfFrame frame) 1 (record {
+      put-grows b c one grown (reads (make last)) (IsOfFrame frame) 1 (record {
         word = is_word;
         kind = form.fits c last (word-stays b c last word.width word.signed extends last_word);
         there = λ i d within. let less = low (slice_index_or (reads (make last)) i d) (Contains-get_or (reads (make last)) i d within) in omega (arith, less, size);
@@ -103,10 +97,10 @@ module _ (make : ℕ → NetKind) (frame : Frame) (others : List ℕ) (word : Wo
         counted = λ other is.
             subst (λ (x : Frame). IsSome (counter_of c.nets x)) (same_Some frame other (sym (form.frame_is last) ∙ is)) (counter-stays b c frame extends are.counted);
       }) (form.counts last) (form.part last) (rw (form.holds last) refl) in
-      let named : (read : ℕ) → Contains (reads (make last)) read → IsNamedIn a b Named read = λ read reads_it.
+      let named : (read : ℕ) → Contains (reads (make last)) read → IsNamed a b Named read = λ read reads_it.
       elim (Contains-push_cases others last read (subst (λ (list : List ℕ). Contains list read) (form.reading last) reads_it)) [
         | inl other ↦ inl (Contains-append_left others (from ∷ []) read other)
-        | inr own ↦ subst (IsNamedIn a b Named) own (subst (IsNamedIn a b Named) (sym same) (taken count are.new was))
+        | inr own ↦ subst (IsNamed a b Named) own (subst (IsNamed a b Named) (sym same) (taken count are.new was))
       ] in
       record {
         grows = grown_by (grows_then a b c Named (reads (make last)) (IsOfFrame frame) (IsOfFrame frame) count 1 named (λ kind is. is) are.grows step);
@@ -124,7 +118,7 @@ module _ (make : ℕ → NetKind) (frame : Frame) (others : List ℕ) (word : Wo
         last = subst (λ (n : ℕ). HasWord c.nets n word.width word.signed) was (put_word b c one grown);
       }
     where
-      taken : (n : ℕ) → length a.nets ≤ begin → length b.nets ≡ begin + n → IsNamedIn a b Named (taken_by from begin n)
+      taken : (n : ℕ) → length a.nets ≤ begin → length b.nets ≡ begin + n → IsNamed a b Named (taken_by from begin n)
       taken zero low size = inl (Contains-push others from)
       taken (suc n) low size = inr (omega (arith, low), omega (arith, size))
 

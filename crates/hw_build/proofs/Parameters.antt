@@ -1,6 +1,6 @@
 -- The lists of a block have an entry for each of its elements.
-use Rattle.std.proofs.Common.{◌≡◌, ℕ, ◌<◌, ◌≤◌, ◌⊎◌, inl, inr, Bool, true, false, List, [], ◌∷◌, length, All, Option, None, Some, ap, ◌∙◌, subst, arith, refl}
-use Rattle.std.specs.Prelude.{slice_get, slice_index_or, ◌==◌, if◌then◌else◌, MatchOption}
+use Rattle.std.proofs.Common.{◌≡◌, ℕ, ◌<◌, ◌≤◌, ◌⊎◌, inl, inr, Bool, true, false, List, [], ◌∷◌, length, All, Option, None, Some, ap, sym, ◌∙◌, subst, arith, refl}
+use Rattle.std.specs.Prelude.{not, slice_get, slice_index_or, ◌==◌, if◌then◌else◌, MatchOption}
 use Rattle.std.proofs.lemmas.Option.{slice_get_within, slice_get-get_or}
 use Rattle.fx_type.specs.declared.decimal.Decimal.{Decimal}
 use Rattle.fx_type.specs.declared.kind.FxType.{FxType}
@@ -21,7 +21,9 @@ use Rattle.dg_tables.specs.Fit.{HasLists}
 use Rattle.hw_net.specs.Circuit.{Circuit}
 use Rattle.fx_io.proofs.Places.{held}
 use Rattle.hw_lower.specs.Lowered.{AreArgs}
+use Rattle.hw_sched.specs.Chained.{first_list}
 use Rattle.hw_build.specs.declared.site.Site.{Site}
+use Rattle.hw_build.specs.inner.Entries.{shows_alone, works}
 use Rattle.hw_build.specs.inner.Sites.{CanKeep, HasOperands, PassesOut}
 
 none_is : {A : Type 0} (x : A) (xs : List A) → [] ≡ x ∷ xs → ⊥
@@ -126,13 +128,25 @@ one_type diagram block b types checked at is same =
     let one : b.inputs ≡ 1 = (subst (λ (k : Kind). HasPorts k b.inputs b.outputs) is (readable diagram block b checked at).ports).0 in
     ap (λ (list : List FxType). length list) (same ∙ ap (types_into diagram (attributes_of diagram) block) one)
 
+-- what is read as the list of a kind is the list of the kind that it is
+pub list_is : (kind same : Kind) (list : List Decimal) → list ≡ first_list (row_of kind).signal.lists → kind ≡ same → first_list (row_of same).signal.lists ≡ list
+list_is kind same list read is = sym (read ∙ ap (λ (k : Kind). first_list (row_of k).signal.lists) is)
+
 -- a Terminator shows nothing
-pub shows_none : (diagram : Diagram) (block : ℕ) (b : Block) (port element : ℕ) → IsChecked diagram → IsShown diagram (attributes_of diagram) block b port element → b.kind ≡ Terminator → ⊥
+shows_none : (diagram : Diagram) (block : ℕ) (b : Block) (port element : ℕ) → IsChecked diagram → IsShown diagram (attributes_of diagram) block b port element → b.kind ≡ Terminator → ⊥
 shows_none diagram block b port element checked shown is =
     let none : b.outputs ≡ 0 = (subst (λ (k : Kind). HasPorts k b.inputs b.outputs) is (readable diagram block b checked shown.block_is).ports).1 in
     let last : port ≤ b.outputs = subst (λ (k : Kind). port ≤ shown_ports k b.outputs) is shown.port_to in
     let from = shown.port_from in
     omega (arith, none, last, from)
+
+-- so what carries out no operation shows its elements otherwise
+pub alone : (diagram : Diagram) (block : ℕ) (b : Block) (port element : ℕ) → IsChecked diagram → IsShown diagram (attributes_of diagram) block b port element → works b.kind ≡ false → shows_alone b.kind ≡ true
+alone diagram block b port element checked shown other = by b.kind refl other
+  where
+    by : (kind : Kind) → b.kind ≡ kind → works kind ≡ false → shows_alone kind ≡ true
+    by Terminator is none = absurd (shows_none diagram block b port element checked shown is)
+    by kind is none = ap not none
 
 -- nets of the words of types are there
 pub args_there : (net : Circuit) (types : List FxType) (operands : List ℕ) → AreArgs net types operands → All (λ operand. operand < length net.nets) operands

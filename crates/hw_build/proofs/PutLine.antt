@@ -121,6 +121,20 @@ module _ {diagram : Diagram} {order : List ℕ} {plan : Resolved} {times : Times
       source_type : IsType ((attributes_of diagram).type_at edge.from 1)
       source_type = (l.valid diagram order edge.from source.source l.ordered source.is).0
 
+      want_is : (own element hub : ℕ) (first : Option ℤ) (registered : Bool) → period l edge.to ≡ Some own → is_registered b own p ≡ registered → hub ≡ hub_for diagram plan times firsts (signal_edge edge) element → is_some first ≡ registered → (registered ≡ true → first_of first ≡ first_at diagram edge.to element)
+          → IsEndWant diagram (timing l) edge.to b (Port edge.to_port) edge.from p (first_at diagram edge.to element) (hub_for diagram plan times firsts (signal_edge edge) element) (record { feed = record { hub = hub; frame = frame_behind (timing l) p edge.from; first = first }; to = use_by own })
+      want_is own element hub first registered period_is is hub_is has first_is =
+          let flag = flag_is own registered period_is is in
+          record {
+            own = own;
+            period = period_is;
+            hub_is = hub_is;
+            frame_is = refl;
+            late = has ∙ sym flag;
+            first_is = λ late. first_is (sym flag ∙ late);
+            to_is = to_is own period_is;
+          }
+
       may_ask : (net : Circuit) (element : ℕ) (want : Want) → IsEndWant diagram (timing l) edge.to b (Port edge.to_port) edge.from p (first_at diagram edge.to element) (hub_for diagram plan times firsts (signal_edge edge) element) want
           → IsHubNet net (hub_for diagram plan times firsts (signal_edge edge) element) (first_of want.feed.first) → IsWant net want
       may_ask net element want is hub = end_may_ask l.little l.short diagram plan times no_places l.scheduled l.timed net edge.to b (Port edge.to_port) edge.from p (first_at diagram edge.to element) (hub_for diagram plan times firsts (signal_edge edge) element) want at has_parameters shows feeds moves is hub
@@ -132,16 +146,7 @@ module _ {diagram : Diagram} {order : List ℕ} {plan : Resolved} {times : Times
           let want : Want = record { feed = record { hub = first + element; frame = frame_behind (timing l) p edge.from; first = None }; to = use_by own } in
           let same = repeated_own source_width element below in
           let hub : first + element ≡ hub_for diagram plan times firsts (signal_edge edge) element = omega (arith, first_is, same) in
-          let none : is_some (lag p) ≡ false = flag_is own false period_is plain in
-          let is : IsEndWant diagram (timing l) edge.to b (Port edge.to_port) edge.from p (first_at diagram edge.to element) (hub_for diagram plan times firsts (signal_edge edge) element) want = record {
-            own = own;
-            period = period_is;
-            hub_is = hub;
-            frame_is = refl;
-            late = sym none;
-            first_is = λ late. absurd (false≢true (sym none ∙ late));
-            to_is = to_is own period_is;
-          } in
+          let is = want_is own element (first + element) None false period_is plain hub refl (λ late. absurd (false≢true late)) in
           record {
             want = want;
             asks = refl;
@@ -150,7 +155,7 @@ module _ {diagram : Diagram} {order : List ℕ} {plan : Resolved} {times : Times
             may = λ net words. may_ask net element want is (plain_hub net (hub_for diagram plan times firsts (signal_edge edge) element) ((attributes_of diagram).type_at edge.from 1) source_type (word_of_hub net element words (omega (arith, same, below))));
           }
 
-      pub plain_line : (old new : List Ask) (wants more : List Want) (first width own : ℕ) → period l edge.to ≡ Some own → is_registered b own p ≡ false → first ≡ width_at firsts edge.from edge.from_port → width ≡ source_width
+      plain_line : (old new : List Ask) (wants more : List Want) (first width own : ℕ) → period l edge.to ≡ Some own → is_registered b own p ≡ false → first ≡ width_at firsts edge.from edge.from_port → width ≡ source_width
           → AsksAll old new wants more (hub_from first) (plain_want first (frame_behind (timing l) p edge.from) (use_by own)) width → IsEndPut diagram plan times firsts old new wants more b (signal_edge edge)
       plain_line old new wants more first width own period_is plain first_is width_is all =
           let none : lag p ≡ None = none_of (lag p) (flag_is own false period_is plain) in
@@ -198,16 +203,7 @@ module _ {diagram : Diagram} {order : List ℕ} {plan : Resolved} {times : Times
           let want : Want = record { feed = record { hub = first + repeated width element; frame = frame_behind (timing l) p edge.from; first = Some (first_at diagram edge.to element) }; to = use_by own } in
           let same : repeated width element ≡ repeated source_width element = ap (λ (w : ℕ). repeated w element) width_is in
           let hub : first + repeated width element ≡ hub_for diagram plan times firsts (signal_edge edge) element = omega (arith, first_is, same) in
-          let some : is_some (lag p) ≡ true = flag_is own true period_is late in
-          let is : IsEndWant diagram (timing l) edge.to b (Port edge.to_port) edge.from p (first_at diagram edge.to element) (hub_for diagram plan times firsts (signal_edge edge) element) want = record {
-            own = own;
-            period = period_is;
-            hub_is = hub;
-            frame_is = refl;
-            late = sym some;
-            first_is = λ has. refl;
-            to_is = to_is own period_is;
-          } in
+          let is = want_is own element (first + repeated width element) (Some (first_at diagram edge.to element)) true period_is late hub refl (λ _. refl) in
           let range : InRange ((attributes_of diagram).type_at edge.from 1) (first_at diagram edge.to element) =
           subst (λ (t : FxType). InRange t (first_at diagram edge.to element)) (sym (late_type own period_is late)) (first_in_range l.stored l.storing diagram edge.to b element at (l.valid diagram order edge.to b l.ordered at).0) in
           record {
@@ -219,7 +215,7 @@ module _ {diagram : Diagram} {order : List ℕ} {plan : Resolved} {times : Times
                 (hub_net net (hub_for diagram plan times firsts (signal_edge edge) element) ((attributes_of diagram).type_at edge.from 1) (first_at diagram edge.to element) source_type range (word_of_hub net element words (late_serves own element period_is late below)));
           }
 
-      pub late_line : (old new : List Ask) (wants more : List Want) (first width own : ℕ) → period l edge.to ≡ Some own → is_registered b own p ≡ true → first ≡ width_at firsts edge.from edge.from_port → width ≡ source_width
+      late_line : (old new : List Ask) (wants more : List Want) (first width own : ℕ) → period l edge.to ≡ Some own → is_registered b own p ≡ true → first ≡ width_at firsts edge.from edge.from_port → width ≡ source_width
           → AsksAll old new wants more (hub_spread first width) (late_want diagram edge.to first width (frame_behind (timing l) p edge.from) (use_by own)) ((attributes_of diagram).width_at edge.to 1) → IsEndPut diagram plan times firsts old new wants more b (signal_edge edge)
       late_line old new wants more first width own period_is late first_is width_is all =
           let count : ℕ = (attributes_of diagram).width_at edge.to 1 in
@@ -260,11 +256,22 @@ module _ {diagram : Diagram} {order : List ℕ} {plan : Resolved} {times : Times
         let e : period l edge.to ≡ Some (asked p moves).own = (asked p moves).period in
         e ∙ ap (λ (n : ℕ). Some n) (sym (is ∙ ap samples e))
 
-    pub late_fits : (p own first width element : ℕ) → period l edge.from ≡ Some p → period l edge.to ≡ Some own → is_registered b own p ≡ true → first ≡ width_at firsts edge.from edge.from_port → width ≡ source_width → element < (attributes_of diagram).width_at edge.to 1 → first + repeated width element < 2 ^ 32
-    late_fits p own first width element moves period_is late first_is width_is below =
+    pub late_fits : (p own first width element : ℕ) → period l edge.from ≡ Some p → own ≡ samples (period l edge.to) → is_registered b own p ≡ true → first ≡ width_at firsts edge.from edge.from_port → width ≡ source_width → element < (attributes_of diagram).width_at edge.to 1 → first + repeated width element < 2 ^ 32
+    late_fits p own first width element moves own_is late first_is width_is below =
         let same : repeated width element ≡ repeated source_width element = ap (λ (w : ℕ). repeated w element) width_is in
-        let small = hub_small first (repeated source_width element) first_is (late_serves p moves own element period_is late below) in
+        let small = hub_small first (repeated source_width element) first_is (late_serves p moves own element (period_by p own moves own_is) late below) in
         omega (arith, small, same)
+
+    -- what the code asks for, as it finds the end's period
+    pub late_end : (p : ℕ) (moves : period l edge.from ≡ Some p) (own first width : ℕ) (old new : Asks) → own ≡ samples (period l edge.to) → is_registered b own p ≡ true → first ≡ width_at firsts edge.from edge.from_port → width ≡ source_width
+        → AsksAll old.list.items new.list.items old.wants.items new.wants.items (hub_spread first width) (late_want diagram edge.to first width (frame_behind (timing l) p edge.from) (use_by p moves own)) ((attributes_of diagram).width_at edge.to 1) → IsLinePut diagram plan times firsts old new edge
+    late_end p moves own first width old new own_is late first_is width_is all =
+        line_put edge b at old new (late_line p moves old.list.items new.list.items old.wants.items new.wants.items first width own (period_by p own moves own_is) late first_is width_is all)
+
+    pub plain_end : (p : ℕ) (moves : period l edge.from ≡ Some p) (own first width : ℕ) (old new : Asks) → own ≡ samples (period l edge.to) → is_registered b own p ≡ false → first ≡ width_at firsts edge.from edge.from_port → width ≡ source_width
+        → AsksAll old.list.items new.list.items old.wants.items new.wants.items (hub_from first) (plain_want first (frame_behind (timing l) p edge.from) (use_by p moves own)) width → IsLinePut diagram plan times firsts old new edge
+    plain_end p moves own first width old new own_is plain first_is width_is all =
+        line_put edge b at old new (plain_line p moves old.list.items new.list.items old.wants.items new.wants.items first width own (period_by p own moves own_is) plain first_is width_is all)
 
     -- a plain line ends in a frame of the block that it leads to
     pub plain_frame : (p own : ℕ) → period l edge.from ≡ Some p → period l edge.to ≡ Some own → is_registered b own p ≡ false → (max p own ≡ own) × (latency_after (timing l) p edge.from + (seen_by l (signal_edge edge) - latency_after (timing l) p edge.from) ≡ (timing l).latency edge.to)

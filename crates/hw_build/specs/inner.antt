@@ -12,7 +12,6 @@ pub mod Facts
 pub mod Feeds
 pub mod Filled
 pub mod Framed
-pub mod Grown
 pub mod Growth
 pub mod HubPlaces
 pub mod Labelled

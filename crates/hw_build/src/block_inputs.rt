@@ -4,7 +4,7 @@ ghost use Rattle.dg_model.specs.declared.kind.Kind.{Kind};
 ghost use Rattle.dg_model.specs.Attributes.{attributes_of};
 ghost use Rattle.dg_model.specs.Wires.{types_into, width_into as width_into_of};
 ghost use Rattle.dg_model.specs.Solves.{shown_ports as shown_ports_of};
-ghost use Rattle.hw_build.specs.inner.Offers.{AreBegins, ArePartsTo, AreReadBy};
+ghost use Rattle.hw_build.specs.inner.Offers.{AreBegins, ArePartsTo, AreReadBy, IsBlockAt};
 
 use crate::blocks::Setting;
 use crate::full_types::type_into;
@@ -14,6 +14,14 @@ use dg_model::{Block, Checked, Kind};
 use fx_io::{OutOfMemory, Sizes};
 use fx_type::FxType;
 use std::alloc::Global;
+
+/// A block whose elements are put in.
+#[derive(Clone, Copy)]
+pub struct BlockAt<'a> {
+    pub setting: Setting<'a>,
+    pub block: u32,
+    pub one: &'a Block,
+}
 
 /// What all elements of a block read.
 #[derive(Drop)]
@@ -58,43 +66,34 @@ fn width_at(checked: &Checked, block: u32, port: u32, one: &Block) -> u32
 }
 
 /// Puts in the nets that a Mux is offered at an input port, from 1.
-fn put_part<'a>(
-    parts: &mut Sizes,
-    setting: Setting<'a>,
-    block: u32,
-    one: &Block,
-    port: u32,
-) -> Result<(), OutOfMemory>
-    requires is { slice_get setting.design.checked.now.diagram.blocks block ≡ Some one.now }
-    requires kind { (sizes : List ℕ) × (one.now.kind ≡ Kind.Mux sizes) }
+fn put_part<'a>(parts: &mut Sizes, owner: BlockAt<'a>, port: u32) -> Result<(), OutOfMemory>
+    requires is { IsBlockAt owner }
+    requires kind { (sizes : List ℕ) × (owner.one.now.kind ≡ Kind.Mux sizes) }
     requires from { 1 ≤ port }
-    requires to { port ≤ one.now.inputs }
-    requires before { ArePartsTo setting block one.now (port - 1) 0 parts.old }
-    ensures { OnOk result (ArePartsTo setting.entry block one.now port 0 parts.new) }
+    requires to { port ≤ owner.one.now.inputs }
+    requires before { ArePartsTo owner.setting owner.block owner.one.now (port - 1) 0 parts.old }
+    ensures { OnOk result
+        (ArePartsTo owner.entry.setting owner.entry.block owner.entry.one.now port 0 parts.new) }
 {
-    let checked = setting.design.checked;
-    let width = width_at(checked, block, port, one);
+    let (checked, operands) = (owner.setting.design.checked, owner.setting.operands);
+    let width = width_at(checked, owner.block, port, owner.one);
     for left in 0..width {
-        parts.push(setting.operands.at(checked, block, port, left))?;
+        parts.push(operands.at(checked, owner.block, port, left))?;
     }
     Ok(())
 }
 
 /// The nets that the elements of a Mux are offered; none of a block of another kind.
-fn parts_of<'a>(
-    alloc: Global,
-    setting: Setting<'a>,
-    block: u32,
-    one: &Block,
-) -> Result<Sizes, OutOfMemory>
-    requires is { slice_get setting.design.checked.now.diagram.blocks block ≡ Some one.now }
-    ensures { IfOk result (λ parts. (sizes : List ℕ) → one.now.kind ≡ Kind.Mux sizes
-        → ArePartsTo setting.entry block one.now one.now.inputs 0 parts) }
+fn parts_of<'a>(alloc: Global, owner: BlockAt<'a>) -> Result<Sizes, OutOfMemory>
+    requires { IsBlockAt owner }
+    ensures { IfOk result (λ parts. (sizes : List ℕ) → owner.entry.one.now.kind ≡ Kind.Mux sizes
+        → ArePartsTo owner.entry.setting owner.entry.block owner.entry.one.now owner.entry.one.now.inputs 0
+        parts) }
 {
     let mut parts = Sizes::new(alloc);
-    if let Kind::Mux { .. } = &one.kind {
-        for input in 0..one.inputs {
-            put_part(&mut parts, setting, block, one, input + 1)?;
+    if let Kind::Mux { .. } = &owner.one.kind {
+        for input in 0..owner.one.inputs {
+            put_part(&mut parts, owner, input + 1)?;
         }
     }
     Ok(parts)
@@ -129,18 +128,13 @@ fn begins_of(
 }
 
 /// What all elements of a block read.
-pub fn inputs_of<'a>(
-    alloc: Global,
-    setting: Setting<'a>,
-    block: u32,
-    one: &Block,
-) -> Result<BlockInputs, OutOfMemory>
-    requires is { slice_get setting.design.checked.now.diagram.blocks block ≡ Some one.now }
-    ensures { IfOk result (AreReadBy setting.entry block one.now) }
+pub fn inputs_of<'a>(alloc: Global, owner: BlockAt<'a>) -> Result<BlockInputs, OutOfMemory>
+    requires { IsBlockAt owner }
+    ensures { IfOk result (AreReadBy owner.entry.setting owner.entry.block owner.entry.one.now) }
 {
-    let types = types_of(alloc, setting.design.checked, block, one)?;
-    let parts = parts_of(alloc, setting, block, one)?;
-    let begins = begins_of(alloc, setting.design.checked, block, one)?;
+    let types = types_of(alloc, owner.setting.design.checked, owner.block, owner.one)?;
+    let parts = parts_of(alloc, owner)?;
+    let begins = begins_of(alloc, owner.setting.design.checked, owner.block, owner.one)?;
     Ok(BlockInputs {
         types,
         parts,

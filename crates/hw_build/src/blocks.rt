@@ -1,30 +1,30 @@
 //! The elements of blocks, block by block.
-ghost use Rattle.std.specs.Prelude.{◌≡◌, ◌++◌, ◌+◌, ◌-◌, ◌<◌, ◌≤◌, false, suc, IfOk, OnOk, slice_get};
+ghost use Rattle.std.specs.Prelude.{◌≡◌, ◌++◌, ◌-◌, ◌≤◌, false, suc, IfOk, OnOk};
 ghost use Rattle.dg_model.specs.Library.{row_of};
 ghost use Rattle.dg_model.specs.Solves.{shown_ports as shown_ports_of};
 ghost use Rattle.hw_build.specs.declared.spots.Spots.{Spots};
 ghost use Rattle.hw_build.specs.inner.HubPlaces.{hub_at, hub_start, hubs_in_all, is_input_role};
-ghost use Rattle.hw_build.specs.inner.Offers.{AreReadBy, IsAtHand};
+ghost use Rattle.hw_build.specs.inner.Offers.{AreReadBy, IsAtHand, IsBlockAt};
 ghost use Rattle.hw_build.specs.inner.Tally.{product_labels};
 ghost use Rattle.hw_build.specs.inner.Looping.{AreInputSpots, HasElements, IsBegun, IsEntered, IsKnown, IsSet, Reaches, Stands, port_start, roots_of};
 
-use crate::block_inputs::{BlockInputs, inputs_of};
+use crate::block_inputs::{BlockAt, BlockInputs, inputs_of};
 use crate::closing::close;
 use crate::design::Design;
 use crate::entries::{Entry, put_entry};
 use crate::full_types::full_type;
 use crate::hubs::{is_input, shown_ports, shown_width};
-use crate::labels::label_product;
+use crate::labels::product_name;
 use crate::offers::{Element, operands_of};
 use crate::operands::Operands;
 use crate::products::Products;
 use crate::site::Site;
 use crate::spots::Spots;
 use crate::worked::put_shared;
-use dg_model::{Block, PortWidths};
+use dg_model::PortWidths;
 use dg_tables::{Place, operations_prepare};
 use fx_io::OutOfMemory;
-use hw_net::Netlist;
+use hw_net::{NetLabel, Netlist};
 use hw_sched::{lines_are_edges, periods_are_above};
 use std::alloc::Global;
 
@@ -100,7 +100,8 @@ fn name_product(
     let Some(number) = multiply else {
         return Ok(());
     };
-    label_product(alloc, net, number, block, element)
+    let name = product_name(alloc, block, element)?;
+    net.add_label(NetLabel { net: number, name })
 }
 
 /// Puts in an element of a block with its pipeline and its net.
@@ -142,23 +143,23 @@ fn put_port<'a>(
     alloc: Global,
     net: &mut Netlist,
     spots: &mut Spots,
-    setting: Setting<'a>,
-    block: u32,
-    one: &Block,
+    owner: BlockAt<'a>,
     inputs: &BlockInputs,
     port: u32,
 ) -> Result<(), OutOfMemory>
-    requires set { IsSet setting }
-    requires inputs { AreReadBy setting block one.now inputs.now }
-    requires is { slice_get setting.design.checked.now.diagram.blocks block ≡ Some one.now }
-    requires other { is_input_role (row_of one.now.kind).place.role ≡ false }
+    requires set { IsSet owner.setting }
+    requires inputs { AreReadBy owner.setting owner.block owner.one.now inputs.now }
+    requires is { IsBlockAt owner }
+    requires other { is_input_role (row_of owner.one.now.kind).place.role ≡ false }
     requires from { 1 ≤ port }
-    requires to { port ≤ shown_ports_of one.now.kind one.now.outputs }
-    requires before { Reaches setting net.old spots.old
-        (port_start setting.design.checked.now.diagram block one.now (port - 1)) }
-    ensures { OnOk result (Reaches setting.entry net.new spots.new
-        (port_start setting.entry.design.checked.now.diagram block one.now port)) }
+    requires to { port ≤ shown_ports_of owner.one.now.kind owner.one.now.outputs }
+    requires before { Reaches owner.setting net.old spots.old
+        (port_start owner.setting.design.checked.now.diagram owner.block owner.one.now (port - 1)) }
+    ensures { OnOk result (Reaches owner.entry.setting net.new spots.new
+        (port_start owner.entry.setting.design.checked.now.diagram owner.entry.block
+        owner.entry.one.now port)) }
 {
+    let (setting, block, one) = (owner.setting, owner.block, owner.one);
     let width = shown_width(setting.design.checked, block, one, port);
     for element in 0..width {
         let place = Place {
@@ -166,12 +167,12 @@ fn put_port<'a>(
             port,
             element,
         };
-        let at = Element {
+        let to = Element {
             setting,
             place,
             one,
         };
-        put_element(alloc, net, spots, at, inputs)?;
+        put_element(alloc, net, spots, to, inputs)?;
     }
     Ok(())
 }
@@ -181,23 +182,21 @@ fn put_block<'a>(
     alloc: Global,
     net: &mut Netlist,
     spots: &mut Spots,
-    setting: Setting<'a>,
-    block: u32,
-    one: &Block,
+    owner: BlockAt<'a>,
 ) -> Result<(), OutOfMemory>
-    requires set { IsSet setting }
-    requires is { slice_get setting.design.checked.now.diagram.blocks block ≡ Some one.now }
-    requires before { Reaches setting net.old spots.old
-        (hub_start setting.design.checked.now.diagram block) }
-    ensures { OnOk result (Reaches setting.entry net.new spots.new
-        (hub_start setting.entry.design.checked.now.diagram (suc block))) }
+    requires set { IsSet owner.setting }
+    requires is { IsBlockAt owner }
+    requires before { Reaches owner.setting net.old spots.old
+        (hub_start owner.setting.design.checked.now.diagram owner.block) }
+    ensures { OnOk result (Reaches owner.entry.setting net.new spots.new
+        (hub_start owner.entry.setting.design.checked.now.diagram (suc owner.entry.block))) }
 {
-    if is_input(&one.kind) {
+    if is_input(&owner.one.kind) {
         return Ok(());
     }
-    let inputs = inputs_of(alloc, setting, block, one)?;
-    for port in 0..shown_ports(one) {
-        match put_port(alloc, net, spots, setting, block, one, &inputs, port + 1) {
+    let inputs = inputs_of(alloc, owner)?;
+    for port in 0..shown_ports(owner.one) {
+        match put_port(alloc, net, spots, owner, &inputs, port + 1) {
             Ok(()) => {}
             Err(wanting) => {
                 drop(inputs);
@@ -224,7 +223,12 @@ pub fn put_blocks<'a>(
 {
     let blocks = setting.design.checked.diagram().blocks.as_slice();
     for block in 0..blocks.len() {
-        put_block(alloc, net, spots, setting, block as u32, &blocks[block])?;
+        let owner = BlockAt {
+            setting,
+            block: block as u32,
+            one: &blocks[block],
+        };
+        put_block(alloc, net, spots, owner)?;
     }
     Ok(())
 }

@@ -5,12 +5,12 @@ ghost use Rattle.hw_build.specs.inner.Seeking.{AreAsked, AreNumbered};
 ghost use Rattle.hw_build.specs.inner.Wants.{IsClass, IsClassAnswered};
 
 use crate::asks::{Asks, nets_of};
-use crate::feed_index::FeedIndex;
 use crate::wants::{Class, Classes, Seat, Want, seats_of};
 use fx_io::{OutOfMemory, Sizes};
 use hw_lines::chain;
 use hw_net::Netlist;
 use std::alloc::Global;
+use std::collections::BTreeMap;
 
 /// The chain of a class: a net for each of its uses.
 fn put_class(alloc: Global, net: &mut Netlist, class: &Class) -> Result<Sizes, OutOfMemory>
@@ -74,7 +74,7 @@ pub fn put_wants(alloc: Global, net: &mut Netlist, wants: &[Want]) -> Result<Siz
 {
     let mut classes = Classes {
         list: Vec::new(alloc),
-        numbers: FeedIndex::new(alloc),
+        numbers: BTreeMap::new(alloc),
     };
     let seats = seats_of(alloc, &mut classes, wants)?;
     let answers = put_classes(alloc, net, classes.list.as_slice())?;

@@ -3,7 +3,7 @@ ghost use Rattle.std.specs.Prelude.{◌≡◌, true, None, IfOk};
 ghost use Rattle.dg_model.specs.declared.kind.Kind.{Kind};
 ghost use Rattle.dg_model.specs.Attributes.{attributes_of};
 ghost use Rattle.dg_model.specs.Wires.{period_into};
-ghost use Rattle.hw_build.specs.inner.Entries.{hands_on};
+ghost use Rattle.hw_build.specs.inner.Entries.{hands_on, shows_alone};
 ghost use Rattle.hw_build.specs.inner.Sites.{CanKeep, HasOperands, IsReady, IsSite, Puts};
 
 use crate::firsts::list_of;
@@ -11,7 +11,7 @@ use crate::kept::{delayed, passed_out};
 use crate::lowering::initial;
 use crate::parts::{put_const, word_of};
 use crate::site::Site;
-use crate::worked::{put_worked, scaled, switched, tested};
+use crate::worked::{carried, op_of, tested};
 use dg_model::Kind;
 use dg_tables::operations_prepare;
 use fx_io::OutOfMemory;
@@ -82,12 +82,11 @@ fn ground<'a>(alloc: Global, net: &mut Netlist, site: Site<'a>) -> Result<Entry,
     Ok(plain(number))
 }
 
-/// Puts in an element of a block. Its operands are what the ends of the block offer to it; of the
-/// control of an enabled subsystem all elements of its input, and of a block that asks whether it is
-/// enabled what enables it behind the others. A Product or a Gain is one that isn't shared.
-pub fn put_entry<'a>(alloc: Global, net: &mut Netlist, site: Site<'a>) -> Result<Entry, OutOfMemory>
+/// Puts in an element of a block that carries out no operation.
+fn put_alone<'a>(alloc: Global, net: &mut Netlist, site: Site<'a>) -> Result<Entry, OutOfMemory>
     requires can { CanKeep net.old site }
     requires ready { IsReady net.old site }
+    requires kind { shows_alone site.one.now.kind ≡ true }
     ensures { IfOk result (Puts site.entry net.old net.new) }
 {
     let list = list_of(&site.one.kind);
@@ -96,18 +95,23 @@ pub fn put_entry<'a>(alloc: Global, net: &mut Netlist, site: Site<'a>) -> Result
             Ok(handed(net, site)),
         Kind::Constant { .. } => constant(alloc, net, site, list),
         Kind::Ground => ground(alloc, net, site),
-        Kind::Gain { .. } => scaled(alloc, net, site, list),
-        Kind::Switch { criterion, .. } => { switched(alloc, net, site, *criterion, list) }
         Kind::EnableTest => tested(alloc, net, site),
         Kind::Delay { length, reset, .. } => delayed(net, site, *length, list, *reset),
         Kind::EnOut { reset, .. } => passed_out(alloc, net, site, list, *reset),
-        Kind::Sum { .. }
-        | Kind::Product
-        | Kind::Relational { .. }
-        | Kind::Logic { .. }
-        | Kind::Convert { .. }
-        | Kind::Pass { .. }
-        | Kind::Outport { .. } => put_worked(alloc, net, site),
-        Kind::Terminator => unreachable!(),
+        _ => unreachable!(),
+    }
+}
+
+/// Puts in an element of a block. Its operands are what the ends of the block offer to it; of the
+/// control of an enabled subsystem all elements of its input, and of a block that asks whether it is
+/// enabled what enables it behind the others. A Product or a Gain is one that isn't shared.
+pub fn put_entry<'a>(alloc: Global, net: &mut Netlist, site: Site<'a>) -> Result<Entry, OutOfMemory>
+    requires can { CanKeep net.old site }
+    requires ready { IsReady net.old site }
+    ensures { IfOk result (Puts site.entry net.old net.new) }
+{
+    match op_of(site) {
+        Some(op) => carried(alloc, net, site, op),
+        None => put_alone(alloc, net, site),
     }
 }

@@ -1,11 +1,10 @@
 //! The names of nets.
-ghost use Rattle.std.specs.Prelude.{◌≡◌, ◌++◌, ◌∷◌, [], codes, decimal, IfOk, OnOk};
+ghost use Rattle.std.specs.Prelude.{◌≡◌, ◌++◌, codes, decimal, IfOk, OnOk};
 ghost use Rattle.hw_build.specs.Multiplied.{multiplication_name};
 ghost use Rattle.hw_build.specs.Pipelined.{stage_name as stage_name_of};
 
 use fx_io::{OutOfMemory, Text};
 use hw_names::put_number;
-use hw_net::{NetLabel, Netlist};
 use std::alloc::Global;
 
 /// Puts the number of a block and that of its element behind a name.
@@ -19,7 +18,7 @@ fn put_element(name: &mut Vec<u8>, block: u32, element: u32) -> Result<(), OutOf
 }
 
 /// The name of the multiplication of an element of a block.
-fn product_name(alloc: Global, block: u32, element: u32) -> Result<Text, OutOfMemory>
+pub fn product_name(alloc: Global, block: u32, element: u32) -> Result<Text, OutOfMemory>
     ensures { IfOk result (λ name. name ≡ multiplication_name block element) }
 {
     let mut name = Vec::from_slice(alloc, b"fx_m")?;
@@ -28,7 +27,7 @@ fn product_name(alloc: Global, block: u32, element: u32) -> Result<Text, OutOfMe
 }
 
 /// The name of a register of the pipeline of an element of a block, by its number from 1.
-fn stage_name(alloc: Global, block: u32, element: u32, stage: u32) -> Result<Text, OutOfMemory>
+pub fn stage_name(alloc: Global, block: u32, element: u32, stage: u32) -> Result<Text, OutOfMemory>
     ensures { IfOk result (λ name. name ≡ stage_name_of block element stage) }
 {
     let mut name = Vec::from_slice(alloc, b"fx_p")?;
@@ -36,39 +35,4 @@ fn stage_name(alloc: Global, block: u32, element: u32, stage: u32) -> Result<Tex
     name.push(b'_')?;
     put_number(&mut name, stage)?;
     Text::from_vec(alloc, name)
-}
-
-/// Names the multiplication of an element of a block.
-pub fn label_product(
-    alloc: Global,
-    net: &mut Netlist,
-    number: u32,
-    block: u32,
-    element: u32,
-) -> Result<(), OutOfMemory>
-    ensures { OnOk result (net.new ≡ record net.old {
-      labels = net.old.labels
-          ++ (record { net = number; name = multiplication_name block element }) ∷ [];
-    }) }
-{
-    let name = product_name(alloc, block, element)?;
-    net.add_label(NetLabel { net: number, name })
-}
-
-/// Names a register of the pipeline of an element of a block, by its number from 1.
-pub fn label_stage(
-    alloc: Global,
-    net: &mut Netlist,
-    number: u32,
-    block: u32,
-    element: u32,
-    stage: u32,
-) -> Result<(), OutOfMemory>
-    ensures { OnOk result (net.new ≡ record net.old {
-      labels = net.old.labels
-          ++ (record { net = number; name = stage_name_of block element stage }) ∷ [];
-    }) }
-{
-    let name = stage_name(alloc, block, element, stage)?;
-    net.add_label(NetLabel { net: number, name })
 }

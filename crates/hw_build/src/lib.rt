@@ -16,7 +16,6 @@ mod coefficients;
 mod controls;
 mod design;
 mod entries;
-mod feed_index;
 mod firsts;
 mod full_types;
 mod gathering;

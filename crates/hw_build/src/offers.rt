@@ -2,7 +2,8 @@
 ghost use Rattle.std.specs.Prelude.{◌≡◌, ◌∷◌, [], ℕ, true, IfOk, List};
 ghost use Rattle.dg_model.specs.declared.kind.Kind.{Kind};
 ghost use Rattle.dg_model.specs.Solves.{shown_ports};
-ghost use Rattle.hw_build.specs.inner.Offers.{AreBegins, ArePartsTo, IsAtHand, IsShownAt, OffersTo, reads_each, reads_enable};
+ghost use Rattle.hw_build.specs.inner.Entries.{works};
+ghost use Rattle.hw_build.specs.inner.Offers.{AreBegins, ArePartsTo, IsAtHand, IsShownAt, OffersTo, reads_enable};
 
 use crate::block_inputs::BlockInputs;
 use crate::blocks::Setting;
@@ -24,14 +25,12 @@ pub struct Element<'a> {
 fn single(alloc: Global, net: u32) -> Result<Sizes, OutOfMemory>
     ensures { IfOk result (λ nets. nets ≡ net ∷ []) }
 {
-    let mut nets = Sizes::new(alloc);
-    nets.push(net)?;
-    Ok(nets)
+    Ok(Sizes::from_vec(Vec::from_slice(alloc, &[net])?))
 }
 
 /// Of each input port the element itself.
 fn from_each<'a>(alloc: Global, to: Element<'a>) -> Result<Sizes, OutOfMemory>
-    requires kind { reads_each to.one.now.kind ≡ true }
+    requires kind { works to.one.now.kind ≡ true }
     ensures { IfOk result (OffersTo to.entry) }
 {
     let (checked, operands) = (to.setting.design.checked, to.setting.operands);

@@ -5,11 +5,11 @@ ghost use Rattle.hw_build.specs.inner.Designed.{IsDesigned, timing_for};
 ghost use Rattle.hw_build.specs.inner.Piping.{own_frame, stage_labels, stage_net, stage_nets, IsPipedBy};
 
 use crate::design::Design;
-use crate::labels::label_stage;
+use crate::labels::stage_name;
 use crate::parts::{put_comb, word_of};
 use fx_io::OutOfMemory;
 use fx_type::FxType;
-use hw_net::{Frame, Net, NetKind, NetOp, Netlist};
+use hw_net::{Frame, Net, NetKind, NetLabel, NetOp, Netlist};
 use hw_sched::periods_are_above;
 use std::alloc::Global;
 
@@ -99,7 +99,11 @@ fn name_registers(
     }) }
 {
     for stage in 0..count {
-        label_stage(alloc, net, begin + (stage + 1), block, element, stage + 1)?;
+        let name = stage_name(alloc, block, element, stage + 1)?;
+        net.add_label(NetLabel {
+            net: begin + (stage + 1),
+            name,
+        })?;
     }
     Ok(())
 }

@@ -2,11 +2,11 @@
 ghost use Rattle.std.specs.Prelude.{◌≡◌, [], IfOk, OnOk, length};
 ghost use Rattle.hw_build.specs.inner.Wants.{AreIndexed, IsClassFor, IsSeated, AreSeated};
 
-use crate::feed_index::FeedIndex;
 use fx_io::OutOfMemory;
 use hw_lines::Use;
 use hw_net::Frame;
 use std::alloc::Global;
+use std::collections::BTreeMap;
 
 /// A source that is shown later.
 #[derive(Clone, Copy, PartialEq, Eq, PartialOrd, Ord)]
@@ -44,17 +44,17 @@ pub struct Seat {
 #[derive(Drop)]
 pub struct Classes {
     pub list: Vec<Class>,
-    pub numbers: FeedIndex,
+    pub numbers: BTreeMap<Feed, u32>,
 }
 
 /// The number of the class of a source, which is put behind the others at its first reader.
 fn class_for(alloc: Global, classes: &mut Classes, feed: Feed) -> Result<u32, OutOfMemory>
-    requires { AreIndexed classes.old.list.items classes.old.numbers }
+    requires { AreIndexed classes.old.list.items classes.old.numbers.entries }
     ensures is { IfOk result (λ number.
         IsClassFor classes.old.list.items classes.new.list.items feed number) }
-    ensures indexed { OnOk result (AreIndexed classes.new.list.items classes.new.numbers) }
+    ensures indexed { OnOk result (AreIndexed classes.new.list.items classes.new.numbers.entries) }
 {
-    if let Some(found) = classes.numbers.find(feed) {
+    if let Some(found) = classes.numbers.get(&feed).copied() {
         return Ok(found);
     }
     let Ok(number) = u32::try_from(classes.list.len()) else {
@@ -65,16 +65,16 @@ fn class_for(alloc: Global, classes: &mut Classes, feed: Feed) -> Result<u32, Ou
         feed,
         uses: Vec::new(alloc),
     })?;
-    classes.numbers.put(feed, number)?;
+    let _ = classes.numbers.insert(feed, number)?;
     Ok(number)
 }
 
 /// Puts a reader behind the others of its class.
 fn seat_for(alloc: Global, classes: &mut Classes, want: Want) -> Result<Seat, OutOfMemory>
-    requires { AreIndexed classes.old.list.items classes.old.numbers }
+    requires { AreIndexed classes.old.list.items classes.old.numbers.entries }
     ensures is { IfOk result (λ seat.
         IsSeated classes.old.list.items classes.new.list.items want seat) }
-    ensures indexed { OnOk result (AreIndexed classes.new.list.items classes.new.numbers) }
+    ensures indexed { OnOk result (AreIndexed classes.new.list.items classes.new.numbers.entries) }
 {
     let class = class_for(alloc, classes, want.feed)?;
     let Ok(place) = u32::try_from(classes.list[class as usize].uses.len()) else {
@@ -92,7 +92,7 @@ pub fn seats_of(
     wants: &[Want],
 ) -> Result<Vec<Seat>, OutOfMemory>
     requires list { classes.old.list.items ≡ [] }
-    requires numbers { classes.old.numbers ≡ [] }
+    requires numbers { classes.old.numbers.entries ≡ [] }
     ensures { IfOk result (λ seats.
         AreSeated wants.now classes.new.list.items seats.items (length wants.now)) }
 {

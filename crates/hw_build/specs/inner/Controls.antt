@@ -10,7 +10,7 @@ use Rattle.hw_net.specs.Netlist.{HasWord}
 use Rattle.hw_net.specs.NetRows.{Rows}
 use Rattle.hw_net.specs.Registers.{Wave}
 use Rattle.hw_shows.specs.Series.{AreSame, steady}
-use Rattle.hw_build.specs.inner.Grown.{Grows}
+use Rattle.hw_share.specs.inner.Parts.{Grows}
 use Rattle.hw_build.specs.inner.Growth.{InLater}
 
 -- operations, but no multiplication

@@ -29,7 +29,7 @@ use Rattle.hw_shows.specs.Series.{steady, span_at, IsProductAt}
 use Rattle.hw_build.specs.Places.{Places}
 use Rattle.hw_build.specs.declared.entries.Entry.{Entry}
 use Rattle.hw_build.specs.inner.Facts.{IsElementMade}
-use Rattle.hw_build.specs.inner.Grown.{Grows}
+use Rattle.hw_share.specs.inner.Parts.{Grows}
 use Rattle.hw_build.specs.inner.Growth.{InLater}
 use Rattle.hw_build.specs.inner.Lowering.{offered_args}
 
@@ -161,16 +161,23 @@ hands_on enable driver (Demux sizes) = true
 hands_on enable driver (RateTransition period initial) = true
 hands_on enable driver _ = false
 
--- whether a kind carries out an operation that has no numbers of its own
-abbrev pub works_plainly : Kind → Bool
-works_plainly (Outport number) = true
-works_plainly (Sum negative) = true
-works_plainly Product = true
-works_plainly (Relational operator) = true
-works_plainly (Logic operator) = true
-works_plainly (Convert stored) = true
-works_plainly (Pass width) = true
-works_plainly _ = false
+-- whether a kind carries out an operation, on the element itself of each of its inputs
+abbrev pub works : Kind → Bool
+works (Outport number) = true
+works (Sum negative) = true
+works (Gain value param) = true
+works Product = true
+works (Switch criterion threshold) = true
+works (Relational operator) = true
+works (Logic operator) = true
+works (Convert stored) = true
+works (Pass width) = true
+works _ = false
+
+-- whether it shows something otherwise
+abbrev pub shows_alone : Kind → Bool
+shows_alone Terminator = false
+shows_alone kind = not (works kind)
 
 -- the net was put in, and reads nothing in its own clock
 pub record IsHeldAt (before after : Circuit) (number : ℕ) : Type 0 where

@@ -1,22 +1,27 @@
 -- What the ends of a block offer to an element, for all places that fit what is known (own).
-use Rattle.std.specs.Prelude.{◌≡◌, ◌<◌, ◌+◌, ◌∷◌, [], ℕ, Bool, true, false, List, length, map, sum, slice_index_or}
+use Rattle.std.specs.Prelude.{◌≡◌, ◌<◌, ◌+◌, ◌∷◌, [], ℕ, Bool, false, List, Some, length, map, sum, slice_get, slice_index_or}
 use Rattle.dg_waves.specs.Rounds.{numbers_from}
 use Rattle.dg_model.specs.Attributes.{attributes_of}
 use Rattle.dg_model.specs.LatencyEdges.{asks_ever}
 use Rattle.dg_model.specs.Library.{row_of}
 use Rattle.dg_model.specs.Solves.{IsShown, shown_ports, shown_width}
 use Rattle.dg_model.specs.Wires.{types_into, width_into}
+use Rattle.hw_build.specs.declared.block_inputs.BlockAt.{BlockAt}
 use Rattle.hw_build.specs.declared.block_inputs.BlockInputs.{BlockInputs}
 use Rattle.dg_model.specs.declared.diagram.Block.{Block}
 use Rattle.dg_model.specs.declared.diagram.Diagram.{Diagram}
 use Rattle.dg_model.specs.declared.kind.Kind.{Kind}
-use Rattle.dg_model.specs.declared.kind.Kind.TheVariants.{Gain, Switch, Mux, Demux}
+use Rattle.dg_model.specs.declared.kind.Kind.TheVariants.{Mux, Demux}
 use Rattle.hw_build.specs.declared.blocks.Setting.{Setting}
-use Rattle.hw_build.specs.inner.Entries.{AreOffered, works_plainly}
+use Rattle.hw_build.specs.inner.Entries.{AreOffered}
 use Rattle.hw_build.specs.declared.offers.Element.{Element}
 use Rattle.hw_build.specs.inner.HubPlaces.{is_input_role}
 use Rattle.hw_build.specs.inner.Looping.{Fits, diagram_of}
 use Rattle.hw_build.specs.Places.{Places}
+
+-- the block is there
+abbrev pub IsBlockAt : BlockAt → Type 0
+IsBlockAt at = slice_get (diagram_of at.setting).blocks at.block ≡ Some at.one.now
 
 abbrev pub Offer : Setting → ℕ → Block → ℕ → ℕ → List ℕ → Type 0
 Offer setting block b port element operands = (places : Places) → Fits setting places → AreOffered (diagram_of setting) places block b port element b.kind operands
@@ -50,12 +55,6 @@ pub record IsAtHand (to : Element) (inputs : BlockInputs) : Type 0 where
   pub other : is_input_role (row_of to.one.now.kind).place.role ≡ false
   pub reading : AreReadBy to.setting to.place.block to.one.now inputs
 
--- whether a kind reads the element itself of each of its inputs
-abbrev pub reads_each : Kind → Bool
-reads_each (Gain value param) = true
-reads_each (Switch criterion threshold) = true
-reads_each kind = works_plainly kind
-
--- whether it reads the element of its one input, and what enables it
+-- whether a kind reads the element of its one input, and what enables it
 abbrev pub reads_enable : Kind → Bool
 reads_enable kind = asks_ever (row_of kind).timing.asks

@@ -10,8 +10,8 @@ use Rattle.hw_build.proofs.blocks.put_blocks.Goals as goal
 pub loop-block-init : goal.loop-block-init
 loop-block-init c = c.requires.before
 
-pub overflow_cast-block : goal.overflow_cast-block
-overflow_cast-block c =
+pub overflow_cast-owner : goal.overflow_cast-owner
+overflow_cast-owner c =
     let blocks : length c.as_slice-blocks.result.now ≡ length c.args.setting.design.checked.now.diagram.blocks = ap (λ (bs : List Block). length bs) (c.as_slice-blocks.ensures ∙ ap (λ (d : Diagram). d.blocks) c.diagram.ensures) in
     record { fits = omega (arith, blocks, c.loop-block-test.true, c.requires.set.designed.scheduled.checked.wired.size) }
 

@@ -28,4 +28,4 @@ returns-clause-indexed c =
     let below : number < length mid = slice_get_within mid number is.has.one is.has.is in
     let at : slice_get mid number ≡ Some c.index_mut.result.now = slice_get_read mid (length mid) number c.index_mut.result.now refl below c.index_mut.ensures.value in
     let now : Class = record { feed = c.index_mut.result.now.feed; uses = c.push.new.self } in
-    indexed_set mid c.class_for.new.classes.numbers number c.index_mut.result.now now c.in_ok-class.ensures.indexed at refl
+    indexed_set mid c.class_for.new.classes.numbers.entries number c.index_mut.result.now now c.in_ok-class.ensures.indexed at refl

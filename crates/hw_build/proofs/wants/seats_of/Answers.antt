@@ -13,7 +13,7 @@ no_want = record { feed = record { hub = 0; frame = record { period = 0; latency
 
 pub loop-want-init : goal.loop-want-init
 loop-want-init c =
-    subst (λ (xs : List Class). AreSeated c.args.wants.now xs c.new-seats.result.items 0 × AreIndexed xs c.args.classes.now.numbers) (sym c.requires.list)
+    subst (λ (xs : List Class). AreSeated c.args.wants.now xs c.new-seats.result.items 0 × AreIndexed xs c.args.classes.now.numbers.entries) (sym c.requires.list)
     (subst (λ (index : List (Feed × ℕ)). AreSeated c.args.wants.now [] c.new-seats.result.items 0 × AreIndexed [] index) (sym c.requires.numbers)
     (subst (λ (xs : List Seat). AreSeated c.args.wants.now [] xs 0) (sym c.new-seats.ensures.items) (seated_none c.args.wants.now), indexed_none))
 

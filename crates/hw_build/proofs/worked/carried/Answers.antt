@@ -16,7 +16,7 @@ lower-requires-clause-args c =
 
 pub lower-requires-clause-can : goal.lower-requires-clause-can
 lower-requires-clause-can c =
-    rw (c.requires.ready.types_are, c.requires.signs, c.result-kind.ensures 1)
+    rw (c.requires.ready.types_are, c.signs-signs.ensures, c.result-kind.ensures 1)
     (c.operations_prepare.ensures.operations c.args.site.design.checked.now.diagram c.args.site.design.checked.now.order c.args.site.place.block c.args.site.one.now c.args.site.place.element c.args.op
     (record { checked = c.keeps_rules.ensures.checked; ordered = c.keeps_rules.ensures.ordered }) c.requires.ready.shown.block_is c.requires.op)
 
@@ -24,7 +24,7 @@ pub returns : goal.returns
 returns c =
     carried_entry c.args.site.design.checked.now.diagram (timing_for c.args.site.design) c.args.net.now c.lower.new.net c.args.site.place.block c.args.site.one.now c.args.site.place.port c.args.site.place.element c.args.site.operands.now
     (record { net = c.in_ok-number.number; state = c.in_ok-number.number; multiply = c.in_ok-multiply.multiply }) c.args.op c.in_ok-number.number c.result-kind.result c.requires.op
-    (rw (← c.requires.ready.types_are, ← c.requires.signs, ← (c.result-kind.ensures 1)) c.in_ok-number.ensures.lowers) (rw (← c.requires.ready.types_are, ← c.requires.signs, ← (c.result-kind.ensures 1)) c.in_ok-number.ensures.lowered)
+    (rw (← c.requires.ready.types_are, ← c.signs-signs.ensures, ← (c.result-kind.ensures 1)) c.in_ok-number.ensures.lowers) (rw (← c.requires.ready.types_are, ← c.signs-signs.ensures, ← (c.result-kind.ensures 1)) c.in_ok-number.ensures.lowered)
     (subst (λ (list : List FxType). AreArgs c.args.net.now list c.args.site.operands.now)
     (types_carried c.args.site.place.element ((attributes_of c.args.site.design.checked.now.diagram).param_at c.args.site.place.block) (type_into c.args.site.design.checked.now.diagram (attributes_of c.args.site.design.checked.now.diagram) c.args.site.place.block 2) c.args.op c.args.site.design.checked.now.diagram c.args.site.place.block c.args.site.one.now c.args.site.place.port c.args.site.one.now.kind c.requires.op)
     c.requires.ready.operands_are) c.result-kind.ensures refl c.in_ok-multiply.ensures

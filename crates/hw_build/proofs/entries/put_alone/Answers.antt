@@ -1,0 +1,78 @@
+use Rattle.std.proofs.Common.{inl, inr, List, ap, ◌∙◌}
+use Rattle.fx_type.specs.declared.decimal.Decimal.{Decimal}
+use Rattle.dg_model.specs.declared.kind.Kind.TheVariants.{Constant, Delay, EnOut}
+use Rattle.dg_model.specs.Attributes.{attributes_of}
+use Rattle.dg_model.specs.Wires.{period_into}
+use Rattle.hw_build.specs.inner.Entries.{hands_on}
+use Rattle.hw_build.proofs.Parameters.{list_is}
+use Rattle.hw_build.proofs.entries.put_alone.Goals as goal
+
+pub handed-requires-clause-hands : goal.handed-requires-clause-hands
+handed-requires-clause-hands c =
+    elim c.in-Inport.is [
+      | inl here ↦ ap (hands_on c.args.site.one.now.enable (period_into c.args.site.design.checked.now.diagram (attributes_of c.args.site.design.checked.now.diagram) c.args.site.place.block 1)) here.2
+      | inr more ↦ elim more [
+        | inl here ↦ ap (hands_on c.args.site.one.now.enable (period_into c.args.site.design.checked.now.diagram (attributes_of c.args.site.design.checked.now.diagram) c.args.site.place.block 1)) here.1
+        | inr more ↦ elim more [
+          | inl here ↦ ap (hands_on c.args.site.one.now.enable (period_into c.args.site.design.checked.now.diagram (attributes_of c.args.site.design.checked.now.diagram) c.args.site.place.block 1)) here.1
+          | inr more ↦ ap (hands_on c.args.site.one.now.enable (period_into c.args.site.design.checked.now.diagram (attributes_of c.args.site.design.checked.now.diagram) c.args.site.place.block 1)) more.2
+        ]
+      ]
+    ]
+
+pub handed-requires-clause-operands : goal.handed-requires-clause-operands
+handed-requires-clause-operands c = c.requires.ready.operands_are
+
+pub constant-requires-clause-shown : goal.constant-requires-clause-shown
+constant-requires-clause-shown c = c.requires.can.shown
+
+pub constant-requires-clause-kind : goal.constant-requires-clause-kind
+constant-requires-clause-kind c = c.in-Constant.is ∙ ap Constant (list_is c.args.site.one.now.kind (Constant c.in-Constant.value) c.list_of-list.result.now c.list_of-list.ensures c.in-Constant.is)
+
+pub ground-requires-clause-shown : goal.ground-requires-clause-shown
+ground-requires-clause-shown c = c.requires.can.shown
+
+pub ground-requires-clause-kind : goal.ground-requires-clause-kind
+ground-requires-clause-kind c = c.in-Ground.is
+
+pub tested-requires-clause-ready : goal.tested-requires-clause-ready
+tested-requires-clause-ready c = c.requires.ready
+
+pub tested-requires-clause-kind : goal.tested-requires-clause-kind
+tested-requires-clause-kind c = c.in-EnableTest.is
+
+pub delayed-requires-clause-can : goal.delayed-requires-clause-can
+delayed-requires-clause-can c = c.requires.can
+
+pub delayed-requires-clause-operands : goal.delayed-requires-clause-operands
+delayed-requires-clause-operands c = c.requires.ready.operands_are
+
+pub delayed-requires-clause-kind : goal.delayed-requires-clause-kind
+delayed-requires-clause-kind c = c.in-Delay.is ∙ ap (λ (list : List Decimal). Delay c.in-Delay.length list c.in-Delay.reset) (list_is c.args.site.one.now.kind (Delay c.in-Delay.length c.in-Delay.initial c.in-Delay.reset) c.list_of-list.result.now c.list_of-list.ensures c.in-Delay.is)
+
+pub passed_out-requires-clause-can : goal.passed_out-requires-clause-can
+passed_out-requires-clause-can c = c.requires.can
+
+pub passed_out-requires-clause-operands : goal.passed_out-requires-clause-operands
+passed_out-requires-clause-operands c = c.requires.ready.operands_are
+
+pub passed_out-requires-clause-kind : goal.passed_out-requires-clause-kind
+passed_out-requires-clause-kind c = c.in-EnOut.is ∙ ap (EnOut c.in-EnOut.reset) (list_is c.args.site.one.now.kind (EnOut c.in-EnOut.reset c.in-EnOut.initial) c.list_of-list.result.now c.list_of-list.ensures c.in-EnOut.is)
+
+pub returns-in-Constant : goal.returns-in-Constant
+returns-in-Constant c = c.constant.ensures
+
+pub returns-in-Ground : goal.returns-in-Ground
+returns-in-Ground c = c.ground.ensures
+
+pub returns-in-EnableTest : goal.returns-in-EnableTest
+returns-in-EnableTest c = c.tested.ensures
+
+pub returns-in-Delay : goal.returns-in-Delay
+returns-in-Delay c = c.delayed.ensures
+
+pub returns-in-EnOut : goal.returns-in-EnOut
+returns-in-EnOut c = c.passed_out.ensures
+
+pub returns-in-Inport : goal.returns-in-Inport
+returns-in-Inport c = c.handed.ensures
