@@ -11,7 +11,7 @@ use Rattle.hw_net.proofs.Numbers.{wrapped-is}
 use Rattle.hw_lower.specs.declared.plan.Word.{Word}
 use Rattle.hw_lower.specs.declared.plan.Step.{Step}
 use Rattle.hw_lower.specs.declared.plan.Operand.{Operand}
-use Rattle.hw_lower.specs.inner.Planned.{Numbers, Obeys, IsAt, HasParts, CanRead, IsPlain, IsSound, Grows, IsMade, IsPut, reads_of, operands_of, three, no_inputs, step_of}
+use Rattle.hw_lower.specs.inner.Planned.{Numbers, Obeys, IsAt, HasParts, CanRead, IsPlain, IsSound, Adds, Grows, IsMade, IsPut, reads_of, operands_of, three, no_inputs, step_of}
 
 -- Plans that grow.
 
@@ -24,7 +24,7 @@ stood-at old added new k step is inside there = sym (get_front old added k insid
 pub at-later : (old new : List Step) (one : Operand) → Grows old new → IsAt old one → IsAt new one
 at-later old new one g at = record { step = at.step; is = still-at old g.added new one.place at.step g.is at.is; word = at.word; valid = at.valid }
 
-pub obeys-before : (old new : List Step) (inputs numbers : Numbers) → Grows old new → Obeys new inputs numbers → Obeys old inputs numbers
+pub obeys-before : (old new : List Step) {part : NetOp → Type 0} (inputs numbers : Numbers) → Adds old new part → Obeys new inputs numbers → Obeys old inputs numbers
 obeys-before old new inputs numbers g obeys = record { each = λ k step there. obeys.each k step (still-at old g.added new k step g.is there) }
 
 pub grows-self : (plan : List Step) → Grows plan plan
@@ -32,7 +32,7 @@ grows-self plan = record {
   added = [];
   is = sym (append-nil plan);
   sound = λ k step past there. absurd (omega (arith, past, slice_get_within plan k step there));
-  plain = λ k step past there. absurd (omega (arith, past, slice_get_within plan k step there));
+  parts = λ k step past there. absurd (omega (arith, past, slice_get_within plan k step there));
 }
 
 pub parts-later : (old added new : List Step) (op : NetOp) (first second third : ℕ) → new ≡ old ++ added
@@ -75,13 +75,16 @@ pub sound-trans : (a b added c : List Step) → c ≡ b ++ added → ((k : ℕ) 
     → (k : ℕ) (step : Step) → length a ≤ k → slice_get c k ≡ Some step → IsSound c k step
 sound-trans a b added c is = each-trans a b added c (IsSound b) (IsSound c) is (λ k step less sound. sound-later b added c k step is less sound)
 
-pub grows-trans : (a b c : List Step) → Grows a b → Grows b c → Grows a c
-grows-trans a b c p q = record {
+pub adds-then : (a b c : List Step) (first last all : NetOp → Type 0) → ((op : NetOp) → first op → all op) → ((op : NetOp) → last op → all op) → Adds a b first → Adds b c last → Adds a c all
+adds-then a b c first last all f g p q = record {
   added = p.added ++ q.added;
   is = q.is ∙ ap (λ (xs : List Step). xs ++ q.added) p.is ∙ append_assoc a p.added q.added;
   sound = sound-trans a b q.added c q.is p.sound q.sound;
-  plain = each-trans a b q.added c (λ k step. IsPlain step.op) (λ k step. IsPlain step.op) q.is (λ k step less plain. plain) p.plain q.plain;
+  parts = each-trans a b q.added c (λ k step. first step.op) (λ k step. all step.op) q.is (λ k step less is. f step.op is) p.parts (λ k step more there. g step.op (q.parts k step more there));
 }
+
+pub grows-trans : (a b c : List Step) → Grows a b → Grows b c → Grows a c
+grows-trans a b c = adds-then a b c IsPlain IsPlain IsPlain (λ op plain. plain) (λ op plain. plain)
 
 -- one step more
 
@@ -101,14 +104,14 @@ sound-one old new step is sound k other past there =
     let last = last-is old new step other k is past there in
     subst (λ (i : ℕ). IsSound new i other) (sym last.0) (subst (λ (s : Step). IsSound new (length old) s) last.1 sound)
 
-pub grows-one : (old new : List Step) (step : Step) → new ≡ old ++ step ∷ [] → IsSound new (length old) step → IsPlain step.op → Grows old new
-grows-one old new step is sound plain = record {
+pub adds-one : (old new : List Step) (step : Step) (part : NetOp → Type 0) → new ≡ old ++ step ∷ [] → IsSound new (length old) step → part step.op → Adds old new part
+adds-one old new step part is sound own = record {
   added = step ∷ [];
   is = is;
   sound = sound-one old new step is sound;
-  plain = λ k other past there.
+  parts = λ k other past there.
       let last = last-is old new step other k is past there in
-      subst (λ (s : Step). IsPlain s.op) last.1 plain;
+      subst (λ (s : Step). part s.op) last.1 own;
 }
 
 pub put-made : (old new : List Step) (step : Step) (made : Operand) (P : Numbers → Type 0) → IsPut old new step made → IsSound new (length old) step → IsPlain step.op
@@ -117,7 +120,7 @@ pub put-made : (old new : List Step) (step : Step) (made : Operand) (P : Numbers
 put-made old new step made P put sound plain gives =
     let there : slice_get new made.place ≡ Some step = ap (slice_get new) put.place ∙ ap (λ (xs : List Step). slice_get xs (length old)) put.is ∙ last_at old step in
     record {
-      grows = grows-one old new step put.is sound plain;
+      grows = adds-one old new step IsPlain put.is sound plain;
       at = record { step = step; is = there; word = sym put.word; valid = subst (λ (w : Word). IsWord w.width w.signed) (sym put.word) sound.word };
       has_word = put.word;
       gives = record { holds = λ inputs numbers obeys. gives inputs numbers (obeys.each made.place step there) };

@@ -60,19 +60,19 @@ input-at : (types : List FxType) (start steps : List Step) (multiply : Option �
     → (k : ℕ) (step : Step) → k < length types → slice_get steps k ≡ Some step → step_of (Input k) 0 0 0 (word_of (type_of types k)) ≡ step
 input-at types start steps multiply inputs spreads k step inside there =
     same_Some (step_of (Input k) 0 0 0 (word_of (type_of types k))) step
-    (sym (inputs.each k inside) ∙ stood-at start spreads.added steps k step spreads.is (omega (arith, inputs.size, inside)) there)
+    (sym (inputs.each k inside) ∙ stood-at start spreads.adds.added steps k step spreads.adds.is (omega (arith, inputs.size, inside)) there)
 
 pub can-put : (before : Circuit) (types : List FxType) (args : List ℕ) (start steps : List Step) (multiply : Option ℕ) → AreArgs before types args → AreInputs start types (length types) → Spreads start steps multiply
     → CanPut before steps args
 can-put before types args start steps multiply are_args inputs spreads = record {
-  count = omega (arith, are_args.count, inputs.size, ap length spreads.is, length-append start spreads.added);
+  count = omega (arith, are_args.count, inputs.size, ap length spreads.adds.is, length-append start spreads.adds.added);
   words = λ k number step given there.
       let inside : k < length types = omega (arith, are_args.count, slice_get_within args k number given) in
       let same = input-at types start steps multiply inputs spreads k step inside there in
       subst (λ (s : Step). HasWord before.nets number s.word.width s.word.signed) same
       (are_args.words k number (type_of types k) given (slice_get-get_or types k (Num false 0 (pos 0)) inside));
-  sound = λ k step past there. spreads.sound k step (omega (arith, are_args.count, inputs.size, past)) there;
-  inner = λ k step past there. spreads.inner k step (omega (arith, are_args.count, inputs.size, past)) there;
+  sound = λ k step past there. spreads.adds.sound k step (omega (arith, are_args.count, inputs.size, past)) there;
+  inner = λ k step past there. spreads.adds.parts k step (omega (arith, are_args.count, inputs.size, past)) there;
 }
 
 -- the numbers of the steps at a clock
@@ -137,7 +137,7 @@ obeys-rows before after later types args start steps multiply down keeps n given
         | inr more ↦
             let behind : k ≡ length args + (k - length args) = omega arith in
             let at : slice_get steps (length args + (k - length args)) ≡ Some step = ap (slice_get steps) (sym behind) ∙ there in
-            let inner = down.spreads.inner k step (omega (arith, count, size, more)) there in
+            let inner = down.spreads.adds.parts k step (omega (arith, count, size, more)) there in
             subst (λ (place : ℕ). IsWrapped (given_by step.op numbers (operands_of numbers step)) step.word.width step.word.signed (numbers place)) (sym behind)
             (shown before after later args steps down.nets keeps n given rows is clock below (k - length args) step at inner)
       ];

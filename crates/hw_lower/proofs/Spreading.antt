@@ -1,5 +1,5 @@
 -- Plans that may have the one Multiply.
-use Rattle.std.proofs.Common.{◌≡◌, ℕ, ◌+◌, ◌-◌, ◌≤◌, ◌*ℤ◌, List, [], ◌∷◌, ◌++◌, length, slice_get, Option, None, Some, inl, inr, append_assoc, ap, sym, ◌∙◌, subst, arith, refl, Result, Ok, Err, IfOk}
+use Rattle.std.proofs.Common.{◌≡◌, ℕ, ◌+◌, ◌-◌, ◌≤◌, ◌*ℤ◌, List, [], ◌∷◌, ◌++◌, length, slice_get, Option, None, Some, inl, inr, ap, sym, ◌∙◌, subst, arith, refl, Result, Ok, Err, IfOk}
 use Rattle.std.proofs.lemmas.Bool.{cases_lt}
 use Rattle.std.proofs.lemmas.Option.{none-some, same_Some, slice_get_within}
 use Rattle.fx_num.specs.Word.{IsWord, IsWrapped}
@@ -7,34 +7,26 @@ use Rattle.hw_net.specs.declared.netlist.NetOp.TheVariants.{Multiply}
 use Rattle.hw_lower.specs.declared.plan.Word.{Word}
 use Rattle.hw_lower.specs.declared.plan.Step.{Step}
 use Rattle.hw_lower.specs.declared.plan.Operand.{Operand}
-use Rattle.hw_lower.specs.inner.Planned.{Numbers, IsAt, IsPlain, IsSound, Grows, Gives, IsMade, IsPut, step_of, Obeys}
+use Rattle.hw_lower.specs.inner.Planned.{Numbers, IsAt, IsPlain, IsSound, Grows, Gives, IsMade, IsPut, step_of}
 use Rattle.hw_lower.specs.inner.Spread.{IsInner, IsMultiplyAt, Spreads, IsPlanned}
 use Rattle.fx_io.proofs.Places.{last_at}
-use Rattle.hw_lower.proofs.Made.{last-is, sound-one, still-at, stood-at, each-trans, sound-trans, obeys-before, below-taken}
+use Rattle.hw_lower.proofs.Made.{adds-one, adds-then, last-is, still-at, stood-at, obeys-before, below-taken}
 use Rattle.hw_lower.proofs.Chained.{InWords, in-words}
 
 -- no plain step is a Multiply
 plain-none : (old new : List Step) (k : ℕ) → Grows old new → length old ≤ k → IsMultiplyAt new k → ⊥
-plain-none old new k g past at = subst IsPlain at.multiplies (g.plain k at.step past at.is)
+plain-none old new k g past at = subst IsPlain at.multiplies (g.parts k at.step past at.is)
 
 pub spreads-plain : (old new : List Step) → Grows old new → Spreads old new None
 spreads-plain old new g = record {
-  added = g.added;
-  is = g.is;
-  sound = g.sound;
-  inner = λ k step past there. inl (g.plain k step past there);
+  adds = record { added = g.added; is = g.is; sound = g.sound; parts = λ k step past there. inl (g.parts k step past there) };
   multiplies = λ place e. absurd (none-some place e);
   only = λ place at. absurd (plain-none old new (length old + place) g (omega arith) at);
 }
 
 pub spreads-multiply : (old new : List Step) (step : Step) → new ≡ old ++ step ∷ [] → IsSound new (length old) step → step.op ≡ Multiply → Spreads old new (Some 0)
 spreads-multiply old new step is sound multiplies = record {
-  added = step ∷ [];
-  is = is;
-  sound = sound-one old new step is sound;
-  inner = λ k other past there.
-      let last = last-is old new step other k is past there in
-      inr (ap (λ (s : Step). s.op) (sym last.1) ∙ multiplies);
+  adds = adds-one old new step IsInner is sound (inr multiplies);
   multiplies = λ place e.
       let none : place ≡ 0 = sym (same_Some 0 place e) in
       let at : length old + place ≡ length old = omega arith in
@@ -51,10 +43,7 @@ spreads-multiply old new step is sound multiplies = record {
 
 pub spreads-then : (a b c : List Step) (m : Option ℕ) → Spreads a b m → Grows b c → Spreads a c m
 spreads-then a b c m p q = record {
-  added = p.added ++ q.added;
-  is = q.is ∙ ap (λ (xs : List Step). xs ++ q.added) p.is ∙ append_assoc a p.added q.added;
-  sound = sound-trans a b q.added c q.is p.sound q.sound;
-  inner = each-trans a b q.added c (λ k step. IsInner step.op) (λ k step. IsInner step.op) q.is (λ k step less inner. inner) p.inner (λ k step more there. inl (q.plain k step more there));
+  adds = adds-then a b c IsInner IsPlain IsInner (λ op inner. inner) (λ op plain. inl plain) p.adds q;
   multiplies = λ place e.
       let at = p.multiplies place e in
       record { step = at.step; is = still-at b q.added c (length a + place) at.step q.is at.is; multiplies = at.multiplies };
@@ -68,10 +57,7 @@ spreads-then a b c m p q = record {
 -- one plain step before
 pub spreads-after : (a b c : List Step) → Grows a b → length b ≡ length a + 1 → Spreads b c (Some 0) → Spreads a c (Some 1)
 spreads-after a b c p size q = record {
-  added = p.added ++ q.added;
-  is = q.is ∙ ap (λ (xs : List Step). xs ++ q.added) p.is ∙ append_assoc a p.added q.added;
-  sound = sound-trans a b q.added c q.is p.sound q.sound;
-  inner = each-trans a b q.added c (λ k step. IsPlain step.op) (λ k step. IsInner step.op) q.is (λ k step less plain. inl plain) p.plain q.inner;
+  adds = adds-then a b c IsPlain IsInner IsInner (λ op plain. inl plain) (λ op inner. inner) p q.adds;
   multiplies = λ place e.
       let one : place ≡ 1 = sym (same_Some 1 place e) in
       let at = q.multiplies 0 refl in
@@ -79,7 +65,7 @@ spreads-after a b c p size q = record {
       record { step = at.step; is = ap (slice_get c) (sym same) ∙ at.is; multiplies = at.multiplies };
   only = λ place at.
       elim (cases_lt (length a + place) (length b)) [
-        | inl less ↦ absurd (plain-none a b (length a + place) p (omega arith) (record { step = at.step; is = stood-at b q.added c (length a + place) at.step q.is less at.is; multiplies = at.multiplies }))
+        | inl less ↦ absurd (plain-none a b (length a + place) p (omega arith) (record { step = at.step; is = stood-at b q.adds.added c (length a + place) at.step q.adds.is less at.is; multiplies = at.multiplies }))
         | inr more ↦
             let same : length a + place ≡ length b + (place - 1) = omega arith in
             let none : 0 ≡ place - 1 = same_Some 0 (place - 1) (q.only (place - 1) (subst (IsMultiplyAt c) same at)) in
@@ -87,10 +73,6 @@ spreads-after a b c p size q = record {
             ap Some one
       ];
 }
-
--- the plan that was there obeyed, too
-pub obeys-spread : (old new : List Step) (m : Option ℕ) (inputs numbers : Numbers) → Spreads old new m → Obeys new inputs numbers → Obeys old inputs numbers
-obeys-spread old new m inputs numbers p obeys = record { each = λ k step there. obeys.each k step (still-at old p.added new k step p.is there) }
 
 -- a plan with no Multiply
 pub if-plain : {E : Type 0} (old new : List Step) (word : Word) (P Q : Operand → Numbers → Type 0) (result : Result Operand E)
@@ -114,7 +96,7 @@ if-planned old new m word P Q (Ok made) is f = record {
   spreads = is.spreads;
   at = is.at;
   has_word = is.has_word;
-  gives = record { holds = λ inputs numbers obeys. f made numbers (in-words old inputs numbers (obeys-spread old new m inputs numbers is.spreads obeys)) (is.gives.holds inputs numbers obeys) };
+  gives = record { holds = λ inputs numbers obeys. f made numbers (in-words old inputs numbers (obeys-before old new inputs numbers is.spreads.adds obeys)) (is.gives.holds inputs numbers obeys) };
 }
 if-planned old new m word P Q (Err e) is f = tt
 
@@ -154,7 +136,7 @@ if-after a b c one other exact first word P Q (Ok made) p q f = record {
   gives = record {
     holds = λ inputs numbers obeys.
         let before = obeys-before b c inputs numbers q.grows obeys in
-        f made numbers (in-words a inputs numbers (obeys-spread a b (Some 0) inputs numbers p.spreads before)) (p.gives.holds inputs numbers before) (q.gives.holds inputs numbers obeys);
+        f made numbers (in-words a inputs numbers (obeys-before a b inputs numbers p.spreads.adds before)) (p.gives.holds inputs numbers before) (q.gives.holds inputs numbers obeys);
   };
 }
 if-after a b c one other exact first word P Q (Err e) p q f = tt
@@ -170,7 +152,7 @@ if-behind a b c first word one P Q R (Ok made) p size q f = record {
   has_word = q.has_word;
   gives = record {
     holds = λ inputs numbers obeys.
-        let before = obeys-spread b c (Some 0) inputs numbers q.spreads obeys in
+        let before = obeys-before b c inputs numbers q.spreads.adds obeys in
         f made numbers (in-words a inputs numbers (obeys-before a b inputs numbers p.grows before)) (p.gives.holds inputs numbers before) (q.gives.holds inputs numbers obeys);
   };
 }

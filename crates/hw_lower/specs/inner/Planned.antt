@@ -134,14 +134,17 @@ pub record IsSound (plan : List Step) (k : ℕ) (step : Step) : Type 0 where
   pub before : All (λ read. read < k) (reads_of step)
   pub parts : HasParts plan step.first step.op
 
--- sound steps were put behind the others, none of them an input or a Multiply
-pub record Grows (old new : List Step) : Type 0 where
+-- sound steps of such operations were put behind the others
+pub record Adds (old new : List Step) (part : NetOp → Type 0) : Type 0 where
   pub added : List Step
   pub is : new ≡ old ++ added
   pub sound : (k : ℕ) (step : Step) → length old ≤ k → slice_get new k ≡ Some step
       → IsSound new k step
-  pub plain : (k : ℕ) (step : Step) → length old ≤ k → slice_get new k ≡ Some step
-      → IsPlain step.op
+  pub parts : (k : ℕ) (step : Step) → length old ≤ k → slice_get new k ≡ Some step → part step.op
+
+-- none of them is an input or a Multiply
+abbrev pub Grows : List Step → List Step → Type 0
+Grows old new = Adds old new IsPlain
 
 -- in whatever numbers the plan's steps have, P holds
 pub record Gives (plan : List Step) (P : Numbers → Type 0) : Type 0 where

@@ -1,5 +1,5 @@
 -- Plans of whole operations: their arguments, their one Multiply, and what they give.
-use Rattle.std.specs.Prelude.{◌≡◌, ℕ, ◌+◌, ◌<◌, ◌≤◌, ℤ, List, ◌++◌, length, slice_get, Option}
+use Rattle.std.specs.Prelude.{◌≡◌, ℕ, ◌+◌, ◌<◌, ◌≤◌, ℤ, List, length, slice_get, Option}
 use Rattle.std.specs.Prelude.{◌⊎◌, ◌≤ℤ◌, All, Some, count_by, ◌%◌, ◌==◌, ◌*ℤ◌, ◌-ℤ◌, pos, Bool}
 use Rattle.std.specs.List.{list_all, list_any}
 use Rattle.fx_num.specs.Word.{IsWord, InWord}
@@ -16,7 +16,7 @@ use Rattle.hw_lower.specs.declared.gates.Joining.TheVariants.{Every, Any, Odd}
 use Rattle.hw_lower.specs.declared.plan.Word.{Word}
 use Rattle.hw_lower.specs.declared.plan.Step.{Step}
 use Rattle.hw_lower.specs.declared.plan.Operand.{Operand}
-use Rattle.hw_lower.specs.inner.Planned.{Numbers, IsAt, IsPlain, IsSound, Gives, IsChosen, word_of, step_of}
+use Rattle.hw_lower.specs.inner.Planned.{Numbers, Adds, IsAt, IsPlain, Gives, IsChosen, word_of, step_of}
 
 -- argument k of an operation, as a step of its plan
 abbrev pub argument_of : List FxType → ℕ → Operand
@@ -87,12 +87,7 @@ pub record IsMultiplyAt (plan : List Step) (k : ℕ) : Type 0 where
 
 -- sound steps were put behind the others, no input, and at most the one Multiply, where it is told
 pub record Spreads (old new : List Step) (multiply : Option ℕ) : Type 0 where
-  pub added : List Step
-  pub is : new ≡ old ++ added
-  pub sound : (k : ℕ) (step : Step) → length old ≤ k → slice_get new k ≡ Some step
-      → IsSound new k step
-  pub inner : (k : ℕ) (step : Step) → length old ≤ k → slice_get new k ≡ Some step
-      → IsInner step.op
+  pub adds : Adds old new IsInner
   pub multiplies : (place : ℕ) → multiply ≡ Some place → IsMultiplyAt new (length old + place)
   pub only : (place : ℕ) → IsMultiplyAt new (length old + place) → multiply ≡ Some place
 
