@@ -19,8 +19,16 @@ use tests_rows::written;
 
 pub fn answer<W: Write>(alloc: Global, model: &[u8], plan: &[u8], out: &mut W) -> Result<()> {
     match accept(alloc, model) {
-        Ok(checked) => planned(alloc, &checked, plan, out),
-        Err(fault) => put_refusal(alloc, &fault, out),
+        Ok(checked) => {
+            let put = planned(alloc, &checked, plan, out);
+            drop(checked);
+            put
+        }
+        Err(fault) => {
+            let put = put_refusal(alloc, &fault, out);
+            drop(fault);
+            put
+        }
     }
 }
 
@@ -34,7 +42,11 @@ fn put_refusal<W: Write>(alloc: Global, fault: &ModelFault, out: &mut W) -> Resu
 
 fn planned<W: Write>(alloc: Global, checked: &Checked, plan: &[u8], out: &mut W) -> Result<()> {
     match read_plan(alloc, plan) {
-        Ok(plan) => found(alloc, checked, &plan, out),
+        Ok(plan) => {
+            let put = found(alloc, checked, &plan, out);
+            drop(plan);
+            put
+        }
         Err(TableFault::Bad { line, cause }) => {
             written(writeln!(out, "plan line {line}: {cause}"))
         }
@@ -46,9 +58,15 @@ fn found<W: Write>(alloc: Global, checked: &Checked, plan: &Plan, out: &mut W) -
     requires { IsPlanInRange plan.now }
 {
     match resolve(alloc, checked, plan) {
-        Ok(resolved) => scheduled(alloc, checked, &resolved, out),
+        Ok(resolved) => {
+            let put = scheduled(alloc, checked, &resolved, out);
+            drop(resolved);
+            put
+        }
         Err(CheckFault::Broken(fault)) => {
-            put_fault(alloc, &fault, checked.diagram().blocks.as_slice(), out)
+            let put = put_fault(alloc, &fault, checked.diagram().blocks.as_slice(), out);
+            drop(fault);
+            put
         }
         Err(CheckFault::OutOfMemory) => Err(Error::msg("out of memory")),
     }

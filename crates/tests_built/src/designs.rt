@@ -1,5 +1,6 @@
 //! The numbers of a diagram's simulation.
 ghost use Rattle.std.specs.Prelude.{◌≡◌, ◌<◌, ◌≤◌, ◌^◌, All, IfOk, length, true};
+ghost use Rattle.dg_response.specs.Responding.{IsBefore};
 ghost use Rattle.dg_response.specs.Response.{input_columns, output_columns};
 ghost use Rattle.fx_tables.specs.Stimulus.{FitsColumns};
 
@@ -65,6 +66,22 @@ fn rows_of(alloc: Global, stimulus: &[u8], columns: &RootColumns) -> Result<Rows
     }
 }
 
+/// Puts the numbers of the outputs of each sample behind one another.
+fn put_samples(
+    checked: &Checked,
+    rows: &Rows,
+    responding: &mut Responding,
+    shown: &mut Vec<i128>,
+) -> Result<()>
+    requires { IsBefore checked.now rows.now responding.old 0 }
+{
+    for sample in 0..rows.count() {
+        responding.step(checked, rows, sample);
+        shown.extend_from_slice(responding.row())?;
+    }
+    Ok(())
+}
+
 /// The numbers of the outputs under these rows, sample by sample.
 fn shown_of(alloc: Global, checked: &Checked, rows: &Rows, outputs: usize) -> Result<Vec<i128>>
     requires columns { rows.now.columns ≡ length (input_columns checked.now.diagram) }
@@ -74,10 +91,9 @@ fn shown_of(alloc: Global, checked: &Checked, rows: &Rows, outputs: usize) -> Re
 {
     let mut responding = Responding::new(alloc, checked, rows, outputs)?;
     let mut shown = Vec::new(alloc);
-    for sample in 0..rows.count() {
-        responding.step(checked, rows, sample);
-        shown.extend_from_slice(responding.row())?;
-    }
+    let put = put_samples(checked, rows, &mut responding, &mut shown);
+    drop(responding);
+    put?;
     Ok(shown)
 }
 

@@ -24,7 +24,11 @@ pub fn put_schedule<W: Write>(
     requires latencies { AreLatencies checked.now.diagram plan.now latencies.now }
 {
     match slots_of(alloc, checked, latencies, plan) {
-        Ok(slots) => put_slots(alloc, checked, plan, latencies, &slots, out),
+        Ok(slots) => {
+            let put = put_slots(alloc, checked, plan, latencies, &slots, out);
+            drop(slots);
+            put
+        }
         Err(BudgetFault::Budget { period, need, have }) => {
             let shown = Shown::Budget { period, need, have };
             put_model_fault(alloc, Rule::Budget, shown, checked, out)

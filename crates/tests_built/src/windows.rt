@@ -53,13 +53,24 @@ impl Window {
 pub fn windows_of(alloc: Global, designed: &Designed, netlist: &Netlist) -> Result<Vec<Window>> {
     let blocks = output_blocks(alloc, &designed.checked)?;
     let mut windows = Vec::new(alloc);
-    if netlist.outputs().len() != blocks.as_slice().len() {
+    put_windows(designed, netlist.outputs(), blocks.as_slice(), &mut windows)?;
+    Ok(windows)
+}
+
+/// Puts the windows of ports behind one another.
+fn put_windows(
+    designed: &Designed,
+    ports: &[NetPort],
+    blocks: &[u32],
+    windows: &mut Vec<Window>,
+) -> Result<()> {
+    if ports.len() != blocks.len() {
         return Err(Error::msg("an output lacks a port"));
     }
-    for (port, block) in netlist.outputs().iter().zip(blocks.as_slice().iter()) {
+    for (port, block) in ports.iter().zip(blocks.iter()) {
         windows.push(window_of(designed, port, *block)?)?;
     }
-    Ok(windows)
+    Ok(())
 }
 
 fn window_of(designed: &Designed, port: &NetPort, block: u32) -> Result<Window> {
