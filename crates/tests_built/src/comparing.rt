@@ -25,8 +25,16 @@ pub fn put_comparison<W: Write>(
     out: &mut W,
 ) -> Result<()> {
     match designed_of(alloc, model, plan) {
-        Ok(designed) => put_designed(alloc, &designed, stimulus, out),
-        Err(fault) => put_fault(&fault, out),
+        Ok(designed) => {
+            let put = put_designed(alloc, &designed, stimulus, out);
+            drop(designed);
+            put
+        }
+        Err(fault) => {
+            let put = put_fault(&fault, out);
+            drop(fault);
+            put
+        }
     }
 }
 
@@ -48,7 +56,11 @@ fn put_designed<W: Write>(
         &plan.times.latencies,
         &plan.times.slots,
     ) {
-        Ok(netlist) => put_netlist(alloc, designed, &netlist, stimulus, out),
+        Ok(netlist) => {
+            let put = put_netlist(alloc, designed, &netlist, stimulus, out);
+            drop(netlist);
+            put
+        }
         Err(_fault) => Err(Error::msg("no netlist")),
     }
 }
@@ -79,7 +91,9 @@ fn put_run<W: Write>(
     requires { IsNetlist netlist.now }
 {
     let simulated = simulate(alloc, &designed.checked, stimulus)?;
-    put_simulated(alloc, designed, netlist, &simulated, out)
+    let put = put_simulated(alloc, designed, netlist, &simulated, out);
+    drop(simulated);
+    put
 }
 
 /// Prints what the netlist of a design shows beside a simulation.

@@ -8,6 +8,7 @@ use crate::slots::put_slots;
 use crate::stepping::{put_shown, read_numbers, view_of};
 use crate::texts::{put_faults, put_read, put_written};
 use anyhow::{Error, Result};
+use fx_io::Sizes;
 use hw_net::{FrameIndex, Net, NetKind, Netlist};
 use hw_run::is_netlist;
 use std::alloc::Global;
@@ -21,7 +22,7 @@ pub struct Bench {
     netlist: Netlist,
     /// The numbers of the inputs, clock by clock.
     inputs: Vec<i128>,
-    answers: Vec<u32>,
+    answers: Sizes,
     index: FrameIndex,
 }
 
@@ -30,7 +31,7 @@ impl Bench {
         Bench {
             netlist: Netlist::new(alloc, 1),
             inputs: Vec::new(alloc),
-            answers: Vec::new(alloc),
+            answers: Sizes::new(alloc),
             index: FrameIndex::new(alloc),
         }
     }
@@ -52,7 +53,7 @@ impl Bench {
             "show" => self.show(alloc, row, out),
             "find" => self.find(row, out),
             "counter" => put_counter(&mut self.netlist, row, out),
-            "size" => put_size(&self.netlist, self.answers.len(), out),
+            "size" => put_size(&self.netlist, self.answers.as_slice().len(), out),
             "module" => put_module(rt, alloc, &self.netlist, out),
             "spelled" => put_spelled(rt, alloc, &self.netlist, row, out),
             "items" => put_items(alloc, &self.netlist, out),
@@ -72,11 +73,19 @@ impl Bench {
             "connect" => connect(alloc, &mut self.netlist, row),
             "sums" => put_sums(alloc, &mut self.netlist, row),
             "inputs" => read_numbers(alloc, row.text.as_slice(), &mut self.inputs),
-            "chain" => put_chain(alloc, &mut self.netlist, row, &mut self.answers),
-            "line" => put_line(alloc, &mut self.netlist, row, &mut self.answers),
-            "share" => put_units(alloc, &mut self.netlist, row, &mut self.answers),
+            "chain" | "line" | "share" => self.put_parts(alloc, row),
             _ => self.index_by(row),
         }
+    }
+
+    /// Puts in nets that have answers, in the place of those before.
+    fn put_parts(&mut self, alloc: Global, row: &mut Row<'_>) -> Result<()> {
+        self.answers = match row.command {
+            "chain" => put_chain(alloc, &mut self.netlist, row)?,
+            "line" => put_line(alloc, &mut self.netlist, row)?,
+            _ => put_units(alloc, &mut self.netlist, row)?,
+        };
+        Ok(())
     }
 
     /// Begins a netlist.
@@ -103,7 +112,7 @@ impl Bench {
     fn net(&self, word: &str) -> Result<u32> {
         match word.strip_prefix("@") {
             Some(place) => {
-                match self.answers.get(place.parse::<usize>()?) {
+                match self.answers.as_slice().get(place.parse::<usize>()?) {
                     Some(number) => Ok(*number),
                     None => Err(Error::msg("no answer")),
                 }

@@ -4,6 +4,7 @@ ghost use Rattle.hw_lines.specs.Chain.{IsSource, IsUse};
 
 use crate::nets::frame_of;
 use anyhow::{Error, Result};
+use fx_io::Sizes;
 use fx_num::{fits, is_word};
 use hw_lines::{Source, Use, chain, line};
 use hw_net::{Frame, Netlist};
@@ -48,15 +49,11 @@ fn are_uses(source: Source, uses: &[Use]) -> bool
 }
 
 fn source_of(row: &mut Row<'_>) -> Result<Source> {
-    let from = row.number()?;
-    let frame = frame_of(row)?;
-    let first = row.integer()?;
-    let registered = row.one_of(&[("plain", false), ("registered", true)])?;
     Ok(Source {
-        from,
-        frame,
-        first,
-        registered,
+        from: row.number()?,
+        frame: frame_of(row)?,
+        first: row.integer()?,
+        registered: row.one_of(&[("plain", false), ("registered", true)])?,
     })
 }
 
@@ -81,25 +78,14 @@ fn put_uses(table: &mut Row<'_>, uses: &mut Vec<Use>) -> Result<()> {
     Ok(())
 }
 
-/// Puts in a chain, whose answers stand in the place of others.
-pub fn put_chain(
-    alloc: Global,
-    net: &mut Netlist,
-    row: &mut Row<'_>,
-    answers: &mut Vec<u32>,
-) -> Result<()> {
+/// Puts in a chain, and gives its answers.
+pub fn put_chain(alloc: Global, net: &mut Netlist, row: &mut Row<'_>) -> Result<Sizes> {
     let source = source_of(row)?;
     let uses = uses_of(alloc, row.text.as_slice())?;
-    chain_of(alloc, net, source, uses.as_slice(), answers)
+    chain_of(alloc, net, source, uses.as_slice())
 }
 
-fn chain_of(
-    alloc: Global,
-    net: &mut Netlist,
-    source: Source,
-    uses: &[Use],
-    answers: &mut Vec<u32>,
-) -> Result<()> {
+fn chain_of(alloc: Global, net: &mut Netlist, source: Source, uses: &[Use]) -> Result<Sizes> {
     if net.cycles() == 0 || net.cycles() > 1024 {
         return Err(Error::msg("no number of clocks"));
     }
@@ -112,26 +98,18 @@ fn chain_of(
         first,
         registered,
     } = source;
-    let numbers = chain(alloc, net, from, frame, first, registered, uses)?;
-    answers.clear();
-    answers.extend_from_slice(numbers.as_slice())?;
-    Ok(())
+    Ok(chain(alloc, net, from, frame, first, registered, uses)?)
 }
 
-/// Puts in a chain of one use, whose answer stands in the place of others.
-pub fn put_line(
-    alloc: Global,
-    net: &mut Netlist,
-    row: &mut Row<'_>,
-    answers: &mut Vec<u32>,
-) -> Result<()> {
+/// Puts in a chain of one use, and gives its answer.
+pub fn put_line(alloc: Global, net: &mut Netlist, row: &mut Row<'_>) -> Result<Sizes> {
     let source = source_of(row)?;
     let shift = row.long()?;
     let period = row.number()?;
     let answer = line_of(alloc, net, source, Use { shift, period })?;
-    answers.clear();
+    let mut answers = Sizes::new(alloc);
     answers.push(answer)?;
-    Ok(())
+    Ok(answers)
 }
 
 fn line_of(alloc: Global, net: &mut Netlist, source: Source, one: Use) -> Result<u32> {

@@ -60,12 +60,15 @@ fn module_of(alloc: Global, netlist: &Netlist) -> Result<Module> {
 pub fn put_items<W: Write>(alloc: Global, netlist: &Netlist, out: &mut W) -> Result<()> {
     let module = module_of(alloc, netlist)?;
     let count = module.items.as_slice().len();
+    drop(module);
     written(writeln!(out, "{count} items"))
 }
 
 fn text_of<R: Threads + Sync>(rt: &R, alloc: Global, netlist: &Netlist) -> Result<Text> {
     let module = module_of(alloc, netlist)?;
-    Ok(write(rt, alloc, &module, &OpenGate)?)
+    let text = write(rt, alloc, &module, &OpenGate);
+    drop(module);
+    Ok(text?)
 }
 
 /// Prints the module of a netlist.

@@ -17,13 +17,10 @@ use tests_rows::{Row, found};
 
 /// The net that the words tell.
 fn net_of(alloc: Global, row: &mut Row<'_>) -> Result<Net> {
-    let signed = row.one_of(&[("s", true), ("u", false)])?;
-    let width = row.byte()?;
-    let kind = kind_of(alloc, row)?;
     Ok(Net {
-        signed,
-        width,
-        kind,
+        signed: row.one_of(&[("s", true), ("u", false)])?,
+        width: row.byte()?,
+        kind: kind_of(alloc, row)?,
     })
 }
 
@@ -49,29 +46,21 @@ fn kind_of(alloc: Global, row: &mut Row<'_>) -> Result<NetKind> {
 }
 
 fn register(row: &mut Row<'_>) -> Result<NetKind> {
-    let frame = frame_of(row)?;
-    let slot = row.number()?;
-    let first = row.integer()?;
-    let from = row.number()?;
     Ok(NetKind::Reg {
-        frame,
-        slot,
-        first,
-        from,
+        frame: frame_of(row)?,
+        slot: row.number()?,
+        first: row.integer()?,
+        from: row.number()?,
     })
 }
 
 fn enabled(row: &mut Row<'_>, reset: bool) -> Result<NetKind> {
-    let frame = frame_of(row)?;
-    let enable = row.number()?;
-    let first = row.integer()?;
-    let from = row.number()?;
     Ok(NetKind::EnReg {
-        frame,
-        enable,
+        frame: frame_of(row)?,
+        enable: row.number()?,
         reset,
-        first,
-        from,
+        first: row.integer()?,
+        from: row.number()?,
     })
 }
 

@@ -5,7 +5,7 @@ ghost use Rattle.tests_hardware.specs.inner.Tried.{AreUsed, IsApartAt};
 
 use crate::nets::frame_of;
 use anyhow::{Error, Result};
-use fx_io::OutOfMemory;
+use fx_io::{OutOfMemory, Sizes};
 use fx_num::is_word;
 use hw_net::{Frame, NetKind, Netlist};
 use hw_share::{Operation, count_of, units};
@@ -149,39 +149,27 @@ fn operation_of(table: &mut Row<'_>) -> Result<Operation> {
     })
 }
 
-/// Puts in the multipliers of a text's operations. The numbers of their products and then the
-/// operands of the Unit nets stand in the place of other answers.
-pub fn put_units(
-    alloc: Global,
-    net: &mut Netlist,
-    row: &mut Row<'_>,
-    answers: &mut Vec<u32>,
-) -> Result<()> {
+/// Puts in the multipliers of a text's operations, and gives the numbers of their products and then
+/// the operands of the Unit nets.
+pub fn put_units(alloc: Global, net: &mut Netlist, row: &Row<'_>) -> Result<Sizes> {
     let operations = operations_of(alloc, row.text.as_slice())?;
-    put_products(alloc, net, operations.as_slice(), answers)?;
-    put_operands(net, answers)
+    let mut answers = put_products(alloc, net, operations.as_slice())?;
+    put_operands(net, &mut answers)?;
+    Ok(answers)
 }
 
-fn put_products(
-    alloc: Global,
-    net: &mut Netlist,
-    operations: &[Operation],
-    answers: &mut Vec<u32>,
-) -> Result<()> {
+fn put_products(alloc: Global, net: &mut Netlist, operations: &[Operation]) -> Result<Sizes> {
     if net.cycles() == 0 || net.cycles() > 1024 {
         return Err(Error::msg("no number of clocks"));
     }
     if !can_share(net, operations)? {
         return Err(Error::msg("the operations can't share"));
     }
-    let products = units(alloc, net, operations)?;
-    answers.clear();
-    answers.extend_from_slice(products.as_slice())?;
-    Ok(())
+    Ok(units(alloc, net, operations)?)
 }
 
 /// Puts the operands of the Unit nets behind other numbers, in order.
-fn put_operands(net: &Netlist, numbers: &mut Vec<u32>) -> Result<()> {
+fn put_operands(net: &Netlist, numbers: &mut Sizes) -> Result<()> {
     for one in net.nets() {
         if let NetKind::Unit { left, right } = &one.kind {
             numbers.push(*left)?;

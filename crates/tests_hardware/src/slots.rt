@@ -17,13 +17,10 @@ fn operations_of(alloc: Global, text: &[u8]) -> Result<Vec<Operation>> {
 }
 
 fn operation_of(table: &mut Row<'_>) -> Result<Operation> {
-    let kind = table.long()?;
-    let period = table.long()?;
-    let level = table.long()?;
     Ok(Operation {
-        kind,
-        period,
-        level,
+        kind: table.long()?,
+        period: table.long()?,
+        level: table.long()?,
     })
 }
 
@@ -53,15 +50,11 @@ struct Asked {
 }
 
 fn asked_of(row: &mut Row<'_>) -> Result<Asked> {
-    let multipliers = row.long()?;
-    let kinds = row.long()?;
-    let period = row.long()?;
-    let levels = row.long()?;
     Ok(Asked {
-        multipliers,
-        kinds,
-        period,
-        levels,
+        multipliers: row.long()?,
+        kinds: row.long()?,
+        period: row.long()?,
+        levels: row.long()?,
     })
 }
 

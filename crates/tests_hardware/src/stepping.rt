@@ -1,5 +1,7 @@
 //! What nets show, clock by clock.
-ghost use Rattle.std.specs.Prelude.{◌<◌};
+ghost use Rattle.std.specs.Prelude.{◌≡◌, ◌<◌, length};
+ghost use Rattle.hw_net.specs.Netlist.{IsNetlist};
+ghost use Rattle.hw_run.specs.State.{IsStateOf};
 
 use anyhow::{Error, Result};
 use hw_net::Netlist;
@@ -17,13 +19,10 @@ pub struct View {
 }
 
 pub fn view_of(row: &mut Row<'_>) -> Result<View> {
-    let clocks = row.number()?;
-    let first = row.number()?;
-    let step = row.number()?;
     Ok(View {
-        clocks,
-        first,
-        step,
+        clocks: row.number()?,
+        first: row.number()?,
+        step: row.number()?,
     })
 }
 
@@ -70,6 +69,26 @@ fn values_of(
     }
     let mut state = NetState::new(alloc, net)?;
     let mut values = Vec::new(alloc);
+    let put = put_values(net, inputs, number, clocks, &mut state, &mut values);
+    drop(state);
+    put?;
+    Ok(values)
+}
+
+/// Puts what a net shows in the first clocks behind one another.
+fn put_values(
+    net: &Netlist,
+    inputs: &[i128],
+    number: u32,
+    clocks: u32,
+    state: &mut NetState,
+    values: &mut Vec<i128>,
+) -> Result<()>
+    requires netlist { IsNetlist net.now }
+    requires there { number < length net.now.nets }
+    requires state { IsStateOf net.now state.old }
+    requires begun { state.old.clocks ≡ 0 }
+{
     let mut left = inputs;
     for _clock in 0..clocks {
         if left.len() < net.inputs().len() {
@@ -80,5 +99,5 @@ fn values_of(
         values.push(state.value(number))?;
         left = behind;
     }
-    Ok(values)
+    Ok(())
 }

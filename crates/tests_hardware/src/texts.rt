@@ -14,7 +14,11 @@ use vl_write::write;
 /// Prints the module of a text, or the line at which it is none.
 pub fn put_read<W: Write>(alloc: Global, text: &[u8], out: &mut W) -> Result<()> {
     match read(alloc, text) {
-        Ok(module) => put_module(alloc, &module, out),
+        Ok(module) => {
+            let put = put_module(alloc, &module, out);
+            drop(module);
+            put
+        }
         Err(fault) => put_line(fault, out),
     }
 }
@@ -33,7 +37,11 @@ pub fn put_written<R: Threads + Sync, W: Write>(
     out: &mut W,
 ) -> Result<()> {
     match read(alloc, text) {
-        Ok(module) => put_text(rt, alloc, &module, out),
+        Ok(module) => {
+            let put = put_text(rt, alloc, &module, out);
+            drop(module);
+            put
+        }
         Err(fault) => put_line(fault, out),
     }
 }
@@ -64,7 +72,10 @@ fn line_in(fault: VlSyntax) -> Result<u64> {
 /// That line, or 0.
 fn line_of(alloc: Global, text: &[u8]) -> Result<u64> {
     match read(alloc, text) {
-        Ok(_module) => Ok(0),
+        Ok(module) => {
+            drop(module);
+            Ok(0)
+        }
         Err(fault) => line_in(fault),
     }
 }

@@ -1,6 +1,6 @@
 use Rattle.std.proofs.Common.{◌≡◌}
 use Rattle.hw_run.specs.State.{IsStateOf}
-use Rattle.tests_hardware.proofs.stepping.values_of.Given as goal
+use Rattle.tests_hardware.proofs.stepping.put_values.Given as goal
 
 abbrev pub invariant-loop-clock : goal.invariant-loop-clock
 invariant-loop-clock l = record {
