@@ -1,5 +1,5 @@
 -- What the words of a command say, and what its causes say of the bytes of its first file.
-use Rattle.std.proofs.Common.{◌≡◌, ap, ◌∙◌, Bool, true, false, if◌then◌else◌, ℕ, List, [], ◌∷◌, length, map, None, Some, refl, sym, arith}
+use Rattle.std.proofs.Common.{◌≡◌, ◌⊎◌, ⊎_elim, inl, inr, ap, ◌∙◌, Bool, true, false, if◌then◌else◌, ℕ, List, [], ◌∷◌, length, map, Option, None, Some, refl, subst, sym, arith}
 use Rattle.dg_model.specs.declared.diagram.Diagram.{Diagram}
 use Rattle.dg_model.specs.declared.fault.RuleFault.{RuleFault}
 use Rattle.mdl_text.specs.declared.tree.Tree.{Tree}
@@ -7,7 +7,7 @@ use Rattle.mdl_text.specs.Stands.{Stands}
 use Rattle.fx_tables.specs.declared.table.TableCause.{TableCause}
 use Rattle.vl_ast.specs.declared.modules.Module.{Module}
 use Rattle.vl_ast.specs.Conditions.{BreaksNone, Fault, IsFirstFault}
-use Rattle.fx_top.specs.Command.{Command, PlanWord, Generate, Replay, Simulate, Explore, Check, Stream, asked_of, model_of, verilog_of, plan_of, first_of}
+use Rattle.fx_top.specs.Command.{Command, Generate, Replay, Simulate, Explore, Check, Stream, asked_of, model_of, verilog_of, first_of}
 use Rattle.fx_model.specs.Model.{IsModelOf, IsBrokenModel, IsAccepted}
 use Rattle.fx_top.specs.Outcome.{Yields, IsBadFor}
 use Rattle.fx_top.specs.Output.{IsBadTable}
@@ -28,39 +28,58 @@ none_asked bytes (one ∷ other ∷ []) two three = absurd (two refl)
 none_asked bytes (one ∷ other ∷ more ∷ []) two three = absurd (three refl)
 none_asked bytes (one ∷ other ∷ more ∷ most ∷ words) two three = refl
 
+-- the first file of a command is a model, or else a Verilog text
+abbrev ReadsModel : Command → Type 0
+ReadsModel command = (model_of command ≡ Some (first_of command)) × (verilog_of command ≡ None)
+
+abbrev ReadsVerilog : Command → Type 0
+ReadsVerilog command = (model_of command ≡ None) × (verilog_of command ≡ Some (first_of command))
+
+reads-first : (command : Command) → ReadsModel command ⊎ ReadsVerilog command
+reads-first (Generate model plan) = inl (refl, refl)
+reads-first (Replay verilog stimulus) = inr (refl, refl)
+reads-first (Simulate model stimulus) = inl (refl, refl)
+reads-first (Explore model range) = inl (refl, refl)
+reads-first (Check model plan) = inl (refl, refl)
+reads-first (Stream model plan) = inl (refl, refl)
+
+of-model : (command : Command) (file : List ℕ) → model_of command ≡ Some file → ReadsModel command
+of-model command file is = ⊎_elim (λ (read : ReadsModel command). read) (λ (read : ReadsVerilog command). let none = read.0 in absurd (cc (is, none))) (reads-first command)
+
 pub first-model : (command : Command) (file : List ℕ) → model_of command ≡ Some file → file ≡ first_of command
-first-model (Generate model plan) file is = sym (cc is)
-first-model (Replay verilog stimulus) file is = absurd (cc is)
-first-model (Simulate model stimulus) file is = sym (cc is)
-first-model (Explore model range) file is = sym (cc is)
-first-model (Check model plan) file is = sym (cc is)
-first-model (Stream model plan) file is = sym (cc is)
+first-model command file is = let own = (of-model command file is).0 in cc (is, own)
 
 pub first-verilog : (command : Command) (file : List ℕ) → verilog_of command ≡ Some file → file ≡ first_of command
-first-verilog (Generate model plan) file is = absurd (cc is)
-first-verilog (Replay verilog stimulus) file is = sym (cc is)
-first-verilog (Simulate model stimulus) file is = absurd (cc is)
-first-verilog (Explore model range) file is = absurd (cc is)
-first-verilog (Check model plan) file is = absurd (cc is)
-first-verilog (Stream model plan) file is = absurd (cc is)
+first-verilog command file is = ⊎_elim (λ (read : ReadsModel command). let none = read.1 in absurd (cc (is, none))) (λ (read : ReadsVerilog command). let own = read.1 in cc (is, own)) (reads-first command)
 
 -- a command that reads a model reads no Verilog text
+no-verilog : (command : Command) (model : List ℕ) → model_of command ≡ Some model → verilog_of command ≡ None
+no-verilog command model is = (of-model command model is).1
+
 pub model-alone : (command : Command) (model verilog : List ℕ) → model_of command ≡ Some model → verilog_of command ≡ Some verilog → ⊥
-model-alone (Generate own plan) model verilog is other = absurd (cc other)
-model-alone (Replay own stimulus) model verilog is other = absurd (cc is)
-model-alone (Simulate own stimulus) model verilog is other = absurd (cc other)
-model-alone (Explore own range) model verilog is other = absurd (cc other)
-model-alone (Check own plan) model verilog is other = absurd (cc other)
-model-alone (Stream own plan) model verilog is other = absurd (cc other)
+model-alone command model verilog is other = let none = no-verilog command model is in absurd (cc (none, other))
+
+-- what bytes are those of the first file, by the Verilog text that is read: of a sound module, or a model as this says
+abbrev pub Serves : (List ℕ → Type 0) → Option (List ℕ) → List ℕ → Type 0
+Serves OfModel None bytes = OfModel bytes
+Serves OfModel (Some verilog) bytes = (made : Module) × IsSoundText bytes made
+
+module _ (OfModel : List ℕ → Type 0) (command : Command) (bytes : List ℕ) where
+  serves-model : (model : List ℕ) → model_of command ≡ Some model → Serves OfModel (verilog_of command) bytes → OfModel bytes
+  serves-model model is = subst (λ (verilog : Option (List ℕ)). Serves OfModel verilog bytes → OfModel bytes) (sym (no-verilog command model is)) (λ served. served)
+
+  model-serves : (model : List ℕ) → model_of command ≡ Some model → OfModel bytes → Serves OfModel (verilog_of command) bytes
+  model-serves model is = subst (λ (verilog : Option (List ℕ)). OfModel bytes → Serves OfModel verilog bytes) (sym (no-verilog command model is)) (λ served. served)
+
+  pub serves-sound : (verilog : List ℕ) → verilog_of command ≡ Some verilog → Serves OfModel (verilog_of command) bytes → (made : Module) × IsSoundText bytes made
+  serves-sound verilog is = subst (λ (read : Option (List ℕ)). Serves OfModel read bytes → (made : Module) × IsSoundText bytes made) (sym is) (λ served. served)
+
+abbrev pub HasModel : List ℕ → Type 0
+HasModel bytes = (diagram : Diagram) × IsModelOf bytes diagram
 
 -- the bytes of the first file are such that the command has an output
 abbrev pub IsGood : Command → List ℕ → Type 0
-IsGood (Generate model plan) bytes = (diagram : Diagram) × IsModelOf bytes diagram
-IsGood (Replay verilog stimulus) bytes = (made : Module) × IsSoundText bytes made
-IsGood (Simulate model stimulus) bytes = (diagram : Diagram) × IsModelOf bytes diagram
-IsGood (Explore model range) bytes = (diagram : Diagram) × IsModelOf bytes diagram
-IsGood (Check model plan) bytes = (diagram : Diagram) × IsModelOf bytes diagram
-IsGood (Stream model plan) bytes = (diagram : Diagram) × IsModelOf bytes diagram
+IsGood command = Serves HasModel (verilog_of command)
 
 -- so are they where the stimulus or the plan has a bad line
 pub table-good : (command : Command) (first stimulus : List ℕ) (line : ℕ) (cause : TableCause) → IsBadTable command first stimulus line cause → IsGood command first
@@ -71,71 +90,35 @@ table-good (Explore model range) first stimulus line cause bad = absurd bad
 table-good (Check model plan) first stimulus line cause bad = (bad.diagram, bad.accepted)
 table-good (Stream model plan) first stimulus line cause bad = (bad.diagram, bad.accepted)
 
--- and where the plan breaks a rule
-pub plan-good : (command : Command) (plan : PlanWord) (bytes : List ℕ) (diagram : Diagram) → plan_of command ≡ Some plan → IsModelOf bytes diagram → IsGood command bytes
-plan-good (Generate model own) plan bytes diagram is accepted = (diagram, accepted)
-plan-good (Replay verilog stimulus) plan bytes diagram is accepted = absurd (cc is)
-plan-good (Simulate model stimulus) plan bytes diagram is accepted = absurd (cc is)
-plan-good (Explore model range) plan bytes diagram is accepted = absurd (cc is)
-plan-good (Check model own) plan bytes diagram is accepted = (diagram, accepted)
-plan-good (Stream model own) plan bytes diagram is accepted = (diagram, accepted)
-
-pub good-tree : (command : Command) (model bytes : List ℕ) → model_of command ≡ Some model → IsGood command bytes → (tree : Tree) × Stands bytes tree
-good-tree (Generate own plan) model bytes is good = (good.1.tree, good.1.stands)
-good-tree (Replay own stimulus) model bytes is good = absurd (cc is)
-good-tree (Simulate own stimulus) model bytes is good = (good.1.tree, good.1.stands)
-good-tree (Explore own range) model bytes is good = (good.1.tree, good.1.stands)
-good-tree (Check own plan) model bytes is good = (good.1.tree, good.1.stands)
-good-tree (Stream own plan) model bytes is good = (good.1.tree, good.1.stands)
+-- and where those of a model
+pub model-good : (command : Command) (model bytes : List ℕ) (diagram : Diagram) → model_of command ≡ Some model → IsModelOf bytes diagram → IsGood command bytes
+model-good command model bytes diagram is accepted = model-serves HasModel command bytes model is (diagram, accepted)
 
 pub good-diagram : (command : Command) (model bytes : List ℕ) → model_of command ≡ Some model → IsGood command bytes → (diagram : Diagram) × IsModelOf bytes diagram
-good-diagram (Generate own plan) model bytes is good = good
-good-diagram (Replay own stimulus) model bytes is good = absurd (cc is)
-good-diagram (Simulate own stimulus) model bytes is good = good
-good-diagram (Explore own range) model bytes is good = good
-good-diagram (Check own plan) model bytes is good = good
-good-diagram (Stream own plan) model bytes is good = good
+good-diagram command model bytes is good = serves-model HasModel command bytes model is good
+
+pub good-tree : (command : Command) (model bytes : List ℕ) → model_of command ≡ Some model → IsGood command bytes → (tree : Tree) × Stands bytes tree
+good-tree command model bytes is good = let own = good-diagram command model bytes is good in (own.1.tree, own.1.stands)
 
 pub good-sound : (command : Command) (verilog bytes : List ℕ) → verilog_of command ≡ Some verilog → IsGood command bytes → (made : Module) × IsSoundText bytes made
-good-sound (Generate own plan) verilog bytes is good = absurd (cc is)
-good-sound (Replay own stimulus) verilog bytes is good = good
-good-sound (Simulate own stimulus) verilog bytes is good = absurd (cc is)
-good-sound (Explore own range) verilog bytes is good = absurd (cc is)
-good-sound (Check own plan) verilog bytes is good = absurd (cc is)
-good-sound (Stream own plan) verilog bytes is good = absurd (cc is)
+good-sound command verilog bytes is good = serves-sound HasModel command bytes verilog is good
 
 -- they are such that it tells no fault of them
 abbrev pub IsFit : Command → List ℕ → Type 0
-IsFit (Generate model plan) bytes = IsAccepted bytes
-IsFit (Replay verilog stimulus) bytes = (made : Module) × IsSoundText bytes made
-IsFit (Simulate model stimulus) bytes = IsAccepted bytes
-IsFit (Explore model range) bytes = IsAccepted bytes
-IsFit (Check model plan) bytes = IsAccepted bytes
-IsFit (Stream model plan) bytes = IsAccepted bytes
+IsFit command = Serves IsAccepted (verilog_of command)
 
 pub fit-tree : (command : Command) (model bytes : List ℕ) → model_of command ≡ Some model → IsFit command bytes → (tree : Tree) × Stands bytes tree
-fit-tree (Generate own plan) model bytes is fit = (fit.tree, fit.stands)
-fit-tree (Replay own stimulus) model bytes is fit = absurd (cc is)
-fit-tree (Simulate own stimulus) model bytes is fit = (fit.tree, fit.stands)
-fit-tree (Explore own range) model bytes is fit = (fit.tree, fit.stands)
-fit-tree (Check own plan) model bytes is fit = (fit.tree, fit.stands)
-fit-tree (Stream own plan) model bytes is fit = (fit.tree, fit.stands)
+fit-tree command model bytes is fit = let accepted = serves-model IsAccepted command bytes model is fit in (accepted.tree, accepted.stands)
 
 pub fit-kept : (command : Command) (model bytes : List ℕ) (fault : RuleFault) (paths : List (List ℕ)) → model_of command ≡ Some model → IsFit command bytes → IsBrokenModel bytes fault paths → ⊥
-fit-kept (Generate own plan) model bytes fault paths is fit broken = fit.kept fault paths broken
-fit-kept (Replay own stimulus) model bytes fault paths is fit broken = absurd (cc is)
-fit-kept (Simulate own stimulus) model bytes fault paths is fit broken = fit.kept fault paths broken
-fit-kept (Explore own range) model bytes fault paths is fit broken = fit.kept fault paths broken
-fit-kept (Check own plan) model bytes fault paths is fit broken = fit.kept fault paths broken
-fit-kept (Stream own plan) model bytes fault paths is fit broken = fit.kept fault paths broken
+fit-kept command model bytes fault paths is fit broken = let accepted = serves-model IsAccepted command bytes model is fit in accepted.kept fault paths broken
 
 pub fit-sound : (command : Command) (verilog bytes : List ℕ) → verilog_of command ≡ Some verilog → IsFit command bytes → (made : Module) × IsSoundText bytes made
-fit-sound (Generate own plan) verilog bytes is fit = absurd (cc is)
-fit-sound (Replay own stimulus) verilog bytes is fit = fit
-fit-sound (Simulate own stimulus) verilog bytes is fit = absurd (cc is)
-fit-sound (Explore own range) verilog bytes is fit = absurd (cc is)
-fit-sound (Check own plan) verilog bytes is fit = absurd (cc is)
-fit-sound (Stream own plan) verilog bytes is fit = absurd (cc is)
+fit-sound command verilog bytes is fit = serves-sound IsAccepted command bytes verilog is fit
+
+-- a model that keeps the rules is fit
+pub accepted-fit : (command : Command) (model bytes : List ℕ) → model_of command ≡ Some model → IsAccepted bytes → IsFit command bytes
+accepted-fit command model bytes is accepted = model-serves IsAccepted command bytes model is accepted
 
 -- no module breaks a condition and breaks none
 pub sound-first : (m : Module) (condition : Fault) → BreaksNone m → IsFirstFault m condition → ⊥
@@ -154,15 +137,6 @@ bad-fit (Simulate model stimulus) bytes numbers bad = bad.accepted
 bad-fit (Explore model range) bytes numbers bad = absurd bad
 bad-fit (Check model plan) bytes numbers bad = bad.accepted
 bad-fit (Stream model plan) bytes numbers bad = bad.accepted
-
--- a model that keeps the rules is fit
-pub accepted-fit : (command : Command) (model bytes : List ℕ) → model_of command ≡ Some model → IsAccepted bytes → IsFit command bytes
-accepted-fit (Generate own plan) model bytes is accepted = accepted
-accepted-fit (Replay own stimulus) model bytes is accepted = absurd (cc is)
-accepted-fit (Simulate own stimulus) model bytes is accepted = accepted
-accepted-fit (Explore own range) model bytes is accepted = accepted
-accepted-fit (Check own plan) model bytes is accepted = accepted
-accepted-fit (Stream own plan) model bytes is accepted = accepted
 
 pub own-first : (own : ℕ) → Yields own (3 ∷ 9 ∷ []) own
 own-first own = (0, omega arith, refl)

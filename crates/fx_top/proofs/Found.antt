@@ -6,11 +6,9 @@ use Rattle.fx_designed.specs.Refused.{IsDesigned}
 use Rattle.fx_io.specs.declared.sink.PutFault.{PutFault}
 use Rattle.hw_rules.specs.Times.{timing_in}
 use Rattle.fx_top.specs.declared.check.Found.{Found}
-use Rattle.fx_top.specs.Call.{Files, stream_in}
-use Rattle.fx_top.specs.Cause.{IsFetched, WroteAll, WrotePart}
+use Rattle.fx_top.specs.Call.{stream_in}
 use Rattle.fx_top.specs.CheckedText.{IsCheckOf, TellsFound, TookCheck, TookPartOfCheck}
-use Rattle.fx_top.specs.Command.{Check, PlanWord}
-use Rattle.fx_top.specs.Output.{IsCheckOfFiles, IsPlanText}
+use Rattle.fx_top.specs.inner.Tasks.{IsPut}
 
 check-of : (model plan : List ℕ) (found : Found) (text : List ℕ) → IsDesigned model plan found.designed → TellsFound found text → IsCheckOf model plan text
 check-of model plan found text design tells = record {
@@ -34,15 +32,8 @@ module _ (found : Found) {K : Type 0} (taken : K → Option (List ℕ)) (faults 
   took-part (Ok done) wrote = tt
   took-part (Err fault) wrote = record { text = wrote.text; tells = wrote.is; part = wrote.ends.0; rise = wrote.ends.1 }
 
-  -- it is that of the files
-  module _ (files : Files) (model : List ℕ) (plan : PlanWord) (bytes text : List ℕ) (fetched : IsFetched files model bytes) (says : IsPlanText files.held plan text) (design : IsDesigned bytes text found.designed) where
-    output : (told : List ℕ) → TellsFound found told → IsCheckOfFiles files.held model plan told
-    output told tells = record { model_bytes = bytes; plan_bytes = text; model_fetched = fetched; plan_says = says; check = check-of bytes text found told design tells }
-
-    pub check-wrote : (put : Result ⊤ PutFault) → OnOk put (TookCheck found taken old new) → OnOk put (WroteAll files (stream_in taken faults old new) (Check model plan))
-    check-wrote (Ok whole) took = record { text = took.text; output = output took.text took.tells; taken = took.all }
-    check-wrote (Err fault) none = tt
-
-    pub check-wrote-part : (put : Result ⊤ PutFault) → OnErr put (TookPartOfCheck found taken faults old new) → OnErr put (WrotePart files (stream_in taken faults old new) (Check model plan))
-    check-wrote-part (Ok whole) none = tt
-    check-wrote-part (Err fault) took = record { rise = took.rise; text = took.text; output = output took.text took.tells; taken = took.part }
+  -- it is that of the bytes
+  pub check-put : (model plan : List ℕ) → IsDesigned model plan found.designed → (put : Result ⊤ PutFault) → OnOk put (TookCheck found taken old new) → OnErr put (TookPartOfCheck found taken faults old new)
+      → IsPut (IsCheckOf model plan) (stream_in taken faults old new) put
+  check-put model plan design (Ok whole) took part = (took.text, (check-of model plan found took.text design took.tells, took.all))
+  check-put model plan design (Err fault) took part = (part.text, (check-of model plan found part.text design part.tells, (part.part, part.rise)))

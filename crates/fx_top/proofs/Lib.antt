@@ -16,6 +16,7 @@ pub mod Sayings
 pub mod Simulations
 pub mod Steadied
 pub mod Streams
+pub mod Tasks
 pub mod Titled
 pub mod Told
 pub mod Unfetched

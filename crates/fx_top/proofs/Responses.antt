@@ -1,5 +1,5 @@
 -- What a replay before its first sample and the writer of its lines are.
-use Rattle.std.proofs.Common.{◌≡◌, ℕ, ℤ, Some, List, [], ◌∷◌, length, map, refl, sym, ap, subst, ◌∙◌}
+use Rattle.std.proofs.Common.{◌≡◌, ◌+◌, ℕ, ℤ, Some, List, [], ◌∷◌, length, map, refl, sym, ap, subst, ◌∙◌}
 use Rattle.std.proofs.lemmas.List.{length-map}
 use Rattle.fx_tables.specs.declared.row_text.RowText.{RowText}
 use Rattle.fx_tables.specs.declared.table.Column.{Column}
@@ -19,7 +19,7 @@ use Rattle.vl_replay.specs.Columns.{columns_of}
 use Rattle.vl_replay.specs.Replays.{StandsBefore, module_of, stimulus_of}
 use Rattle.vl_replay.specs.Sampled.{Sampled, numbers_of}
 use Rattle.fx_top.specs.Replayed.{IsBadStimulus, IsSoundText}
-use Rattle.fx_top.specs.inner.Responding.{IsResponseTo, IsTableOf}
+use Rattle.fx_top.specs.inner.Responding.{GoesOn, IsResponseTo, IsTableOf}
 
 periods-are : (ports : List Port) → map (λ (column : Column). column.period) (columns_of ports) ≡ map step_of ports
 periods-are [] = refl
@@ -51,14 +51,23 @@ responds verilog stimulus m rows inputs outputs count samples replay text table 
     }
 
 -- a replay of the same module under the same stimulus has the same table
-pub moved-table : (one other : Replay) (table : Sample → List ℤ) → module_of one ≡ module_of other → stimulus_of one ≡ stimulus_of other → IsTableOf other table → IsTableOf one table
+moved-table : (one other : Replay) (table : Sample → List ℤ) → module_of one ≡ module_of other → stimulus_of one ≡ stimulus_of other → IsTableOf other table → IsTableOf one table
 moved-table one other table made of is =
     subst (λ (m : Module). Sampled m (numbers_of (stimulus_of one)) (stimulus_of one).lines table) (sym made)
     (subst (λ (rows : Table). Sampled (module_of other) (numbers_of rows) rows.lines table) (sym of) is)
 
 -- a line of these periods and numbers is that of the table's row
-pub line-of : {ps qs : List ℕ} {sample : ℕ} {row : List ℤ} {bytes : List ℕ} (table : ℕ → List ℤ) → bytes ≡ response_line ps sample row → ps ≡ qs → row ≡ table sample → bytes ≡ response_line qs sample (table sample)
+line-of : {ps qs : List ℕ} {sample : ℕ} {row : List ℤ} {bytes : List ℕ} (table : ℕ → List ℤ) → bytes ≡ response_line ps sample row → ps ≡ qs → row ≡ table sample → bytes ≡ response_line qs sample (table sample)
 line-of {ps} {qs} {sample} {row} table line periods is = line ∙ ap (λ (p : List ℕ). response_line p sample row) periods ∙ ap (response_line qs sample) is
+
+-- the sample after, by what a step and a line say
+module _ {first replay : Replay} {writer text : RowText} {sample : ℕ} (goes : GoesOn first writer sample replay text) (next : Replay) (source : module_of next ≡ module_of replay) (stimulus : stimulus_of next ≡ stimulus_of replay) where
+  pub goes-on : (behind : RowText) → StandsBefore next (sample + 1) → periods_of behind ≡ periods_of text → GoesOn first writer (sample + 1) next behind
+  goes-on behind stands periods = record { stands = stands; source = source ∙ goes.source; stimulus = stimulus ∙ goes.stimulus; periods = periods ∙ goes.periods }
+
+  pub line-on : (row : List ℤ) (line : List ℕ) → ((table : Sample → List ℤ) → IsTableOf next table → row ≡ table sample) → line ≡ response_line (periods_of text) sample row
+      → (table : Sample → List ℤ) → IsTableOf first table → line ≡ response_line (periods_of writer) sample (table sample)
+  line-on row line shown says table is = line-of table says goes.periods (shown table (moved-table next first table (source ∙ goes.source) (stimulus ∙ goes.stimulus) is))
 
 -- the rows of a stimulus have this fault by the columns of a module's ports
 pub bad-stimulus : (verilog stimulus : List ℕ) (m : Module) (inputs outputs : List Column) (line : ℕ) (cause : TableCause) → IsSoundText verilog m

@@ -22,8 +22,8 @@ use Rattle.fx_top.specs.Output.{IsOutput}
 use Rattle.fx_top.specs.Replayed.{HasFault, IsNoVerilog, IsSoundText, fault_for}
 use Rattle.fx_top.specs.Simulated.{fault_in}
 use Rattle.fx_top.specs.Streamed.{IsWithoutStream}
-use Rattle.fx_top.proofs.Commands.{IsFit, IsGood, accepted-fit, bad-fit, first-model, first-verilog, fit-kept, fit-sound, fit-tree, good-diagram, good-sound, good-tree, model-alone, own-first, plan-good, sound-first, table-good}
-use Rattle.fx_top.proofs.Told.{check-design, checks, design-good, design-planned, design-told, fetched-told, generates, lines-kept, no-trouble, none-broken, rules-kept, stream-design, streams, told-is, verilog-design}
+use Rattle.fx_top.proofs.Commands.{IsFit, IsGood, accepted-fit, bad-fit, first-model, first-verilog, fit-kept, fit-sound, fit-tree, good-diagram, good-sound, good-tree, model-alone, model-good, own-first, sound-first, table-good}
+use Rattle.fx_top.proofs.Told.{HasDesign, check-design, design-good, design-planned, design-told, fetched-told, lines-kept, no-trouble, none-broken, reads-plan, rules-kept, stream-design, told-is, verilog-design}
 use Rattle.fx_top.proofs.Unsteady.{designable, ports-good, ports-kept, ports-model, ports-planned, unstreamed}
 
 module _ (files : Files) (out : Stream) (unique : (bytes : List ℕ) (one other : Tree) → Stands bytes one → Stands bytes other → one ≡ other)
@@ -74,7 +74,7 @@ module _ (files : Files) (out : Stream) (unique : (bytes : List ℕ) (one other 
       subst (λ (b : List ℕ). TellsPlanRule b why.text line) (sym (fetched-told files (first_of command) why.file bytes why.bytes (sym first) why.fetched tells)) why.told
 
   plan_rule-good : (command : Command) (bytes line : List ℕ) → Tells files (first_of command) bytes → HasBrokenPlan files command line → IsGood command bytes
-  plan_rule-good command bytes line tells why = let told = told-plan_rule command bytes line tells why in plan-good command why.plan bytes told.diagram why.is_plan told.accepted
+  plan_rule-good command bytes line tells why = let told = told-plan_rule command bytes line tells why in model-good command why.file bytes told.diagram why.is_model told.accepted
 
   told-no_verilog : (command : Command) (bytes file : List ℕ) (line : ℕ) → Tells files (first_of command) bytes → HasNoVerilog files command file line → IsNoVerilog bytes
   told-no_verilog command bytes file line tells why =
@@ -133,47 +133,34 @@ module _ (files : Files) (out : Stream) (unique : (bytes : List ℕ) (one other 
   -- ---- a plan
 
   -- what is written of a plan is of a design
+  output-design : (command : Command) (own : List ℕ) (plan : PlanWord) → IsOutput command files.held own → plan_of command ≡ Some plan → HasDesign files.held (first_of command) plan
+  output-design (Generate model word) own plan output is = let same : word ≡ plan = cc is in subst (λ (w : PlanWord). HasDesign files.held model w) same (verilog-design output)
+  output-design (Replay verilog rows) own plan output is = absurd (cc is)
+  output-design (Simulate model rows) own plan output is = absurd (cc is)
+  output-design (Explore model range) own plan output is = absurd (cc is)
+  output-design (Check model word) own plan output is = let same : word ≡ plan = cc is in subst (λ (w : PlanWord). HasDesign files.held model w) same (check-design output)
+  output-design (StreamOf model word) own plan output is = let same : word ≡ plan = cc is in subst (λ (w : PlanWord). HasDesign files.held model w) same (stream-design output)
+
   undesigned : (command : Command) (own bytes text : List ℕ) (plan : PlanWord) → IsOutput command files.held own → plan_of command ≡ Some plan → Tells files (first_of command) bytes → TellsPlan files plan text → IsWithoutDesign bytes text → ⊥
-  undesigned (Generate model word) own bytes text plan output is tells told refused =
-      design-told files model word (verilog-design output) bytes tells text (subst (λ (w : PlanWord). TellsPlan files w text) (sym (cc is)) told) refused
-  undesigned (Replay verilog rows) own bytes text plan output is tells told refused = absurd (cc is)
-  undesigned (Simulate model rows) own bytes text plan output is tells told refused = absurd (cc is)
-  undesigned (Explore model range) own bytes text plan output is tells told refused = absurd (cc is)
-  undesigned (Check model word) own bytes text plan output is tells told refused =
-      design-told files model word (check-design output) bytes tells text (subst (λ (w : PlanWord). TellsPlan files w text) (sym (cc is)) told) refused
-  undesigned (StreamOf model word) own bytes text plan output is tells told refused =
-      design-told files model word (stream-design output) bytes tells text (subst (λ (w : PlanWord). TellsPlan files w text) (sym (cc is)) told) refused
+  undesigned command own bytes text plan output is tells told refused = design-told files (first_of command) plan (output-design command own plan output is) bytes tells text told refused
 
   -- where no line of it is bad, none is told
   plan-lines : (command : Command) (plan : PlanWord) (bytes text : List ℕ) → plan_of command ≡ Some plan → Tells files (first_of command) bytes → TellsPlan files plan text
       → ((line : ℕ) (cause : TableCause) → IsBadPlan bytes text line cause → ⊥) → (file : List ℕ) (line : ℕ) (cause : TableCause) → HasBadLine files command file line cause → ⊥
-  plan-lines (Generate model word) plan bytes text is tells told good =
-      lines-kept files (Generate model word) model word (generates model word) bytes text tells (subst (λ (w : PlanWord). TellsPlan files w text) (sym (cc is)) told) good
-  plan-lines (Replay verilog rows) plan bytes text is tells told good = absurd (cc is)
-  plan-lines (Simulate model rows) plan bytes text is tells told good = absurd (cc is)
-  plan-lines (Explore model range) plan bytes text is tells told good = absurd (cc is)
-  plan-lines (Check model word) plan bytes text is tells told good =
-      lines-kept files (Check model word) model word (checks model word) bytes text tells (subst (λ (w : PlanWord). TellsPlan files w text) (sym (cc is)) told) good
-  plan-lines (StreamOf model word) plan bytes text is tells told good =
-      lines-kept files (StreamOf model word) model word (streams model word) bytes text tells (subst (λ (w : PlanWord). TellsPlan files w text) (sym (cc is)) told) good
+  plan-lines command plan bytes text is tells told good = lines-kept files command plan (reads-plan command plan is) bytes text tells told good
 
   -- a text that is no plan breaks no rule
   plan-none : (command : Command) (file bytes numbers : List ℕ) → table_of command ≡ Some file → Tells files file numbers → IsBadFor command bytes numbers → (line : List ℕ) → HasBrokenPlan files command line → ⊥
-  plan-none (Generate model word) file bytes numbers is told bad = none-broken files (Generate model word) model word (generates model word) file bytes numbers is told bad
-  plan-none (Replay verilog rows) file bytes numbers is told bad = λ line why. (let e = why.is_plan in absurd (cc e))
-  plan-none (Simulate model rows) file bytes numbers is told bad = λ line why. (let e = why.is_plan in absurd (cc e))
-  plan-none (Explore model range) file bytes numbers is told bad = λ line why. (let e = why.is_plan in absurd (cc e))
-  plan-none (Check model word) file bytes numbers is told bad = none-broken files (Check model word) model word (checks model word) file bytes numbers is told bad
-  plan-none (StreamOf model word) file bytes numbers is told bad = none-broken files (StreamOf model word) model word (streams model word) file bytes numbers is told bad
+  plan-none command file bytes numbers is told bad line why = none-broken files command why.plan (reads-plan command why.plan why.is_plan) file bytes numbers is told bad line why
 
   -- where a command can be done its plan breaks none
   plan-kept : (command : Command) → CanBeDone files command → (line : List ℕ) → HasBrokenPlan files command line → ⊥
-  plan-kept (Generate model word) can = rules-kept files (Generate model word) model word (generates model word) can
+  plan-kept (Generate model word) can = rules-kept files (Generate model word) word (reads-plan (Generate model word) word refl) can
   plan-kept (Replay verilog rows) can = λ line why. (let e = why.is_plan in absurd (cc e))
   plan-kept (Simulate model rows) can = λ line why. (let e = why.is_plan in absurd (cc e))
   plan-kept (Explore model range) can = λ line why. (let e = why.is_plan in absurd (cc e))
-  plan-kept (Check model word) can = rules-kept files (Check model word) model word (checks model word) can
-  plan-kept (StreamOf model word) can = rules-kept files (StreamOf model word) model word (streams model word) (designable can)
+  plan-kept (Check model word) can = rules-kept files (Check model word) word (reads-plan (Check model word) word refl) can
+  plan-kept (StreamOf model word) can = rules-kept files (StreamOf model word) word (reads-plan (StreamOf model word) word refl) (designable can)
 
   -- ---- a clause on the status, answer by answer
 
@@ -337,7 +324,7 @@ module _ (files : Files) (out : Stream) (unique : (bytes : List ℕ) (one other 
   -- the stimulus is good
   stimulus-good : (command : Command) → CanBeDone files command → (file : List ℕ) (line : ℕ) (cause : TableCause) → HasBadLine files command file line cause → ⊥
   stimulus-good (Generate model plan) can file line cause why =
-      lines-kept files (Generate model plan) model plan (generates model plan) can.model_bytes can.plan_bytes can.model_told can.plan_told can.can.good file line cause why
+      lines-kept files (Generate model plan) plan (reads-plan (Generate model plan) plan refl) can.model_bytes can.plan_bytes can.model_told can.plan_told can.can.good file line cause why
   stimulus-good (Replay verilog stimulus) can file line cause why =
       let same : stimulus ≡ file = cc why.is_table in
       let first = told-is files verilog can.verilog_bytes why.first why.first_fetched can.verilog_told in
@@ -356,9 +343,9 @@ module _ (files : Files) (out : Stream) (unique : (bytes : List ℕ) (one other 
       absurd (cc (e, f))
   stimulus-good (Explore model range) can file line cause why = why.bad
   stimulus-good (Check model plan) can file line cause why =
-      lines-kept files (Check model plan) model plan (checks model plan) can.model_bytes can.plan_bytes can.model_told can.plan_told can.can.good file line cause why
+      lines-kept files (Check model plan) plan (reads-plan (Check model plan) plan refl) can.model_bytes can.plan_bytes can.model_told can.plan_told can.can.good file line cause why
   stimulus-good (StreamOf model plan) can file line cause why =
-      lines-kept files (StreamOf model plan) model plan (streams model plan) can.model_bytes can.plan_bytes can.model_told can.plan_told can.can.designed.good file line cause why
+      lines-kept files (StreamOf model plan) plan (reads-plan (StreamOf model plan) plan refl) can.model_bytes can.plan_bytes can.model_told can.plan_told can.can.designed.good file line cause why
 
   is-complete : (command : Command) (answer : Answer) → HasCause files command answer → HasWritten files out command answer → IsComplete files out command (status_of answer)
   is-complete command Done why wrote can gives writes = (0, omega arith, refl)

@@ -14,9 +14,10 @@ use Rattle.fx_sample.specs.ModelText.{sample_model}
 use Rattle.fx_sample.specs.Stimulus.{sample_plan, sample_stimulus}
 use Rattle.fx_tables.specs.declared.table.TableCause.{TableCause}
 use Rattle.fx_tables.specs.declared.table.TableFault.TheVariants.{Bad}
-use Rattle.fx_top.specs.declared.simulated.SimulationFault.{SimulationFault}
-use Rattle.fx_top.specs.declared.simulated.SimulationFault.TheVariants as simulated
-use Rattle.fx_top.specs.inner.Simulating.{IsFaultOf, Refuses}
+use Rattle.fx_top.specs.declared.fault.Fault.{Fault}
+use Rattle.fx_top.specs.declared.fault.Fault.TheVariants as simulated
+use Rattle.fx_top.specs.inner.Refusing.{IsSimulationFault}
+use Rattle.fx_top.specs.inner.Simulating.{Refuses}
 use Rattle.mdl_text.specs.Prefix.{IsMdl}
 use Rattle.fx_top.specs.Answer.{status_of}
 use Rattle.fx_top.specs.Benched.{IsTold}
@@ -94,9 +95,9 @@ module _ (files : Files) (out : Stream) where
 
 -- ---- what a model and a plan of a sample can't be refused for
 
-pub no-syntax : (number line : ℕ) (fault : SimulationFault) → IsMdl (sample_model number) → fault ≡ simulated.NotMdl line → IsFaultOf (sample_model number) (sample_stimulus number) fault → ⊥
+pub no-syntax : (number line : ℕ) (fault : Fault) → IsMdl (sample_model number) → fault ≡ simulated.NotMdl line → IsSimulationFault (sample_model number) (sample_stimulus number) fault → ⊥
 no-syntax number line fault there is why =
-    let told : IsNotMdl (sample_model number) line = subst (λ (one : SimulationFault). IsFaultOf (sample_model number) (sample_stimulus number) one) is why in
+    let told : IsNotMdl (sample_model number) line = subst (λ (one : Fault). IsSimulationFault (sample_model number) (sample_stimulus number) one) is why in
     told.no_tree there.0 there.1
 
 pub no-design-syntax : (number line : ℕ) (fault : DesignFault) → IsMdl (sample_model number) → fault ≡ design.NotMdl line → IsRefusedDesign (sample_model number) sample_plan fault → ⊥
@@ -111,11 +112,11 @@ no-bad-plan number line cause fault good is why =
 
 -- ---- a simulation of a sample's own stimulus
 
-pub refuses-sample : (diagram : Diagram) (source stimulus own : List ℕ) (fault : SimulationFault) → IsModelOf source diagram → own ≡ stimulus → Refuses diagram own fault → IsFaultOf source stimulus fault
+pub refuses-sample : (diagram : Diagram) (source stimulus own : List ℕ) (fault : Fault) → IsModelOf source diagram → own ≡ stimulus → Refuses diagram own fault → IsSimulationFault source stimulus fault
 unfolding Refuses
-refuses-sample diagram source stimulus own fault accepted same is = subst (λ (text : List ℕ). IsFaultOf source text fault) same (is source accepted)
+refuses-sample diagram source stimulus own fault accepted same is = subst (λ (text : List ℕ). IsSimulationFault source text fault) same (is source accepted)
 
-pub no-stimulus : (number line : ℕ) (cause : TableCause) (fault : SimulationFault) → fault ≡ simulated.BadTable line cause → IsFaultOf (sample_model number) (sample_stimulus number) fault → CanBeSimulated (sample_model number) (sample_stimulus number) → ⊥
+pub no-stimulus : (number line : ℕ) (cause : TableCause) (fault : Fault) → fault ≡ simulated.BadTable line cause → IsSimulationFault (sample_model number) (sample_stimulus number) fault → CanBeSimulated (sample_model number) (sample_stimulus number) → ⊥
 no-stimulus number line cause fault is why can =
-    let bad : IsBadSimulation (sample_model number) (sample_stimulus number) line cause = subst (IsFaultOf (sample_model number) (sample_stimulus number)) is why in
+    let bad : IsBadSimulation (sample_model number) (sample_stimulus number) line cause = subst (IsSimulationFault (sample_model number) (sample_stimulus number)) is why in
     absurd (cc (can.good bad.diagram bad.accepted, bad.bad))

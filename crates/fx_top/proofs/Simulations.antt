@@ -21,14 +21,13 @@ use Rattle.fx_tables.specs.Stimulus.{FitsColumns, IsRows, stimulus_fault}
 use Rattle.fx_tables.specs.declared.table.TableFault.TheVariants.{Bad}
 use Rattle.fx_top.specs.declared.simulated.ModelSimulation.{ModelSimulation}
 use Rattle.fx_top.specs.declared.simulated.Simulation.{Simulation}
-use Rattle.fx_top.specs.declared.simulated.SimulationFault.{SimulationFault}
-use Rattle.fx_top.specs.declared.simulated.SimulationFault.TheVariants.{NotMdl, BreaksRule, BadTable, OutOfMemory}
-use Rattle.fx_top.specs.Call.{Files, Stream}
-use Rattle.fx_top.specs.Cause.{IsFetched, WroteAll, WrotePart}
-use Rattle.fx_top.specs.Command.{Simulate}
-use Rattle.fx_top.specs.Output.{IsOutput}
+use Rattle.fx_top.specs.declared.fault.Fault.{Fault}
+use Rattle.fx_top.specs.declared.fault.Fault.TheVariants.{NotMdl, BreaksRule, NotVerilog, Broken, BadTable, OutOfMemory}
+use Rattle.fx_top.specs.Call.{Stream}
 use Rattle.fx_top.specs.Simulated.{IsBadSimulation, IsSimulationOf, output_periods}
-use Rattle.fx_top.specs.inner.Simulating.{AreLines, HasColumns, IsFaultOf, IsReadyFor, IsRowsFault, IsSimulationIn, IsSimulationTo, Refuses, TookLines, TookPartOfLines}
+use Rattle.fx_top.specs.inner.Refusing.{IsModelFault, IsSimulationFault}
+use Rattle.fx_top.specs.inner.Simulating.{AreLines, HasColumns, IsReadyFor, IsRowsFault, IsSimulationIn, IsSimulationTo, Refuses, TookLines, TookPartOfLines}
+use Rattle.fx_top.specs.inner.Tasks.{IsPut}
 use Rattle.fx_top.proofs.Lines.{took-part}
 use Rattle.fx_io.proofs.Taken.{also_took-append}
 
@@ -69,30 +68,18 @@ is-simulation checked model stimulus ready accepted is text same = record {
   text_is = same ∙ ap (λ (p : List ℕ). response p is.response.lines ready.rows.lines) is.periods;
 }
 
--- the lines that were taken are those of the simulation of what was fetched
-module _ (files : Files) (out : Stream) (model stimulus source numbers : List ℕ) (ready : ModelSimulation)
-    (fetched : IsFetched files model source) (given : IsFetched files stimulus numbers) (is : IsSimulationTo source numbers ready) where
+-- the lines that were taken are such a text
+module _ (model stimulus : List ℕ) (ready : ModelSimulation) (out : Stream) (is : IsSimulationTo model stimulus ready) where
   abbrev text : List ℕ
   text = response (periods_of ready.simulation.text) is.simulation.response.lines ready.simulation.rows.lines
 
-  output : IsOutput (Simulate model stimulus) files.held text
-  output = record {
-    model_bytes = source;
-    stimulus_bytes = numbers;
-    model_fetched = fetched;
-    stimulus_fetched = given;
-    simulation = is-simulation ready.checked source numbers ready.simulation is.accepted is.simulation text refl;
-  }
+  of-text : IsSimulationOf model stimulus text
+  of-text = is-simulation ready.checked model stimulus ready.simulation is.accepted is.simulation text refl
 
-  pub wrote-lines : (put : Result ⊤ PutFault) → OnOk put (TookLines ready.checked ready.simulation.rows (periods_of ready.simulation.text) ready.simulation.rows.lines out.before out.now)
-      → OnOk put (WroteAll files out (Simulate model stimulus))
-  wrote-lines (Ok whole) took = record { text = text; output = output; taken = took.each is.simulation.response.lines is.simulation.response.shown }
-  wrote-lines (Err fault) none = tt
-
-  pub wrote-part : (put : Result ⊤ PutFault) → OnErr put out.failed → OnErr put (TookPartOfLines ready.checked ready.simulation.rows (periods_of ready.simulation.text) out.before out.now)
-      → OnErr put (WrotePart files out (Simulate model stimulus))
-  wrote-part (Ok whole) rise none = tt
-  wrote-part (Err fault) rise took = record { rise = rise; text = text; output = output; taken = took.each is.simulation.response.lines is.simulation.response.shown }
+  pub simulation-put : (put : Result ⊤ PutFault) → OnOk put (TookLines ready.checked ready.simulation.rows (periods_of ready.simulation.text) ready.simulation.rows.lines out.before out.now)
+      → OnErr put (TookPartOfLines ready.checked ready.simulation.rows (periods_of ready.simulation.text) out.before out.now) → OnErr put out.failed → IsPut (IsSimulationOf model stimulus) out put
+  simulation-put (Ok whole) took part rise = (text, (of-text, took.each is.simulation.response.lines is.simulation.response.shown))
+  simulation-put (Err fault) took part rise = (text, (of-text, (part.each is.simulation.response.lines is.simulation.response.shown, rise)))
 
 -- ---- lines
 
@@ -145,9 +132,18 @@ unfolding Refuses
 no-memory diagram stimulus = λ source accepted. tt
 
 -- of one model
-pub refused-of : (diagram : Diagram) (source stimulus : List ℕ) → IsModelOf source diagram → (fault : SimulationFault) → Refuses diagram stimulus fault → IsFaultOf source stimulus fault
+pub refused-of : (diagram : Diagram) (source stimulus : List ℕ) → IsModelOf source diagram → (fault : Fault) → Refuses diagram stimulus fault → IsSimulationFault source stimulus fault
 unfolding Refuses
 refused-of diagram source stimulus accepted fault is = is source accepted
+
+-- a fault of the model
+pub of-refused : (source stimulus : List ℕ) (fault : Fault) → IsModelFault source fault → IsSimulationFault source stimulus fault
+of-refused source stimulus (NotMdl line) why = why
+of-refused source stimulus (BreaksRule line) why = why
+of-refused source stimulus (NotVerilog line) why = why
+of-refused source stimulus (Broken condition) why = why
+of-refused source stimulus (BadTable line cause) why = absurd why
+of-refused source stimulus OutOfMemory why = tt
 
 -- a bad line by the columns of the model's diagram
 bad-by : (source stimulus : List ℕ) (diagram : Diagram) (columns : RootColumns) (line : ℕ) (cause : TableCause) → IsModelOf source diagram → HasColumns diagram columns
@@ -161,12 +157,14 @@ bad-by source stimulus diagram columns line cause accepted has fault = record {
 
 -- a fault of the stimulus, by the columns of the model's diagram
 of-rows : (source stimulus : List ℕ) (diagram : Diagram) (columns : RootColumns) → IsModelOf source diagram → HasColumns diagram columns
-    → (fault : SimulationFault) → IsRowsFault columns stimulus fault → IsFaultOf source stimulus fault
+    → (fault : Fault) → IsRowsFault columns stimulus fault → IsSimulationFault source stimulus fault
 of-rows source stimulus diagram columns accepted has (NotMdl line) why = absurd why
 of-rows source stimulus diagram columns accepted has (BreaksRule line) why = absurd why
+of-rows source stimulus diagram columns accepted has (NotVerilog line) why = absurd why
+of-rows source stimulus diagram columns accepted has (Broken condition) why = absurd why
 of-rows source stimulus diagram columns accepted has (BadTable line cause) why = bad-by source stimulus diagram columns line cause accepted has why
 of-rows source stimulus diagram columns accepted has OutOfMemory why = tt
 
-pub refused-rows : (stimulus : List ℕ) (diagram : Diagram) (columns : RootColumns) → HasColumns diagram columns → (fault : SimulationFault) → IsRowsFault columns stimulus fault → Refuses diagram stimulus fault
+pub refused-rows : (stimulus : List ℕ) (diagram : Diagram) (columns : RootColumns) → HasColumns diagram columns → (fault : Fault) → IsRowsFault columns stimulus fault → Refuses diagram stimulus fault
 unfolding Refuses
 refused-rows stimulus diagram columns has fault why = λ source accepted. of-rows source stimulus diagram columns accepted has fault why

@@ -1,5 +1,5 @@
 -- What the shelf tells of files that were fetched, and of a model and a plan.
-use Rattle.std.proofs.Common.{◌≡◌, ◌≤◌, ◌<◌, ℕ, List, [], ◌∷◌, length, nat_lt, false, All, Option, None, Some, refl, sym, ◌∙◌, subst, arith}
+use Rattle.std.proofs.Common.{◌≡◌, ◌≤◌, ◌<◌, ℕ, List, [], ◌∷◌, length, nat_lt, false, All, Option, None, Some, refl, ap, sym, ◌∙◌, subst, arith}
 use Rattle.std.proofs.lemmas.Bool.{false_from_ne_true, ltb-true}
 use Rattle.std.proofs.lemmas.List.Elements.{All-head, All-tail}
 use Rattle.dg_model.specs.declared.diagram.Diagram.{Diagram}
@@ -12,9 +12,9 @@ use Rattle.fx_designed.specs.Design.{IsBadPlan, IsDesignOf, TellsPlanRule}
 use Rattle.fx_model.specs.Model.{IsModelOf}
 use Rattle.fx_top.specs.Call.{Files, Trouble, trouble_or, first_trouble, file_limit}
 use Rattle.fx_top.specs.Cause.{IsFetched, HasBadLine, HasBrokenPlan}
-use Rattle.fx_top.specs.Command.{Command, PlanWord, EmptyPlan, Named, Generate, Check, Stream, model_of, plan_of, plan_file, plan_files, table_of, first_of, files_of}
+use Rattle.fx_top.specs.Command.{Command, PlanWord, EmptyPlan, Named, Generate, Replay, Simulate, Explore, Check, Stream, model_of, plan_of, plan_file, table_of, first_of}
 use Rattle.fx_top.specs.Generated.{HasNoPlan, IsWithoutDesign}
-use Rattle.fx_top.specs.Outcome.{CanDesign, Tells, TellsPlan}
+use Rattle.fx_top.specs.Outcome.{CanDesign, IsBadFor, Tells, TellsPlan}
 use Rattle.fx_top.specs.Output.{IsBadTable, IsCheckOfFiles, IsPlanText, IsStreamOfFiles, IsVerilogOfFiles}
 
 -- a file that was fetched is in no trouble
@@ -37,37 +37,29 @@ no-trouble held (file ∷ names) all =
 
 -- ---- commands of a model and a plan
 
--- the command reads this model and this plan, and what is bad of its table is bad of the plan
-pub record ReadsPlan (command : Command) (model : List ℕ) (plan : PlanWord) : Type 0 where
-  pub is_model : model_of command ≡ Some model
+-- the command reads a model and this plan, and what is bad of its table is bad of the plan
+pub record ReadsPlan (command : Command) (plan : PlanWord) : Type 0 where
+  pub is_model : model_of command ≡ Some (first_of command)
   pub is_plan : plan_of command ≡ Some plan
   pub is_table : table_of command ≡ plan_file plan
-  pub is_first : first_of command ≡ model
-  pub are_files : files_of command ≡ model ∷ plan_files plan
   pub bad : (first table : List ℕ) (line : ℕ) (cause : TableCause) → IsBadPlan first table line cause → IsBadTable command first table line cause
   pub only : (first table : List ℕ) (line : ℕ) (cause : TableCause) → IsBadTable command first table line cause → IsBadPlan first table line cause
+  pub none : (first table : List ℕ) → IsBadFor command first table → HasNoPlan first table
 
-reading : (command : Command) (model : List ℕ) (plan : PlanWord) → model_of command ≡ Some model → plan_of command ≡ Some plan → table_of command ≡ plan_file plan → first_of command ≡ model → files_of command ≡ model ∷ plan_files plan
-    → ((first table : List ℕ) (line : ℕ) (cause : TableCause) → IsBadPlan first table line cause → IsBadTable command first table line cause)
-    → ((first table : List ℕ) (line : ℕ) (cause : TableCause) → IsBadTable command first table line cause → IsBadPlan first table line cause) → ReadsPlan command model plan
-reading command model plan is_model is_plan is_table is_first are_files bad only = record {
-  is_model = is_model;
-  is_plan = is_plan;
-  is_table = is_table;
-  is_first = is_first;
-  are_files = are_files;
-  bad = bad;
-  only = only;
-}
-
-pub generates : (model : List ℕ) (plan : PlanWord) → ReadsPlan (Generate model plan) model plan
-generates model plan = reading (Generate model plan) model plan refl refl refl refl refl (λ first table line cause bad. bad) (λ first table line cause bad. bad)
-
-pub checks : (model : List ℕ) (plan : PlanWord) → ReadsPlan (Check model plan) model plan
-checks model plan = reading (Check model plan) model plan refl refl refl refl refl (λ first table line cause bad. bad) (λ first table line cause bad. bad)
-
-pub streams : (model : List ℕ) (plan : PlanWord) → ReadsPlan (Stream model plan) model plan
-streams model plan = reading (Stream model plan) model plan refl refl refl refl refl (λ first table line cause bad. bad) (λ first table line cause bad. bad)
+-- a command over a plan does so
+pub reads-plan : (command : Command) (plan : PlanWord) → plan_of command ≡ Some plan → ReadsPlan command plan
+reads-plan (Generate model own) plan is =
+    let same : own ≡ plan = cc is in
+    record { is_model = refl; is_plan = is; is_table = ap plan_file same; bad = λ first table line cause bad. bad; only = λ first table line cause bad. bad; none = λ first table bad. bad }
+reads-plan (Replay verilog stimulus) plan is = absurd (cc is)
+reads-plan (Simulate model stimulus) plan is = absurd (cc is)
+reads-plan (Explore model range) plan is = absurd (cc is)
+reads-plan (Check model own) plan is =
+    let same : own ≡ plan = cc is in
+    record { is_model = refl; is_plan = is; is_table = ap plan_file same; bad = λ first table line cause bad. bad; only = λ first table line cause bad. bad; none = λ first table bad. bad }
+reads-plan (Stream model own) plan is =
+    let same : own ≡ plan = cc is in
+    record { is_model = refl; is_plan = is; is_table = ap plan_file same; bad = λ first table line cause bad. bad; only = λ first table line cause bad. bad; none = λ first table bad. bad }
 
 -- what was fetched of a model and a plan makes a design
 pub record HasDesign (held : List ℕ → Told) (model : List ℕ) (plan : PlanWord) : Type 0 where
@@ -80,43 +72,29 @@ pub record HasDesign (held : List ℕ → Told) (model : List ℕ) (plan : PlanW
   pub timing : Timing
   pub design : IsDesignOf model_bytes plan_bytes diagram resolved timing
 
--- the design that a written text is of
-pub verilog-design : {held : List ℕ → Told} {model : List ℕ} {plan : PlanWord} {text : List ℕ} → IsVerilogOfFiles held model plan text → HasDesign held model plan
-verilog-design output = record {
-  model_bytes = output.model_bytes;
-  plan_bytes = output.plan_bytes;
-  model_fetched = output.model_fetched;
-  plan_says = output.plan_says;
-  diagram = output.verilog.diagram;
-  resolved = output.verilog.resolved;
-  timing = output.verilog.timing;
-  design = output.verilog.design;
+abbrev pub has-design : {held : List ℕ → Told} {model : List ℕ} {plan : PlanWord} {bytes text : List ℕ} {diagram : Diagram} {resolved : Resolved} {timing : Timing}
+    → Fetched (held model) file_limit bytes → IsPlanText held plan text → IsDesignOf bytes text diagram resolved timing → HasDesign held model plan
+has-design {held} {model} {plan} {bytes} {text} {diagram} {resolved} {timing} fetched says design = record {
+  model_bytes = bytes;
+  plan_bytes = text;
+  model_fetched = fetched;
+  plan_says = says;
+  diagram = diagram;
+  resolved = resolved;
+  timing = timing;
+  design = design;
 }
 
+-- the design that a written text is of
+pub verilog-design : {held : List ℕ → Told} {model : List ℕ} {plan : PlanWord} {text : List ℕ} → IsVerilogOfFiles held model plan text → HasDesign held model plan
+verilog-design output = has-design output.model_fetched output.plan_says output.verilog.design
+
 pub check-design : {held : List ℕ → Told} {model : List ℕ} {plan : PlanWord} {text : List ℕ} → IsCheckOfFiles held model plan text → HasDesign held model plan
-check-design output = record {
-  model_bytes = output.model_bytes;
-  plan_bytes = output.plan_bytes;
-  model_fetched = output.model_fetched;
-  plan_says = output.plan_says;
-  diagram = output.check.diagram;
-  resolved = output.check.resolved;
-  timing = output.check.timing;
-  design = output.check.design;
-}
+check-design output = has-design output.model_fetched output.plan_says output.check.design
 
 -- the design that a text with valid and ready is of
 unfoldable pub stream-design : {held : List ℕ → Told} {model : List ℕ} {plan : PlanWord} {text : List ℕ} → IsStreamOfFiles held model plan text → HasDesign held model plan
-stream-design output = record {
-  model_bytes = output.model_bytes;
-  plan_bytes = output.plan_bytes;
-  model_fetched = output.model_fetched;
-  plan_says = output.plan_says;
-  diagram = output.stream.diagram;
-  resolved = output.stream.resolved;
-  timing = output.stream.timing;
-  design = output.stream.design;
-}
+stream-design output = has-design output.model_fetched output.plan_says output.stream.design
 
 module _ (files : Files) where
   pub told-is : (file told bytes : List ℕ) → IsFetched files file bytes → Tells files file told → told ≡ bytes
@@ -165,13 +143,12 @@ module _ (files : Files) where
 
   -- ---- faults of a plan
 
-  module _ (command : Command) (model : List ℕ) (plan : PlanWord) (reads : ReadsPlan command model plan) where
+  module _ (command : Command) (plan : PlanWord) (reads : ReadsPlan command plan) where
     -- where no line of it is bad, none is told
-    pub lines-kept : (bytes text : List ℕ) → Tells files model bytes → TellsPlan files plan text → ((line : ℕ) (cause : TableCause) → IsBadPlan bytes text line cause → ⊥)
+    pub lines-kept : (bytes text : List ℕ) → Tells files (first_of command) bytes → TellsPlan files plan text → ((line : ℕ) (cause : TableCause) → IsBadPlan bytes text line cause → ⊥)
         → (file : List ℕ) (line : ℕ) (cause : TableCause) → HasBadLine files command file line cause → ⊥
     lines-kept bytes text tells told good file line cause why =
-        let fetched = subst (λ (n : List ℕ). IsFetched files n why.first) reads.is_first why.first_fetched in
-        let first = told-is model bytes why.first fetched tells in
+        let first = told-is (first_of command) bytes why.first why.first_fetched tells in
         let second = file-told plan file text why.table (sym reads.is_table ∙ why.is_table) told why.table_fetched in
         let bad = reads.only why.first why.table line cause why.bad in
         good line cause (subst (λ (b : List ℕ). IsBadPlan b text line cause) (sym first) (subst (λ (t : List ℕ). IsBadPlan why.first t line cause) (sym second) bad))
@@ -185,16 +162,17 @@ module _ (files : Files) where
         subst (λ (w : PlanWord). IsPlanText files.held w why.text) same why.says
 
     -- a text that is no plan breaks no rule
-    pub none-broken : (file bytes text : List ℕ) → plan_file plan ≡ Some file → Tells files file text → HasNoPlan bytes text → (line : List ℕ) → HasBrokenPlan files command line → ⊥
+    pub none-broken : (file bytes text : List ℕ) → table_of command ≡ Some file → Tells files file text → IsBadFor command bytes text → (line : List ℕ) → HasBrokenPlan files command line → ⊥
     none-broken file bytes text is told bad line why =
-        bad.none why.told.plan (subst (λ (t : List ℕ). IsPlan t why.told.plan) (sym (plan-told plan file text why.text is (same-plan line why) told)) why.told.says)
+        let none = (reads.none bytes text bad).none in
+        none why.told.plan (subst (λ (t : List ℕ). IsPlan t why.told.plan) (sym (plan-told plan file text why.text (sym reads.is_table ∙ is) (same-plan line why) told)) why.told.says)
 
     -- where there can be a design its plan breaks none
-    pub rules-kept : CanDesign files model plan → (line : List ℕ) → HasBrokenPlan files command line → ⊥
+    pub rules-kept : CanDesign files (first_of command) plan → (line : List ℕ) → HasBrokenPlan files command line → ⊥
     rules-kept can line why =
         let is = reads.is_model in
         let own = why.is_model in
-        let same : model ≡ why.file = cc (is, own) in
-        let first = fetched-told model why.file can.model_bytes why.bytes same why.fetched can.model_told in
+        let same : first_of command ≡ why.file = cc (is, own) in
+        let first = fetched-told (first_of command) why.file can.model_bytes why.bytes same why.fetched can.model_told in
         let second = told-plan plan can.plan_bytes why.text (same-plan line why) can.plan_told in
         can.can.kept line (subst (λ (b : List ℕ). TellsPlanRule b can.plan_bytes line) (sym first) (subst (λ (t : List ℕ). TellsPlanRule why.bytes t line) (sym second) why.told))

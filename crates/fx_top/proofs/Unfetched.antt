@@ -1,12 +1,14 @@
 -- Why a command answers as it does where one of its files was not fetched.
-use Rattle.std.proofs.Common.{◌≡◌, ◌<◌, ℕ, List, [], ◌∷◌, length, ⊎_elim, inl, inr, Contains, Option, None, Some, refl, ap, sym, ◌∙◌, subst, arith}
+use Rattle.std.proofs.Common.{◌≡◌, ◌<◌, ℕ, List, ◌∷◌, length, ⊎_elim, inl, inr, Contains, Option, None, Some, refl, ap, sym, ◌∙◌, subst, arith}
 use Rattle.std.proofs.lemmas.Bool.{lt-ltb}
+use Rattle.std.specs.Borrow.{Bor}
 use Rattle.fx_io.specs.Shelf.{Told, IsOverlong}
 use Rattle.fx_top.specs.declared.answer.Answer.{Answer}
 use Rattle.fx_top.specs.Call.{Files, Stream, IsUntouched, Trouble, Absent, Overlong, trouble_or, first_trouble, file_limit}
 use Rattle.fx_top.specs.Caused.{HasCause, HasWritten}
-use Rattle.fx_top.specs.Command.{Command, files_of}
+use Rattle.fx_top.specs.Command.{Command, PlanWord, EmptyPlan, Named, files_of, plan_files}
 use Rattle.fx_top.specs.inner.Fetching.{IsUnread, IsUnfit, IsFetchAnswer, IsPairAnswer}
+use Rattle.fx_top.specs.inner.Tasks.{word_of}
 use Rattle.fx_top.proofs.Told.{untroubled}
 
 -- the file is one of the command's, and those before it are in no trouble
@@ -50,18 +52,27 @@ written-unfetched files out command file answer untouched why =
     (λ later. ⊎_elim (λ (w : IsUnread files file answer). subst (λ (a : Answer). HasWritten files out command a) (sym w.answer_is) untouched)
     (λ (w : IsUnfit files file answer). subst (λ (a : Answer). HasWritten files out command a) (sym w.answer_is) untouched) later) why
 
--- one of two files was not to be had
-pub pair-unfetched : (files : Files) (command : Command) (first second : List ℕ) → files_of command ≡ first ∷ second ∷ [] → (answer : Answer) → IsPairAnswer files first (IsFetchAnswer files second) answer → HasCause files command answer
-pair-unfetched files command first second are answer (inl why) =
+-- the first file of a pair was not to be had
+pub pair-first : (files : Files) (first : List ℕ) (second : Option (Bor (List ℕ))) (answer : Answer) → IsFetchAnswer files first answer → IsPairAnswer files first (word_of second) answer
+pair-first files first None answer why = why
+pair-first files first (Some second) answer why = inl why
+
+-- one of the two was not
+pub pair-unfetched : (files : Files) (command : Command) (first : List ℕ) (word : PlanWord) → files_of command ≡ first ∷ plan_files word → (answer : Answer) → IsPairAnswer files first word answer → HasCause files command answer
+pair-unfetched files command first EmptyPlan are answer why =
+    let asked : Contains (files_of command) first = subst (λ (names : List (List ℕ)). Contains names first) (sym are) (0, omega arith, refl) in
+    cause-unfetched files command first asked None (ap (first_trouble files.held) are) answer why
+pair-unfetched files command first (Named second) are answer (inl why) =
     let asked : Contains (files_of command) first = subst (λ (names : List (List ℕ)). Contains names first) (sym are) (0, omega arith, refl) in
     cause-unfetched files command first asked (trouble_or second (files.held second) None) (ap (first_trouble files.held) are) answer why
-pair-unfetched files command first second are answer (inr why) =
+pair-unfetched files command first (Named second) are answer (inr why) =
     let asked : Contains (files_of command) second = subst (λ (names : List (List ℕ)). Contains names second) (sym are) (1, omega arith, refl) in
     cause-unfetched files command second asked None (ap (first_trouble files.held) are ∙ untroubled first (files.held first) why.0 why.1.0 (trouble_or second (files.held second) None)) answer why.1.1
 
-pub pair-unwritten : (files : Files) (out : Stream) (command : Command) (first second : List ℕ) (answer : Answer) → IsUntouched out → IsPairAnswer files first (IsFetchAnswer files second) answer → HasWritten files out command answer
-pair-unwritten files out command first second answer untouched (inl why) = written-unfetched files out command first answer untouched why
-pair-unwritten files out command first second answer untouched (inr why) = written-unfetched files out command second answer untouched why.1.1
+pub pair-unwritten : (files : Files) (out : Stream) (command : Command) (first : List ℕ) (word : PlanWord) (answer : Answer) → IsUntouched out → IsPairAnswer files first word answer → HasWritten files out command answer
+pair-unwritten files out command first EmptyPlan answer untouched why = written-unfetched files out command first answer untouched why
+pair-unwritten files out command first (Named second) answer untouched (inl why) = written-unfetched files out command first answer untouched why
+pair-unwritten files out command first (Named second) answer untouched (inr why) = written-unfetched files out command second answer untouched why.1.1
 
 -- a refused fetch that came later in the call
 pub moved : (before after : Files) (file : List ℕ) (answer : Answer) → after.held ≡ before.held → (before.steady → after.steady) → (after.failed → before.failed) → (after.met_overlong → before.met_overlong)

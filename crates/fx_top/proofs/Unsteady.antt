@@ -7,7 +7,7 @@ use Rattle.fx_top.specs.Outcome.{CanBeDone, CanDesign, CanStream, IsBadFor, Tell
 use Rattle.fx_top.specs.Output.{IsOutput, IsStreamOfFiles}
 use Rattle.fx_top.specs.Streamed.{IsWithoutStream, TellsStreamRule}
 use Rattle.fx_top.proofs.Commands.{IsGood}
-use Rattle.fx_top.proofs.Told.{HasDesign, design-good, design-is, design-planned, stream-design, told-is, told-plan}
+use Rattle.fx_top.proofs.Told.{HasDesign, design-good, design-is, design-planned, has-design, stream-design, told-is, told-plan}
 
 -- where no rule of ports is broken there can be a design
 pub designable : {files : Files} {model : List ℕ} {plan : PlanWord} → CanStream files model plan → CanDesign files model plan
@@ -27,16 +27,7 @@ module _ (files : Files) (command : Command) where
 
   module _ (line : List ℕ) (why : HasBrokenPorts files command line) where
     has : HasDesign files.held why.model why.plan
-    has = record {
-      model_bytes = why.bytes;
-      plan_bytes = why.text;
-      model_fetched = why.fetched;
-      plan_says = why.says;
-      diagram = why.told.diagram;
-      resolved = why.told.resolved;
-      timing = why.told.timing;
-      design = why.told.design;
-    }
+    has = has-design why.fetched why.says why.told.design
 
     pub ports-model : model_of command ≡ Some why.model
     ports-model = ap model_of why.streams

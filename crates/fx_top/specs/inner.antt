@@ -8,3 +8,4 @@ pub mod Sampling
 pub mod Simulating
 pub mod Steady
 pub mod Streaming
+pub mod Tasks

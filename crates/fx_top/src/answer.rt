@@ -94,38 +94,44 @@ impl Answer<'_> {
             ),
             Answer::CannotRead { file } => say(err, &[file.as_bytes(), b": cannot be read\n"]),
             Answer::CannotWrite => say(err, &[b"cannot write\n"]),
-            Answer::NotMdl { file, line } => say_line(err, file, *line, b": not MDL text\n"),
-            Answer::BadTable { file, line, cause } => say_line(err, file, *line, cause_end(*cause)),
+            Answer::NotMdl { file, line } => {
+                say_number(err, file, b": line ", *line, b": not MDL text\n")
+            }
+            Answer::BadTable { file, line, cause } => {
+                say_number(err, file, b": line ", *line, cause_end(*cause))
+            }
             Answer::BreaksRule { line } => say(err, &[line.bytes()]),
             Answer::NotVerilog { file, line } => {
-                say_line(err, file, *line, b": not in the Verilog subset\n")
+                say_number(
+                    err,
+                    file,
+                    b": line ",
+                    *line,
+                    b": not in the Verilog subset\n",
+                )
             }
             Answer::Broken { file, fault } => say_fault(err, file, fault),
             Answer::TooLong { file, length } => {
-                let mut digits = Buffer::new();
-                let length = digits.format(*length).as_bytes();
-                say(
-                    err,
-                    &[
-                        file.as_bytes(),
-                        b": ",
-                        length,
-                        b" bytes, at most 16777216\n",
-                    ],
-                )
+                say_number(err, file, b": ", *length, b" bytes, at most 16777216\n")
             }
         }
     }
 }
 
-/// Puts the line of a fault at a line of a file.
-fn say_line<E: Sink>(err: &mut E, file: &str, line: u64, what: &[u8])
-    ensures { Said (stream_in E.taken E.faults err.old err.new) (file.now ++ codes ": line "
-        ++ decimal line ++ what.now) }
+/// Puts a line that tells a number of a file, between two texts.
+fn say_number<E: Sink>(
+    err: &mut E,
+    file: &str,
+    before: &'static [u8],
+    number: u64,
+    after: &'static [u8],
+)
+    ensures { Said (stream_in E.taken E.faults err.old err.new) (file.now ++ before.now
+        ++ decimal number ++ after.now) }
 {
     let mut digits = Buffer::new();
-    let line = digits.format(line).as_bytes();
-    say(err, &[file.as_bytes(), b": line ", line, what])
+    let number = digits.format(number).as_bytes();
+    say(err, &[file.as_bytes(), before, number, after])
 }
 
 /// The end of the line of a cause.

@@ -2,7 +2,8 @@ ghost use Rattle.std.specs.Prelude.{◌≡◌, [], IfOk};
 ghost use Rattle.fx_top.specs.Benched.{IsTold};
 ghost use Rattle.fx_top.specs.inner.Benching.{IsReplayedAs};
 
-use crate::response::{ReplayFault, lines_of, response_of};
+use crate::fault::Fault;
+use crate::response::{lines_of, response_of};
 use fx_io::{OutOfMemory, Text};
 use fx_sample::Bench;
 use std::alloc::Global;
@@ -71,18 +72,20 @@ fn replayed_text(
     vl_read::unique();
     let response = match response_of(alloc, verilog, stimulus) {
         Ok(response) => response,
-        Err(ReplayFault::NotVerilog { line: _line }) => return Ok(None),
-        Err(ReplayFault::Broken { fault }) => {
+        Err(Fault::NotMdl { .. }) => unreachable!(),
+        Err(Fault::BreaksRule { .. }) => unreachable!(),
+        Err(Fault::NotVerilog { line: _line }) => return Ok(None),
+        Err(Fault::Broken { fault }) => {
             drop(fault);
             return Ok(None);
         }
         Err(
-            ReplayFault::BadTable {
+            Fault::BadTable {
                 line: _line,
                 cause: _cause,
             },
         ) => return Ok(None),
-        Err(ReplayFault::OutOfMemory) => return Err(OutOfMemory),
+        Err(Fault::OutOfMemory) => return Err(OutOfMemory),
     };
     let lines = lines_of(alloc, response)?;
     Ok(Some(lines))

@@ -1,16 +1,14 @@
 ghost use Rattle.std.specs.Prelude.{IfErr, IfOk, OnErr, OnOk};
 ghost use Rattle.fx_designed.specs.Refused.{IsRefusedDesign};
-ghost use Rattle.fx_top.specs.Call.{files_in, stream_in};
-ghost use Rattle.fx_top.specs.Caused.{HasCause, HasWritten};
-ghost use Rattle.fx_top.specs.CheckedText.{IsFoundOf, IsReady, TookCheck, TookPartOfCheck};
-ghost use Rattle.fx_top.specs.Command.{Check, plan_word};
+ghost use Rattle.fx_top.specs.Call.{stream_in};
+ghost use Rattle.fx_top.specs.CheckedText.{IsCheckOf, IsFoundOf, IsReady, TookCheck, TookPartOfCheck};
+ghost use Rattle.fx_top.specs.inner.Refusing.{IsDesignFault};
+ghost use Rattle.fx_top.specs.inner.Tasks.{IsDone};
 
-use crate::answer::Answer;
-use crate::fetch::fetch_with_plan;
-use crate::refused::{design_answer, put_answer};
+use crate::fault::{Done, of_design};
 use fx_check::{Gathered, gather, put_check};
 use fx_designed::{DesignFault, Designed, designed_of};
-use fx_io::{OutOfMemory, PutFault, Shelf, Sink};
+use fx_io::{OutOfMemory, PutFault, Sink};
 use std::alloc::Global;
 
 /// The design of a model by a plan, with all that its text needs memory for (own).
@@ -50,27 +48,13 @@ fn put_found<K: Sink>(out: &mut K, found: Found) -> Result<(), PutFault>
     put
 }
 
-/// Writes what is worked out of a model by a plan.
-pub fn check<'a, S: Shelf, K: Sink>(
-    alloc: Global,
-    model: &'a str,
-    plan: &'a str,
-    shelf: &mut S,
-    out: &mut K,
-) -> Answer<'a>
-    ensures cause { HasCause (files_in S.held S.steady S.faults S.overlong shelf.old shelf.new)
-        (Check model.now (plan_word plan.now)) result }
-    ensures written { HasWritten (files_in S.held S.steady S.faults S.overlong shelf.old shelf.new)
-        (stream_in K.taken K.faults out.old out.new) (Check model.now (plan_word plan.now)) result }
+/// Puts what is worked out of a model by a plan.
+pub fn check<K: Sink>(alloc: Global, model: &[u8], plan: &[u8], out: &mut K) -> Done
+    ensures { IsDone (IsCheckOf model.now plan.now) (IsDesignFault model.now plan.now)
+        (stream_in K.taken K.faults out.old out.new) result }
 {
-    let texts = match fetch_with_plan(alloc, model, plan, shelf) {
-        Ok(texts) => texts,
-        Err(answer) => return answer,
-    };
-    let found = found_of(alloc, texts.first.bytes(), texts.second.bytes());
-    drop(texts);
-    match found {
-        Ok(found) => put_answer(put_found(out, found)),
-        Err(fault) => design_answer(model, plan, fault),
+    match found_of(alloc, model, plan) {
+        Ok(found) => Ok(put_found(out, found)),
+        Err(fault) => Err(of_design(fault)),
     }
 }

@@ -1,28 +1,25 @@
-ghost use Rattle.std.specs.Prelude.{◌≡◌, ◌∷◌, [], IfSome, map, string_bytes};
+ghost use Rattle.std.specs.Prelude.{◌≡◌, ◌∷◌, [], ℕ, IfSome, List, map, string_bytes};
 ghost use Rattle.std.specs.Option.{option_map};
 ghost use Rattle.fx_top.specs.Command.{asked_of, number_of as number_of_word};
-ghost use Rattle.fx_top.specs.inner.Named.{HasRange, named};
+ghost use Rattle.fx_top.specs.inner.Named.{HasRange, named, over_files};
+ghost use Rattle.fx_top.specs.inner.Tasks.{IsTask};
 
+use crate::task::Task;
 use fx_explored::{plain_number, read_range};
-use hw_explore::Range;
 
 /// What the words of a call ask for.
 #[derive(Clone, Copy)]
 pub enum Command<'a> {
-    /// To write the Verilog text of a model under a plan, which `-` names where it is the empty one.
-    Generate { model: &'a str, plan: &'a str },
-    /// To write the response of a Verilog text to a stimulus.
-    Replay { verilog: &'a str, stimulus: &'a str },
-    /// To write the response of a model's diagram to a stimulus.
-    Simulate { model: &'a str, stimulus: &'a str },
-    /// To write what each plan of a range is worth on a model.
-    Explore { model: &'a str, range: Range },
-    /// To write what is worked out of a model by a plan, which `-` names where it is the empty one.
-    Check { model: &'a str, plan: &'a str },
-    /// To write the Verilog text of a model under a plan, with valid and ready on both sides.
-    Stream { model: &'a str, plan: &'a str },
+    /// To do a task over a model or a Verilog text, and over what the second word names beside it.
+    OverFiles {
+        task: Task,
+        first: &'a str,
+        second: &'a str,
+    },
     /// To write the summary of the sample of this number.
-    Sample { number: u32 },
+    Sample {
+        number: u32,
+    },
 }
 
 impl<'a> Command<'a> {
@@ -53,44 +50,42 @@ fn over_two<'a>(verb: &str, first: &'a str, second: &'a str) -> Option<Command<'
     ensures is { option_map named result ≡ asked_of (verb.now ∷ first.now ∷ second.now ∷ []) }
     ensures range { IfSome result HasRange }
 {
+    match task_of(verb, second) {
+        Some(task) => Some(Command::OverFiles {
+            task,
+            first,
+            second,
+        }),
+        None => None,
+    }
+}
+
+/// The task that a word names, where it names one, by the second of the words behind it.
+fn task_of(verb: &str, second: &str) -> Option<Task>
+    ensures is { (first : List ℕ) → option_map (over_files first second.now) result
+        ≡ asked_of (verb.now ∷ first ∷ second.now ∷ []) }
+    ensures range { IfSome result IsTask }
+{
     if verb == "generate" {
-        return Some(Command::Generate {
-            model: first,
-            plan: second,
-        });
+        return Some(Task::Generate);
     }
     if verb == "replay" {
-        return Some(Command::Replay {
-            verilog: first,
-            stimulus: second,
-        });
+        return Some(Task::Replay);
     }
     if verb == "simulate" {
-        return Some(Command::Simulate {
-            model: first,
-            stimulus: second,
-        });
+        return Some(Task::Simulate);
     }
     if verb == "explore" {
         return match read_range(second.as_bytes()) {
-            Some(range) => Some(Command::Explore {
-                model: first,
-                range,
-            }),
+            Some(range) => Some(Task::Explore { range }),
             None => None,
         };
     }
     if verb == "check" {
-        return Some(Command::Check {
-            model: first,
-            plan: second,
-        });
+        return Some(Task::Check);
     }
     if verb == "stream" {
-        return Some(Command::Stream {
-            model: first,
-            plan: second,
-        });
+        return Some(Task::Stream);
     }
     None
 }

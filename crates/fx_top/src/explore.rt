@@ -1,17 +1,16 @@
 ghost use Rattle.std.specs.Prelude.{IfErr, IfOk};
-ghost use Rattle.fx_top.specs.Call.{files_in, stream_in};
-ghost use Rattle.fx_top.specs.Caused.{HasCause, HasWritten};
-ghost use Rattle.fx_top.specs.Command.{Explore};
+ghost use Rattle.fx_top.specs.Call.{stream_in};
 ghost use Rattle.fx_top.specs.Explored.{IsExplorationOf};
+ghost use Rattle.fx_top.specs.inner.Refusing.{IsModelFault};
+ghost use Rattle.fx_top.specs.inner.Tasks.{IsDone};
 ghost use Rattle.fx_designed.specs.Refused.{IsRefusedModel};
 ghost use Rattle.hw_explore.specs.Range.{IsRange};
 
-use crate::answer::Answer;
-use crate::fetch::fetch_file;
-use crate::refused::{model_answer, put_answer};
+use crate::fault::{Done, of_model};
+use crate::parts::put_text;
 use fx_designed::{ModelRefusal, checked_of};
 use fx_explored::findings_text;
-use fx_io::{OpenGate, OutOfMemory, Shelf, Sink, Text, put_all};
+use fx_io::{OpenGate, OutOfMemory, Sink, Text};
 use hw_explore::Range;
 use std::alloc::Global;
 use std::thread::Threads;
@@ -47,33 +46,20 @@ fn exploration_of<R: Threads + Sync>(
     }
 }
 
-/// Writes what each plan of a range is worth on a model, and which is the least.
-pub fn explore<'a, R: Threads + Sync, S: Shelf, K: Sink>(
+/// Puts what each plan of a range is worth on a model, and which is the least.
+pub fn explore<R: Threads + Sync, K: Sink>(
     rt: &R,
     alloc: Global,
-    model: &'a str,
+    model: &[u8],
     range: Range,
-    shelf: &mut S,
     out: &mut K,
-) -> Answer<'a>
+) -> Done
     requires { IsRange range }
-    ensures cause { HasCause (files_in S.held S.steady S.faults S.overlong shelf.old shelf.new)
-        (Explore model.now range) result }
-    ensures written { HasWritten (files_in S.held S.steady S.faults S.overlong shelf.old shelf.new)
-        (stream_in K.taken K.faults out.old out.new) (Explore model.now range) result }
+    ensures { IsDone (IsExplorationOf model.now range) (IsModelFault model.now)
+        (stream_in K.taken K.faults out.old out.new) result }
 {
-    let bytes = match fetch_file(alloc, model, shelf) {
-        Ok(bytes) => bytes,
-        Err(answer) => return answer,
-    };
-    let text = exploration_of(rt, alloc, bytes.bytes(), range);
-    drop(bytes);
-    match text {
-        Ok(text) => {
-            let put = put_all(out, text.bytes());
-            drop(text);
-            put_answer(put)
-        }
-        Err(fault) => model_answer(model, fault),
+    match exploration_of(rt, alloc, model, range) {
+        Ok(text) => Ok(put_text(out, text)),
+        Err(fault) => Err(of_model(fault)),
     }
 }

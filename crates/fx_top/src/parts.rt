@@ -2,7 +2,7 @@ ghost use Rattle.std.specs.Prelude.{◌≡◌, OnErr, OnOk, flat_map};
 ghost use Rattle.fx_io.specs.Cause.{Rose};
 ghost use Rattle.fx_io.specs.Sink.{TookProperPrefix, also_took};
 
-use fx_io::{PutFault, Sink, put_all};
+use fx_io::{PutFault, Sink, Text, put_all};
 
 /// Puts the parts of a text, one after another, up to a failure.
 pub fn put_parts<K: Sink>(out: &mut K, parts: &[Vec<u8>]) -> Result<(), PutFault>
@@ -18,4 +18,15 @@ pub fn put_parts<K: Sink>(out: &mut K, parts: &[Vec<u8>]) -> Result<(), PutFault
         }
     }
     Ok(())
+}
+
+/// Puts a text, up to a failure.
+pub fn put_text<K: Sink>(out: &mut K, text: Text) -> Result<(), PutFault>
+    ensures whole { OnOk result (K.taken out.new ≡ also_took (K.taken out.old) text) }
+    ensures cut { OnErr result (TookProperPrefix (K.taken out.old) (K.taken out.new) text) }
+    ensures cause { OnErr result (Rose (K.faults out.old) (K.faults out.new)) }
+{
+    let put = put_all(out, text.bytes());
+    drop(text);
+    put
 }

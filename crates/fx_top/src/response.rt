@@ -9,40 +9,18 @@ ghost use Rattle.vl_ast.specs.Steps.{IsFirstRow};
 ghost use Rattle.vl_ast.specs.Windows.{Sample};
 ghost use Rattle.vl_eval.specs.Machine.{IsReady, row_of, source_of};
 ghost use Rattle.fx_top.specs.Replayed.{condition_of};
-ghost use Rattle.fx_top.specs.inner.Responding.{IsFaultOf, IsMachineOf, IsResponseTo, IsTableOf};
+ghost use Rattle.fx_top.specs.inner.Refusing.{IsReplayFault};
+ghost use Rattle.fx_top.specs.inner.Responding.{IsMachineOf, IsResponseTo, IsTableOf};
 ghost use Rattle.vl_replay.specs.Replays.{StandsBefore, module_of, stimulus_of};
 
+use crate::fault::Fault;
 use fx_io::{OutOfMemory, PutFault, Sink, Text, put_all};
-use fx_tables::{Column, RowText, Rows, TableCause, TableFault, read_rows};
+use fx_tables::{Column, RowText, Rows, TableFault, read_rows};
 use std::alloc::Global;
 use vl_check::VlFault;
 use vl_eval::Machine;
 use vl_read::VlSyntax;
 use vl_replay::{PortColumns, Replay, columns, some_response};
-
-/// Why a Verilog text has no response to a stimulus.
-#[derive(Drop)]
-pub enum ReplayFault {
-    /// The text is not in the subset; it stops being the beginning of one at this line, from 1.
-    NotVerilog { line: u64 },
-    /// The module of the text breaks this condition first.
-    Broken { fault: VlFault },
-    /// The stimulus has its first bad line there, from 1.
-    BadTable { line: u64, cause: TableCause },
-    /// Memory is wanting.
-    OutOfMemory,
-}
-
-impl From<OutOfMemory> for ReplayFault {
-    ghost use Rattle.std.specs.Prelude.{◌≡◌};
-    ghost use Rattle.fx_top.specs.declared.response.ReplayFault.TheVariants.{OutOfMemory as WithoutMemory};
-
-    ghost from_gives = { λ _ fault. fault ≡ WithoutMemory };
-
-    fn from(_refused: OutOfMemory) -> ReplayFault {
-        ReplayFault::OutOfMemory
-    }
-}
 
 /// A replay that stands before its first sample, and the writer of its lines.
 #[derive(Drop)]
@@ -53,24 +31,24 @@ pub struct Response {
 }
 
 /// The machine of a Verilog text.
-fn machine_of(alloc: Global, verilog: &[u8]) -> Result<Machine, ReplayFault>
+fn machine_of(alloc: Global, verilog: &[u8]) -> Result<Machine, Fault>
     ensures made { IfOk result (IsMachineOf verilog.now) }
-    ensures refused { (stimulus : List ℕ) → IfErr result (IsFaultOf verilog.now stimulus) }
+    ensures refused { (stimulus : List ℕ) → IfErr result (IsReplayFault verilog.now stimulus) }
 {
     let made = match vl_read::read(alloc, verilog) {
         Ok(made) => made,
-        Err(VlSyntax::Syntax { line }) => return Err(ReplayFault::NotVerilog { line }),
-        Err(VlSyntax::OutOfMemory) => return Err(ReplayFault::OutOfMemory),
+        Err(VlSyntax::Syntax { line }) => return Err(Fault::NotVerilog { line }),
+        Err(VlSyntax::OutOfMemory) => return Err(Fault::OutOfMemory),
     };
     match Machine::new(alloc, made) {
         Ok(machine) => Ok(machine),
         Err(fault) => {
             if is_condition(&fault) {
-                Err(ReplayFault::Broken { fault })
+                Err(Fault::Broken { fault })
             } else {
                 drop(fault);
                 // allocation: one of the machine's, which is its only other fault
-                Err(ReplayFault::OutOfMemory)
+                Err(Fault::OutOfMemory)
             }
         }
     }
@@ -92,9 +70,9 @@ fn is_condition(fault: &VlFault) -> bool
 }
 
 /// The response of a Verilog text to a stimulus.
-pub fn response_of(alloc: Global, verilog: &[u8], stimulus: &[u8]) -> Result<Response, ReplayFault>
+pub fn response_of(alloc: Global, verilog: &[u8], stimulus: &[u8]) -> Result<Response, Fault>
     ensures made { IfOk result (IsResponseTo verilog.now stimulus.now) }
-    ensures refused { IfErr result (IsFaultOf verilog.now stimulus.now) }
+    ensures refused { IfErr result (IsReplayFault verilog.now stimulus.now) }
 {
     let machine = match machine_of(alloc, verilog) {
         Ok(machine) => machine,
@@ -104,7 +82,7 @@ pub fn response_of(alloc: Global, verilog: &[u8], stimulus: &[u8]) -> Result<Res
         Ok(columns) => columns,
         Err(OutOfMemory) => {
             drop(machine);
-            return Err(ReplayFault::OutOfMemory);
+            return Err(Fault::OutOfMemory);
         }
     };
     let count = outputs.as_slice().len() as u64;
@@ -112,17 +90,17 @@ pub fn response_of(alloc: Global, verilog: &[u8], stimulus: &[u8]) -> Result<Res
         Ok(rows) => rows,
         Err(TableFault::Bad { line, cause }) => {
             drop(machine);
-            return Err(ReplayFault::BadTable { line, cause });
+            return Err(Fault::BadTable { line, cause });
         }
         Err(TableFault::OutOfMemory) => {
             drop(machine);
-            return Err(ReplayFault::OutOfMemory);
+            return Err(Fault::OutOfMemory);
         }
     };
     some_response();
     match response_with(alloc, machine, rows, outputs.as_slice()) {
         Ok(response) => Ok(response),
-        Err(OutOfMemory) => Err(ReplayFault::OutOfMemory),
+        Err(OutOfMemory) => Err(Fault::OutOfMemory),
     }
 }
 

@@ -1,6 +1,5 @@
 ghost use Rattle.std.specs.Prelude.{◌≡◌, ◌≤◌, ◌<◌, All, IfErr, IfOk, length};
 ghost use Rattle.dg_model.specs.Attributes.{attributes_of};
-ghost use Rattle.dg_model.specs.PlanOf.{IsPlanOf};
 ghost use Rattle.dg_model.specs.RootElements.{root_outputs};
 ghost use Rattle.dg_response.specs.Responding.{IsBefore, row_of};
 ghost use Rattle.dg_tables.specs.Listing.{AreBlocksOf};
@@ -13,18 +12,22 @@ ghost use Rattle.fx_tables.specs.RowText.{periods_of};
 ghost use Rattle.fx_top.specs.Call.{stream_in};
 ghost use Rattle.fx_top.specs.Sampled.{EndsSample, HasSampleCause, HasSampleWritten};
 ghost use Rattle.fx_top.specs.Summarized.{IsSampleResponse, IsSummaryOf, latency_of_output};
+ghost use Rattle.fx_top.specs.inner.Generating.{IsPlanOn};
+ghost use Rattle.fx_top.specs.inner.Refusing.{IsSimulationFault};
 ghost use Rattle.fx_top.specs.inner.Sampling.{IsOwed, IsSampleFault};
-ghost use Rattle.fx_top.specs.inner.Simulating.{AreLines, IsFaultOf};
+ghost use Rattle.fx_top.specs.inner.Simulating.{AreLines};
 ghost use Rattle.hw_rules.specs.Times.{AreTimes, timing_in};
 
 use crate::answer::Answer;
-use crate::simulated::{Simulation, SimulationFault, simulation_in, simulation_text};
+use crate::fault::Fault;
+use crate::parts::put_text;
+use crate::simulated::{Simulation, simulation_in, simulation_text};
 use crate::verilog::text_of;
 use dg_model::Checked;
 use dg_tables::output_blocks;
 use fx_check::clocks_of;
 use fx_designed::{DesignFault, Designed, designed_of};
-use fx_io::{OutOfMemory, Sink, Text, put_all};
+use fx_io::{OutOfMemory, Sink, Text};
 use fx_sample::{Bench, Made, model_text, plan_text, stimulus_text, summary};
 use hw_rules::{Planned, multiplications};
 use std::alloc::Global;
@@ -72,8 +75,7 @@ fn latency_at(
 
 /// What the module of a design says of itself.
 fn made_of(alloc: Global, checked: &Checked, planned: &Planned) -> Result<Made, OutOfMemory>
-    requires plan { IsPlanOf checked.now.diagram planned.now.resolved }
-    requires times { AreTimes checked.now.diagram planned.now.resolved planned.now.times }
+    requires { IsPlanOn checked.now.diagram planned.now }
     ensures { IfOk result (IsOwed checked.now.diagram planned.now.resolved
         (timing_in planned.now.times)) }
 {
@@ -89,18 +91,20 @@ fn made_of(alloc: Global, checked: &Checked, planned: &Planned) -> Result<Made, 
 
 /// What a fault of the simulation of a sample leaves to compare its module with: no bytes, where the
 /// stimulus doesn't fit the diagram's columns.
-fn unsimulated(number: u32, fault: SimulationFault) -> Result<Text, SampleFault>
+fn unsimulated(number: u32, fault: Fault) -> Result<Text, SampleFault>
     requires few { number ≤ 5000 }
-    requires cause { IsFaultOf (sample_model number) (sample_stimulus number) fault }
+    requires cause { IsSimulationFault (sample_model number) (sample_stimulus number) fault }
     ensures made { IfOk result (IsSampleResponse number) }
     ensures refused { IfErr result (IsSampleFault number) }
 {
     fx_sample::models_stand();
     match fault {
-        SimulationFault::NotMdl { .. } => unreachable!(),
-        SimulationFault::BreaksRule { line } => Err(SampleFault::BreaksRule { line }),
-        SimulationFault::BadTable { .. } => Ok(Text::new()),
-        SimulationFault::OutOfMemory => Err(SampleFault::OutOfMemory),
+        Fault::NotMdl { .. } => unreachable!(),
+        Fault::NotVerilog { .. } => unreachable!(),
+        Fault::Broken { .. } => unreachable!(),
+        Fault::BreaksRule { line } => Err(SampleFault::BreaksRule { line }),
+        Fault::BadTable { .. } => Ok(Text::new()),
+        Fault::OutOfMemory => Err(SampleFault::OutOfMemory),
     }
 }
 
@@ -164,10 +168,7 @@ fn undesigned(number: u32, fault: DesignFault) -> SampleFault
 fn sample_design(alloc: Global, number: u32) -> Result<Designed, SampleFault>
     requires { number ≤ 5000 }
     ensures designed { IfOk result (IsDesigned (sample_model number) sample_plan) }
-    ensures plan { IfOk result (λ designed. IsPlanOf designed.checked.diagram
-        designed.planned.resolved) }
-    ensures times { IfOk result (λ designed. AreTimes designed.checked.diagram
-        designed.planned.resolved designed.planned.times) }
+    ensures on { IfOk result (λ designed. IsPlanOn designed.checked.diagram designed.planned) }
     ensures refused { IfErr result (IsSampleFault number) }
 {
     let model = model_text(alloc, number)?;
@@ -189,8 +190,7 @@ fn summary_by<R: Threads + Sync, B: Bench>(
     requires few { number ≤ 5000 }
     requires design { IsDesignOf (sample_model number) sample_plan checked.now.diagram
         planned.now.resolved (timing_in planned.now.times) }
-    requires plan { IsPlanOf checked.now.diagram planned.now.resolved }
-    requires times { AreTimes checked.now.diagram planned.now.resolved planned.now.times }
+    requires on { IsPlanOn checked.now.diagram planned.now }
     ensures made { IfOk result (IsSummaryOf B.may_tell number (B.tells bench.new)) }
     ensures refused { IfErr result (IsSampleFault number) }
 {
@@ -199,7 +199,7 @@ fn summary_by<R: Threads + Sync, B: Bench>(
         Ok(response) => response,
         Err(fault) => return Err(fault),
     };
-    let verilog = match text_of(rt, alloc, checked, &planned.resolved, &planned.times) {
+    let verilog = match text_of(rt, alloc, checked, planned) {
         Ok(verilog) => verilog,
         Err(OutOfMemory) => {
             drop(response);
@@ -265,9 +265,7 @@ pub fn sample<'a, R: Threads + Sync, B: Bench, K: Sink>(
         Err(SampleFault::BreaksRule { line }) => return Answer::BreaksRule { line },
         Err(SampleFault::OutOfMemory) => return Answer::OutOfMemory,
     };
-    let put = put_all(out, text.bytes());
-    drop(text);
-    match put {
+    match put_text(out, text) {
         Ok(()) => Answer::Done,
         Err(_) => Answer::CannotWrite,
     }

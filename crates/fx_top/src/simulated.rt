@@ -1,46 +1,23 @@
-ghost use Rattle.std.specs.Prelude.{◌≡◌, ◌<◌, ◌≤◌, ◌^◌, ℕ, List, All, IfErr, IfOk, OnErr, OnOk, length};
+ghost use Rattle.std.specs.Prelude.{◌≡◌, ◌<◌, ◌≤◌, ◌^◌, All, IfErr, IfOk, OnErr, OnOk, length};
 ghost use Rattle.fx_io.specs.Cause.{Rose};
 ghost use Rattle.fx_tables.specs.RowText.{periods_of};
 ghost use Rattle.fx_tables.specs.Stimulus.{FitsColumns, IsRows};
 ghost use Rattle.dg_response.specs.Laws.{SomeResponse};
 ghost use Rattle.dg_response.specs.Responding.{IsBefore, row_of};
-ghost use Rattle.fx_designed.specs.Refused.{IsRefusedModel};
-ghost use Rattle.fx_top.specs.inner.Simulating.{AreLines, HasColumns, IsFaultOf, IsReadyFor, IsRowsFault, IsSimulationIn, IsSimulationTo, Refuses, TookLines, TookPartOfLines};
+ghost use Rattle.fx_top.specs.inner.Refusing.{IsSimulationFault};
+ghost use Rattle.fx_top.specs.inner.Simulating.{AreLines, HasColumns, IsReadyFor, IsRowsFault, IsSimulationIn, IsSimulationTo, Refuses, TookLines, TookPartOfLines};
 
+use crate::fault::{Fault, of_model};
 use dg_model::{Checked, root_elements_are_listed};
 use dg_response::{Responding, RootColumns, columns, some_response};
-use fx_designed::{ModelRefusal, checked_of};
+use fx_designed::checked_of;
 use fx_io::{OutOfMemory, PutFault, Sink, Text, put_all};
-use fx_tables::{RowText, Rows, TableCause, TableFault, read_rows};
+use fx_tables::{RowText, Rows, TableFault, read_rows};
 use hw_sched::periods_are_above;
 use std::alloc::Global;
 
 /// No table has so many columns.
 const MOST_COLUMNS: usize = 4_294_967_296;
-
-/// Why a model has no response to a stimulus.
-#[derive(Drop)]
-pub enum SimulationFault {
-    /// The model's bytes are no MDL text; they stop being the beginning of one at this line, from 1.
-    NotMdl { line: u64 },
-    /// The model breaks a rule, which this line tells.
-    BreaksRule { line: Text },
-    /// The stimulus has its first bad line there, from 1.
-    BadTable { line: u64, cause: TableCause },
-    /// Memory is wanting.
-    OutOfMemory,
-}
-
-impl From<OutOfMemory> for SimulationFault {
-    ghost use Rattle.std.specs.Prelude.{◌≡◌};
-    ghost use Rattle.fx_top.specs.declared.simulated.SimulationFault.TheVariants.{OutOfMemory as WithoutMemory};
-
-    ghost from_gives = { λ _ fault. fault ≡ WithoutMemory };
-
-    fn from(_refused: OutOfMemory) -> SimulationFault {
-        SimulationFault::OutOfMemory
-    }
-}
 
 /// The response of a diagram before its first sample, and the writer of its lines. All memory that
 /// the lines need is taken.
@@ -79,7 +56,7 @@ fn columns_of(alloc: Global, checked: &Checked) -> Result<RootColumns, OutOfMemo
 }
 
 /// The rows of a stimulus of these columns.
-fn rows_of(alloc: Global, stimulus: &[u8], columns: &RootColumns) -> Result<Rows, SimulationFault>
+fn rows_of(alloc: Global, stimulus: &[u8], columns: &RootColumns) -> Result<Rows, Fault>
     requires periods { All (λ column. 0 < column.period) columns.now.inputs }
     requires few { length columns.now.inputs < 2 ^ 32 }
     ensures rows { IfOk result (IsRows columns.now.inputs
@@ -91,8 +68,8 @@ fn rows_of(alloc: Global, stimulus: &[u8], columns: &RootColumns) -> Result<Rows
     let count = columns.outputs.as_slice().len() as u64;
     match read_rows(alloc, stimulus, columns.inputs.as_slice(), count) {
         Ok(rows) => Ok(rows),
-        Err(TableFault::Bad { line, cause }) => Err(SimulationFault::BadTable { line, cause }),
-        Err(TableFault::OutOfMemory) => Err(SimulationFault::OutOfMemory),
+        Err(TableFault::Bad { line, cause }) => Err(Fault::BadTable { line, cause }),
+        Err(TableFault::OutOfMemory) => Err(Fault::OutOfMemory),
     }
 }
 
@@ -142,17 +119,13 @@ fn simulation_with(
 }
 
 /// The response of a diagram to a stimulus.
-pub fn simulation_in(
-    alloc: Global,
-    checked: &Checked,
-    stimulus: &[u8],
-) -> Result<Simulation, SimulationFault>
+pub fn simulation_in(alloc: Global, checked: &Checked, stimulus: &[u8]) -> Result<Simulation, Fault>
     ensures made { IfOk result (IsSimulationIn checked.now stimulus.now) }
     ensures refused { IfErr result (Refuses checked.now.diagram stimulus.now) }
 {
     let columns = match columns_of(alloc, checked) {
         Ok(columns) => columns,
-        Err(OutOfMemory) => return Err(SimulationFault::OutOfMemory),
+        Err(OutOfMemory) => return Err(Fault::OutOfMemory),
     };
     let rows = match rows_of(alloc, stimulus, &columns) {
         Ok(rows) => rows,
@@ -160,22 +133,18 @@ pub fn simulation_in(
     };
     match simulation_with(alloc, checked, &columns, rows) {
         Ok(simulation) => Ok(simulation),
-        Err(OutOfMemory) => Err(SimulationFault::OutOfMemory),
+        Err(OutOfMemory) => Err(Fault::OutOfMemory),
     }
 }
 
 /// The response of a model to a stimulus.
-pub fn simulation_of(
-    alloc: Global,
-    model: &[u8],
-    stimulus: &[u8],
-) -> Result<ModelSimulation, SimulationFault>
+pub fn simulation_of(alloc: Global, model: &[u8], stimulus: &[u8]) -> Result<ModelSimulation, Fault>
     ensures made { IfOk result (IsSimulationTo model.now stimulus.now) }
-    ensures refused { IfErr result (IsFaultOf model.now stimulus.now) }
+    ensures refused { IfErr result (IsSimulationFault model.now stimulus.now) }
 {
     let checked = match checked_of(alloc, model) {
         Ok(checked) => checked,
-        Err(refusal) => return Err(refused(refusal)),
+        Err(refusal) => return Err(of_model(refusal)),
     };
     match simulation_in(alloc, &checked, stimulus) {
         Ok(simulation) => Ok(ModelSimulation {
@@ -201,18 +170,6 @@ fn fit(columns: &RootColumns) -> Result<(), OutOfMemory>
     }
     // word: columns are numbered in 32 bits
     Err(OutOfMemory)
-}
-
-/// The fault of a simulation whose model is refused so.
-fn refused(refusal: ModelRefusal) -> SimulationFault
-    ensures { (source stimulus : List ℕ) → IsRefusedModel source refusal →
-        IsFaultOf source stimulus result }
-{
-    match refusal {
-        ModelRefusal::NotMdl { line } => SimulationFault::NotMdl { line },
-        ModelRefusal::BreaksRule { line } => SimulationFault::BreaksRule { line },
-        ModelRefusal::OutOfMemory => SimulationFault::OutOfMemory,
-    }
 }
 
 /// Puts the line of each row by itself, as soon as its sample is made. It takes no memory.

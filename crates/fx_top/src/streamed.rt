@@ -1,22 +1,22 @@
 //! The Verilog text with valid and ready of a model under a plan.
 ghost use Rattle.std.specs.Prelude.{IfErr, IfOk};
 ghost use Rattle.dg_model.specs.Faults.{AllKeep};
-ghost use Rattle.dg_model.specs.PlanOf.{IsPlanOf};
 ghost use Rattle.fx_top.specs.Streamed.{IsStreamOf, IsStreamedOf, KeepsStream};
+ghost use Rattle.fx_top.specs.inner.Generating.{IsPlanOn};
 ghost use Rattle.fx_top.specs.inner.Streaming.{IsRefusedOnPorts, IsRefusedStream, IsStreamWritten};
-ghost use Rattle.hw_rules.specs.Times.{AreTimes, timing_in};
+ghost use Rattle.hw_rules.specs.Times.{timing_in};
 ghost use Rattle.vl_ast.specs.Grammar.{Spells};
 ghost use Rattle.vl_ast.specs.Spelling.{spelling};
 
 use crate::steady::check_ports;
 use crate::verilog::made_of;
-use dg_model::{CheckFault, Checked, Resolved, root_elements_are_listed};
+use dg_model::{CheckFault, Checked, root_elements_are_listed};
 use fx_designed::{DesignFault, designed_of};
 use fx_io::{OpenGate, OutOfMemory, Text};
 use fx_model::rule_text;
 use hw_build::slots_are_scheduled;
 use hw_names::stream_names;
-use hw_rules::Times;
+use hw_rules::Planned;
 use hw_sched::ready_fits;
 use st_wrap::wrap;
 use std::alloc::Global;
@@ -24,17 +24,11 @@ use std::thread::Threads;
 use vl_ast::Module;
 
 /// The module with valid and ready round it.
-fn stream_of(
-    alloc: Global,
-    checked: &Checked,
-    plan: &Resolved,
-    times: &Times,
-) -> Result<Module, OutOfMemory>
-    requires plan { IsPlanOf checked.now.diagram plan.now }
-    requires times { AreTimes checked.now.diagram plan.now times.now }
+fn stream_of(alloc: Global, checked: &Checked, planned: &Planned) -> Result<Module, OutOfMemory>
+    requires on { IsPlanOn checked.now.diagram planned.now }
     requires steady { AllKeep checked.now.diagram (KeepsStream checked.now.diagram) }
-    ensures streams { IfOk result (λ made. IsStreamOf made checked.now.diagram plan.now
-        (timing_in times.now)) }
+    ensures streams { IfOk result (λ made. IsStreamOf made checked.now.diagram planned.now.resolved
+        (timing_in planned.now.times)) }
     ensures spelled { IfOk result (λ made. Spells (spelling made) made) }
 {
     checked.keeps_rules();
@@ -42,7 +36,7 @@ fn stream_of(
     ready_fits();
     slots_are_scheduled();
     let names = stream_names(alloc, checked)?;
-    let core = made_of(alloc, checked, plan, times)?;
+    let core = made_of(alloc, checked, planned)?;
     let made = wrap(alloc, &core, names.as_slice());
     drop(core);
     made
@@ -53,16 +47,14 @@ fn text_of<R: Threads + Sync>(
     rt: &R,
     alloc: Global,
     checked: &Checked,
-    plan: &Resolved,
-    times: &Times,
+    planned: &Planned,
 ) -> Result<Text, OutOfMemory>
-    requires plan { IsPlanOf checked.now.diagram plan.now }
-    requires times { AreTimes checked.now.diagram plan.now times.now }
+    requires on { IsPlanOn checked.now.diagram planned.now }
     requires steady { AllKeep checked.now.diagram (KeepsStream checked.now.diagram) }
-    ensures { IfOk result (IsStreamWritten checked.now.diagram plan.now times.now) }
+    ensures { IfOk result (IsStreamWritten checked.now.diagram planned.now.resolved planned.now.times) }
 {
     vl_read::unique();
-    let module = stream_of(alloc, checked, plan, times)?;
+    let module = stream_of(alloc, checked, planned)?;
     let text = vl_write::write(rt, alloc, &module, &OpenGate);
     drop(module);
     text
@@ -111,14 +103,7 @@ pub fn streamed_of<R: Threads + Sync>(
             return Err(fault);
         }
     }
-    let planned = &designed.planned;
-    let text = text_of(
-        rt,
-        alloc,
-        &designed.checked,
-        &planned.resolved,
-        &planned.times,
-    );
+    let text = text_of(rt, alloc, &designed.checked, &designed.planned);
     drop(designed);
     match text {
         Ok(text) => Ok(text),

@@ -9,14 +9,9 @@ ghost use Rattle.fx_top.specs.Summarized.{IsSummed};
 
 use crate::answer::Answer;
 use crate::bench::TrueBench;
-use crate::check::check;
 use crate::command::Command;
-use crate::explore::explore;
-use crate::generate::generate;
-use crate::replay::replay;
 use crate::sample::sample;
-use crate::simulate::simulate;
-use crate::stream::stream;
+use crate::task::over_files;
 use fx_io::{Shelf, Sink};
 use std::alloc::Global;
 use std::thread::Threads;
@@ -77,17 +72,14 @@ fn carry_out<'a, R: Threads + Sync, S: Shelf, K: Sink>(
 {
     match Command::of_words(words) {
         None => Answer::Usage,
-        Some(Command::Generate { model, plan }) => generate(rt, alloc, model, plan, shelf, out),
-        Some(Command::Replay { verilog, stimulus }) => {
-            replay(alloc, verilog, stimulus, shelf, out)
-        }
-        Some(Command::Simulate { model, stimulus }) => {
-            simulate(alloc, model, stimulus, shelf, out)
-        }
-        Some(Command::Explore { model, range }) => explore(rt, alloc, model, range, shelf, out),
-        Some(Command::Check { model, plan }) => check(alloc, model, plan, shelf, out),
-        Some(Command::Stream { model, plan }) => stream(rt, alloc, model, plan, shelf, out),
-        Some(Command::Sample { number }) => { replayed_sample(rt, alloc, number, out) }
+        Some(
+            Command::OverFiles {
+                task,
+                first,
+                second,
+            },
+        ) => over_files(rt, alloc, task, first, second, shelf, out),
+        Some(Command::Sample { number }) => replayed_sample(rt, alloc, number, out),
     }
 }
 

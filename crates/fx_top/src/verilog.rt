@@ -1,61 +1,42 @@
 ghost use Rattle.std.specs.Prelude.{IfErr, IfOk, flat_map};
-ghost use Rattle.dg_model.specs.PlanOf.{IsPlanOf};
 ghost use Rattle.fx_designed.specs.Refused.{IsRefusedDesign};
 ghost use Rattle.fx_top.specs.Generated.{IsVerilogOf};
-ghost use Rattle.fx_top.specs.inner.Generating.{IsWrittenOf};
+ghost use Rattle.fx_top.specs.inner.Generating.{IsPlanOn, IsWrittenOf};
 ghost use Rattle.fx_top.specs.inner.Streaming.{IsCoreOf};
-ghost use Rattle.hw_build.specs.Built.{IsBuiltBy};
-ghost use Rattle.hw_rules.specs.Times.{AreTimes};
 
-use dg_model::{Checked, Resolved};
+use dg_model::Checked;
 use fx_designed::{DesignFault, designed_of};
 use fx_io::{OpenGate, OutOfMemory, Text};
 use hw_build::build;
 use hw_module::module_of;
-use hw_net::Netlist;
-use hw_rules::Times;
+use hw_rules::Planned;
 use hw_sched::SizeFault;
 use std::alloc::Global;
 use std::thread::Threads;
 use vl_ast::Module;
 
-/// The netlist of a diagram by a plan with its times.
-pub fn netlist_of(
-    alloc: Global,
-    checked: &Checked,
-    plan: &Resolved,
-    times: &Times,
-) -> Result<Netlist, OutOfMemory>
-    requires plan { IsPlanOf checked.now.diagram plan.now }
-    requires times { AreTimes checked.now.diagram plan.now times.now }
-    ensures { IfOk result (IsBuiltBy checked.now.diagram plan.now times.now.latencies
-        times.now.slots) }
-{
-    match build(alloc, checked, plan, &times.latencies, &times.slots) {
-        Ok(netlist) => Ok(netlist),
-        Err(SizeFault::Size { .. }) => unreachable!(),
-        Err(SizeFault::OutOfMemory) => Err(OutOfMemory),
-    }
-}
-
 /// The module of a diagram by a plan with its times.
-pub fn made_of(
-    alloc: Global,
-    checked: &Checked,
-    plan: &Resolved,
-    times: &Times,
-) -> Result<Module, OutOfMemory>
-    requires plan { IsPlanOf checked.now.diagram plan.now }
-    requires times { AreTimes checked.now.diagram plan.now times.now }
-    ensures { IfOk result (IsCoreOf checked.now.diagram plan.now times.now) }
+pub fn made_of(alloc: Global, checked: &Checked, planned: &Planned) -> Result<Module, OutOfMemory>
+    requires { IsPlanOn checked.now.diagram planned.now }
+    ensures { IfOk result (IsCoreOf checked.now.diagram planned.now.resolved planned.now.times) }
 {
-    let netlist = netlist_of(alloc, checked, plan, times)?;
+    let netlist = match build(
+        alloc,
+        checked,
+        &planned.resolved,
+        &planned.times.latencies,
+        &planned.times.slots,
+    ) {
+        Ok(netlist) => netlist,
+        Err(SizeFault::Size { .. }) => unreachable!(),
+        Err(SizeFault::OutOfMemory) => return Err(OutOfMemory),
+    };
     let made = module_of(
         alloc,
         checked,
-        plan,
-        &times.latencies,
-        &times.slots,
+        &planned.resolved,
+        &planned.times.latencies,
+        &planned.times.slots,
         &netlist,
     );
     drop(netlist);
@@ -67,15 +48,13 @@ pub fn text_of<R: Threads + Sync>(
     rt: &R,
     alloc: Global,
     checked: &Checked,
-    plan: &Resolved,
-    times: &Times,
+    planned: &Planned,
 ) -> Result<Text, OutOfMemory>
-    requires plan { IsPlanOf checked.now.diagram plan.now }
-    requires times { AreTimes checked.now.diagram plan.now times.now }
-    ensures { IfOk result (IsWrittenOf checked.now.diagram plan.now times.now) }
+    requires { IsPlanOn checked.now.diagram planned.now }
+    ensures { IfOk result (IsWrittenOf checked.now.diagram planned.now.resolved planned.now.times) }
 {
     vl_read::unique();
-    let made = made_of(alloc, checked, plan, times)?;
+    let made = made_of(alloc, checked, planned)?;
     let text = vl_write::write(rt, alloc, &made, &OpenGate);
     drop(made);
     text
@@ -86,16 +65,14 @@ fn parts_of<R: Threads + Sync>(
     rt: &R,
     alloc: Global,
     checked: &Checked,
-    plan: &Resolved,
-    times: &Times,
+    planned: &Planned,
 ) -> Result<Vec<Vec<u8>>, OutOfMemory>
-    requires plan { IsPlanOf checked.now.diagram plan.now }
-    requires times { AreTimes checked.now.diagram plan.now times.now }
-    ensures { IfOk result (λ parts. IsWrittenOf checked.now.diagram plan.now times.now
+    requires { IsPlanOn checked.now.diagram planned.now }
+    ensures { IfOk result (λ parts. IsWrittenOf checked.now.diagram planned.now.resolved planned.now.times
         (flat_map (λ part. part.items) parts.items)) }
 {
     vl_read::unique();
-    let made = made_of(alloc, checked, plan, times)?;
+    let made = made_of(alloc, checked, planned)?;
     let parts = vl_write::spelled(rt, alloc, &made, &OpenGate);
     drop(made);
     parts
@@ -116,14 +93,7 @@ pub fn verilog_of<R: Threads + Sync>(
         Ok(designed) => designed,
         Err(fault) => return Err(fault),
     };
-    let planned = &designed.planned;
-    let parts = parts_of(
-        rt,
-        alloc,
-        &designed.checked,
-        &planned.resolved,
-        &planned.times,
-    );
+    let parts = parts_of(rt, alloc, &designed.checked, &designed.planned);
     drop(designed);
     match parts {
         Ok(parts) => Ok(parts),

@@ -29,12 +29,8 @@ abbrev pub IsFetchAnswer : Files → List ℕ → Answer → Type 0
 IsFetchAnswer files file answer =
     (answer ≡ OutOfMemory) ⊎ (IsUnread files file answer ⊎ IsUnfit files file answer)
 
--- of a plan: the empty one is always to be had
-abbrev pub IsPlanAnswer : Files → PlanWord → Answer → Type 0
-IsPlanAnswer files EmptyPlan answer = ⊥
-IsPlanAnswer files (Named file) answer = IsFetchAnswer files file answer
-
--- of two files: the first was not to be had, or it was and this is the answer of the second
-abbrev pub IsPairAnswer : Files → List ℕ → (Answer → Type 0) → Answer → Type 0
-IsPairAnswer files first second answer =
-    IsFetchAnswer files first answer ⊎ ((bytes : List ℕ) × (Fetched (files.held first) file_limit bytes × second answer))
+-- of two files: the first was not to be had, or it was and this is the answer of the second, which the empty plan has none of
+abbrev pub IsPairAnswer : Files → List ℕ → PlanWord → Answer → Type 0
+IsPairAnswer files first EmptyPlan answer = IsFetchAnswer files first answer
+IsPairAnswer files first (Named second) answer =
+    IsFetchAnswer files first answer ⊎ ((bytes : List ℕ) × (Fetched (files.held first) file_limit bytes × IsFetchAnswer files second answer))

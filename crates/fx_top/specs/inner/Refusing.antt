@@ -1,62 +1,60 @@
--- Which fault an answer tells, and of which file, and how a text was put.
-use Rattle.std.specs.Prelude.{◌≡◌, ⊤, ℕ, List, Result, Ok, Err}
-use Rattle.fx_designed.specs.declared.designing.DesignFault.{DesignFault}
-use Rattle.fx_designed.specs.declared.designing.DesignFault.TheVariants as design
-use Rattle.fx_designed.specs.declared.refusal.ModelRefusal.{ModelRefusal}
-use Rattle.fx_designed.specs.declared.refusal.ModelRefusal.TheVariants as refusal
+-- What each fault says of the texts of a command's files, and the answer to how a task ended.
+use Rattle.std.specs.Prelude.{⊤, ◌⊎◌, ℕ, List, Result, Ok, Err}
+use Rattle.std.specs.Borrow.{Bor}
+use Rattle.fx_designed.specs.Design.{IsBadPlan, TellsPlanRule}
 use Rattle.fx_io.specs.declared.sink.PutFault.{PutFault}
+use Rattle.fx_model.specs.Model.{IsNotMdl}
+use Rattle.fx_model.specs.RuleLine.{TellsRule}
 use Rattle.fx_tables.specs.declared.table.TableCause.{TableCause}
 use Rattle.fx_top.specs.declared.answer.Answer.{Answer}
-use Rattle.fx_top.specs.declared.answer.Answer.TheVariants.{Done, OutOfMemory, Usage, CannotRead, CannotWrite, NotMdl, BadTable, BreaksRule, NotVerilog, Broken, TooLong}
-use Rattle.fx_top.specs.declared.response.ReplayFault.{ReplayFault}
-use Rattle.fx_top.specs.declared.response.ReplayFault.TheVariants as replaying
-use Rattle.fx_top.specs.declared.simulated.SimulationFault.{SimulationFault}
-use Rattle.fx_top.specs.declared.simulated.SimulationFault.TheVariants as simulating
-use Rattle.vl_check.specs.declared.fault.VlFault.{VlFault}
+use Rattle.fx_top.specs.declared.answer.Answer.TheVariants.{Done, OutOfMemory, CannotWrite, NotMdl, BadTable, BreaksRule, NotVerilog, Broken}
+use Rattle.fx_top.specs.declared.fault.Fault.{Fault}
+use Rattle.fx_top.specs.declared.fault.Fault.TheVariants as fault
+use Rattle.fx_top.specs.Replayed.{IsBadStimulus, IsBroken, IsNotVerilog}
+use Rattle.fx_top.specs.Simulated.{IsBadSimulation}
+use Rattle.fx_top.specs.Streamed.{TellsStreamRule}
 
--- what each answer says that tells a fault of what was fetched
-abbrev pub Answers : (List ℕ → ℕ → Type 0) → (List ℕ → ℕ → TableCause → Type 0) → (List ℕ → Type 0)
-    → (List ℕ → ℕ → Type 0) → (List ℕ → VlFault → Type 0) → Answer → Type 0
-Answers tree table rule text condition Done = ⊥
-Answers tree table rule text condition OutOfMemory = ⊤
-Answers tree table rule text condition Usage = ⊥
-Answers tree table rule text condition (CannotRead file) = ⊥
-Answers tree table rule text condition CannotWrite = ⊥
-Answers tree table rule text condition (NotMdl file line) = tree file.now line
-Answers tree table rule text condition (BadTable file line cause) = table file.now line cause
-Answers tree table rule text condition (BreaksRule line) = rule line
-Answers tree table rule text condition (NotVerilog file line) = text file.now line
-Answers tree table rule text condition (Broken file fault) = condition file.now fault
-Answers tree table rule text condition (TooLong file length) = ⊥
-
--- it tells this fault of a model and of a plan, by their names
-abbrev pub AnswersDesign : List ℕ → List ℕ → DesignFault → Answer → Type 0
-AnswersDesign model plan fault =
-    Answers (λ file line. (file ≡ model) × (fault ≡ design.NotMdl line))
-    (λ file line cause. (file ≡ plan) × (fault ≡ design.BadPlan line cause))
-    (λ line. fault ≡ design.BreaksRule line) (λ file line. ⊥) (λ file broken. ⊥)
+-- of a model, by what a broken rule says and what a bad line
+abbrev pub OfModel : List ℕ → (List ℕ → Type 0) → (ℕ → TableCause → Type 0) → Fault → Type 0
+OfModel model rule bad (fault.NotMdl line) = IsNotMdl model line
+OfModel model rule bad (fault.BreaksRule line) = rule line
+OfModel model rule bad (fault.NotVerilog line) = ⊥
+OfModel model rule bad (fault.Broken condition) = ⊥
+OfModel model rule bad (fault.BadTable line cause) = bad line cause
+OfModel model rule bad fault.OutOfMemory = ⊤
 
 -- of a model alone
-abbrev pub AnswersModel : List ℕ → ModelRefusal → Answer → Type 0
-AnswersModel model fault =
-    Answers (λ file line. (file ≡ model) × (fault ≡ refusal.NotMdl line)) (λ file line cause. ⊥)
-    (λ line. fault ≡ refusal.BreaksRule line) (λ file line. ⊥) (λ file broken. ⊥)
+abbrev pub IsModelFault : List ℕ → Fault → Type 0
+IsModelFault model = OfModel model (TellsRule model) (λ line cause. ⊥)
 
--- of a model and of a stimulus
-abbrev pub AnswersSimulation : List ℕ → List ℕ → SimulationFault → Answer → Type 0
-AnswersSimulation model stimulus fault =
-    Answers (λ file line. (file ≡ model) × (fault ≡ simulating.NotMdl line))
-    (λ file line cause. (file ≡ stimulus) × (fault ≡ simulating.BadTable line cause))
-    (λ line. fault ≡ simulating.BreaksRule line) (λ file line. ⊥) (λ file broken. ⊥)
+-- of a model and a plan
+abbrev pub IsDesignFault : List ℕ → List ℕ → Fault → Type 0
+IsDesignFault model plan = OfModel model (λ line. TellsRule model line ⊎ TellsPlanRule model plan line) (IsBadPlan model plan)
 
--- of a Verilog text and of a stimulus
-abbrev pub AnswersReplay : List ℕ → List ℕ → ReplayFault → Answer → Type 0
-AnswersReplay verilog stimulus fault =
-    Answers (λ file line. ⊥) (λ file line cause. (file ≡ stimulus) × (fault ≡ replaying.BadTable line cause)) (λ line. ⊥)
-    (λ file line. (file ≡ verilog) × (fault ≡ replaying.NotVerilog line))
-    (λ file broken. (file ≡ verilog) × (fault ≡ replaying.Broken broken))
+-- of those, with valid and ready
+abbrev pub IsStreamFault : List ℕ → List ℕ → Fault → Type 0
+IsStreamFault model plan = OfModel model (λ line. TellsRule model line ⊎ (TellsPlanRule model plan line ⊎ TellsStreamRule model plan line)) (IsBadPlan model plan)
 
--- it tells whether a text was put whole
-abbrev pub AnswersPut : Result ⊤ PutFault → Answer → Type 0
-AnswersPut (Ok whole) answer = answer ≡ Done
-AnswersPut (Err fault) answer = answer ≡ CannotWrite
+-- of a model and a stimulus
+abbrev pub IsSimulationFault : List ℕ → List ℕ → Fault → Type 0
+IsSimulationFault model stimulus = OfModel model (TellsRule model) (IsBadSimulation model stimulus)
+
+-- of a Verilog text and a stimulus
+abbrev pub IsReplayFault : List ℕ → List ℕ → Fault → Type 0
+IsReplayFault verilog stimulus (fault.NotMdl line) = ⊥
+IsReplayFault verilog stimulus (fault.BreaksRule line) = ⊥
+IsReplayFault verilog stimulus (fault.NotVerilog line) = IsNotVerilog verilog line
+IsReplayFault verilog stimulus (fault.Broken condition) = IsBroken verilog condition
+IsReplayFault verilog stimulus (fault.BadTable line cause) = IsBadStimulus verilog stimulus line cause
+IsReplayFault verilog stimulus fault.OutOfMemory = ⊤
+
+-- the answer over files of these names
+abbrev pub answer_to : Bor (List ℕ) → Bor (List ℕ) → Result (Result ⊤ PutFault) Fault → Answer
+answer_to first second (Ok (Ok whole)) = Done
+answer_to first second (Ok (Err part)) = CannotWrite
+answer_to first second (Err (fault.NotMdl line)) = NotMdl first line
+answer_to first second (Err (fault.BreaksRule line)) = BreaksRule line
+answer_to first second (Err (fault.NotVerilog line)) = NotVerilog first line
+answer_to first second (Err (fault.Broken condition)) = Broken first condition
+answer_to first second (Err (fault.BadTable line cause)) = BadTable second line cause
+answer_to first second (Err fault.OutOfMemory) = OutOfMemory

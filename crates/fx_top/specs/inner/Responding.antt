@@ -1,5 +1,6 @@
 -- A machine of a Verilog text, and a response that is ready to be written.
-use Rattle.std.specs.Prelude.{◌≡◌, ℕ, ℤ, List, length, ⊤}
+use Rattle.std.specs.Prelude.{◌≡◌, ℕ, ℤ, List, length}
+use Rattle.fx_tables.specs.declared.row_text.RowText.{RowText}
 use Rattle.fx_tables.specs.Response.{response}
 use Rattle.fx_tables.specs.RowText.{periods_of}
 use Rattle.vl_ast.specs.Driven.{output_ports}
@@ -10,10 +11,8 @@ use Rattle.vl_eval.specs.declared.machine.Machine.{Machine}
 use Rattle.vl_replay.specs.Replays.{StandsBefore, module_of, stimulus_of}
 use Rattle.vl_replay.specs.Sampled.{Sampled, numbers_of}
 use Rattle.vl_replay.specs.declared.replay.Replay.{Replay}
-use Rattle.fx_top.specs.declared.response.ReplayFault.{ReplayFault}
-use Rattle.fx_top.specs.declared.response.ReplayFault.TheVariants.{NotVerilog, Broken, BadTable, OutOfMemory}
 use Rattle.fx_top.specs.declared.response.Response.{Response}
-use Rattle.fx_top.specs.Replayed.{IsBadStimulus, IsBroken, IsNotVerilog, IsReplayOf, IsSoundText}
+use Rattle.fx_top.specs.Replayed.{IsReplayOf, IsSoundText}
 
 -- a machine in row 0 of the module that the text spells
 pub record IsMachineOf (verilog : List ℕ) (machine : Machine) : Type 0 where
@@ -34,9 +33,9 @@ pub record IsResponseTo (verilog stimulus : List ℕ) (ready : Response) : Type 
   pub sampled : IsTableOf ready.replay table
   pub replay : IsReplayOf verilog stimulus (response (periods_of ready.text) table ready.samples)
 
--- why the text has no response to the stimulus
-abbrev pub IsFaultOf : List ℕ → List ℕ → ReplayFault → Type 0
-IsFaultOf verilog stimulus (NotVerilog line) = IsNotVerilog verilog line
-IsFaultOf verilog stimulus (Broken fault) = IsBroken verilog fault
-IsFaultOf verilog stimulus (BadTable line cause) = IsBadStimulus verilog stimulus line cause
-IsFaultOf verilog stimulus OutOfMemory = ⊤
+-- a replay and the writer of its lines stand before a sample, and are of the module, the stimulus and the periods of the first
+pub record GoesOn (first : Replay) (writer : RowText) (sample : ℕ) (replay : Replay) (text : RowText) : Type 0 where
+  pub stands : StandsBefore replay sample
+  pub source : module_of replay ≡ module_of first
+  pub stimulus : stimulus_of replay ≡ stimulus_of first
+  pub periods : periods_of text ≡ periods_of writer

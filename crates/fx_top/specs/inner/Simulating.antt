@@ -7,8 +7,7 @@ use Rattle.dg_response.specs.Laws.{SomeResponse}
 use Rattle.dg_response.specs.Responding.{IsBefore, row_of}
 use Rattle.dg_response.specs.Response.{input_columns, output_columns, IsResponse}
 use Rattle.fx_io.specs.Sink.{TookProperPrefix, also_took}
-use Rattle.fx_model.specs.Model.{IsModelOf, IsNotMdl}
-use Rattle.fx_model.specs.RuleLine.{TellsRule}
+use Rattle.fx_model.specs.Model.{IsModelOf}
 use Rattle.fx_tables.specs.declared.table.Column.{Column}
 use Rattle.fx_tables.specs.declared.table.Rows.{Rows}
 use Rattle.fx_tables.specs.declared.table.TableFault.TheVariants.{Bad}
@@ -17,9 +16,10 @@ use Rattle.fx_tables.specs.RowText.{periods_of}
 use Rattle.fx_tables.specs.Stimulus.{IsRows, stimulus_fault}
 use Rattle.fx_top.specs.declared.simulated.ModelSimulation.{ModelSimulation}
 use Rattle.fx_top.specs.declared.simulated.Simulation.{Simulation}
-use Rattle.fx_top.specs.declared.simulated.SimulationFault.{SimulationFault}
-use Rattle.fx_top.specs.declared.simulated.SimulationFault.TheVariants.{NotMdl, BreaksRule, BadTable, OutOfMemory}
-use Rattle.fx_top.specs.Simulated.{IsBadSimulation, output_periods}
+use Rattle.fx_top.specs.declared.fault.Fault.{Fault}
+use Rattle.fx_top.specs.declared.fault.Fault.TheVariants.{NotMdl, BreaksRule, NotVerilog, Broken, BadTable, OutOfMemory}
+use Rattle.fx_top.specs.Simulated.{output_periods}
+use Rattle.fx_top.specs.inner.Refusing.{IsSimulationFault}
 
 -- the response of a diagram to a stimulus is ready to be written
 pub record IsSimulationIn (checked : CheckedDiagram) (stimulus : List ℕ) (ready : Simulation) : Type 0 where
@@ -58,19 +58,14 @@ pub record IsReadyFor (checked : CheckedDiagram) (columns : RootColumns) (rows :
   pub periods : periods_of ready.text ≡ map (λ (column : Column). column.period) columns.outputs
 
 -- what a fault says of a stimulus of these columns
-abbrev pub IsRowsFault : RootColumns → List ℕ → SimulationFault → Type 0
+abbrev pub IsRowsFault : RootColumns → List ℕ → Fault → Type 0
 IsRowsFault columns stimulus (NotMdl line) = ⊥
 IsRowsFault columns stimulus (BreaksRule line) = ⊥
+IsRowsFault columns stimulus (NotVerilog line) = ⊥
+IsRowsFault columns stimulus (Broken condition) = ⊥
 IsRowsFault columns stimulus (BadTable line cause) = stimulus_fault columns.inputs (length columns.outputs) stimulus ≡ Some (Bad line cause)
 IsRowsFault columns stimulus OutOfMemory = ⊤
 
--- what a fault says of a model and a stimulus
-abbrev pub IsFaultOf : List ℕ → List ℕ → SimulationFault → Type 0
-IsFaultOf source stimulus (NotMdl line) = IsNotMdl source line
-IsFaultOf source stimulus (BreaksRule line) = TellsRule source line
-IsFaultOf source stimulus (BadTable line cause) = IsBadSimulation source stimulus line cause
-IsFaultOf source stimulus OutOfMemory = ⊤
-
 -- it is a fault of every model of this diagram
-unfoldable pub Refuses : Diagram → List ℕ → SimulationFault → Type 0
-Refuses diagram stimulus fault = (source : List ℕ) → IsModelOf source diagram → IsFaultOf source stimulus fault
+unfoldable pub Refuses : Diagram → List ℕ → Fault → Type 0
+Refuses diagram stimulus fault = (source : List ℕ) → IsModelOf source diagram → IsSimulationFault source stimulus fault

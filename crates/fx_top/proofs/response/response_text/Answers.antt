@@ -2,26 +2,20 @@ use Rattle.std.proofs.Common.{◌≡◌, ◌++◌, ℕ, List, IfOk, ap, subst, �
 use Rattle.fx_tables.specs.Response.{response}
 use Rattle.fx_tables.specs.RowText.{periods_of}
 use Rattle.fx_top.proofs.Lines.{one-line-more}
-use Rattle.fx_top.proofs.Responses.{line-of, moved-table}
+use Rattle.fx_top.proofs.Responses.{goes-on, line-on}
 use Rattle.fx_top.proofs.response.response_text.Goals as goal
 
 pub loop-sample-preserved : goal.loop-sample-preserved
 loop-sample-preserved c =
     let periods = periods_of c.args.text.now in
     let t = c.loop-sample.sample in
-    let source = c.advance.ensures.source ∙ c.loop-sample.invariant.source in
-    let stimulus = c.advance.ensures.stimulus ∙ c.loop-sample.invariant.stimulus in
+    let goes = c.loop-sample.invariant.goes in
     record {
-      stands = c.advance.ensures.stands;
-      source = source;
-      stimulus = stimulus;
-      periods = c.line.follows.holds-at-none ∙ c.loop-sample.invariant.periods;
+      goes = goes-on goes c.advance.new.self c.advance.ensures.source c.advance.ensures.stimulus _ c.advance.ensures.stands c.line.follows.holds-at-none;
       lines = λ table is.
-          let here = moved-table c.advance.new.self c.args.replay.now table source stimulus is in
-          let line = line-of table c.line.ensures.line c.loop-sample.invariant.periods (c.row.ensures.sampled table here) in
           c.in_ok-extend_from_slice.ensures.items
           ∙ ap (λ (bytes : List ℕ). bytes ++ c.line.result.now) (c.loop-sample.invariant.lines table is)
-          ∙ ap (λ (bytes : List ℕ). response periods table t ++ bytes) line
+          ∙ ap (λ (bytes : List ℕ). response periods table t ++ bytes) (line-on goes c.advance.new.self c.advance.ensures.source c.advance.ensures.stimulus c.row.result.now c.line.result.now c.row.ensures.sampled c.line.ensures.line table is)
           ∙ one-line-more periods table t;
     }
 

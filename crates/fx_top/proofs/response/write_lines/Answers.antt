@@ -3,33 +3,25 @@ use Rattle.fx_io.specs.Sink.{TookProperPrefix, also_took}
 use Rattle.fx_tables.specs.Response.{response, response_line}
 use Rattle.fx_tables.specs.RowText.{periods_of}
 use Rattle.fx_top.proofs.Lines.{one-line-more, took-part}
-use Rattle.fx_top.proofs.Responses.{line-of, moved-table}
+use Rattle.fx_top.proofs.Responses.{goes-on, line-on}
 use Rattle.fx_io.proofs.Taken.{also_took-append}
 use Rattle.fx_top.proofs.response.write_lines.Goals as goal
 
 pub returns-in-Err-clause-cut : goal.returns-in-Err-clause-cut
 returns-in-Err-clause-cut g c = λ table is.
-    let periods = periods_of c.args.text.now in
-    let t = c.loop-sample.sample in
-    let here = moved-table c.advance.new.self c.args.replay.now table (c.advance.ensures.source ∙ c.loop-sample.invariant.source) (c.advance.ensures.stimulus ∙ c.loop-sample.invariant.stimulus) is in
-    let line = line-of table c.line.ensures.line c.loop-sample.invariant.periods (c.row.ensures.sampled table here) in
-    took-part periods table t c.args.samples (g.K.Sink.taken c.args.out.now) (g.K.Sink.taken c.loop-sample.out) (g.K.Sink.taken c.put_all.new.sink) c.loop-sample-test.true (c.loop-sample.invariant.taken table is)
+    let line = line-on c.loop-sample.invariant.goes c.advance.new.self c.advance.ensures.source c.advance.ensures.stimulus c.row.result.now c.line.result.now c.row.ensures.sampled c.line.ensures.line table is in
+    took-part (periods_of c.args.text.now) table c.loop-sample.sample c.args.samples (g.K.Sink.taken c.args.out.now) (g.K.Sink.taken c.loop-sample.out) (g.K.Sink.taken c.put_all.new.sink) c.loop-sample-test.true (c.loop-sample.invariant.taken table is)
     (subst (λ (bytes : List ℕ). TookProperPrefix (g.K.Sink.taken c.loop-sample.out) (g.K.Sink.taken c.put_all.new.sink) bytes) line c.in-Err.ensures.cut)
 
 pub loop-sample-preserved : goal.loop-sample-preserved
 loop-sample-preserved g c =
     let periods = periods_of c.args.text.now in
     let t = c.loop-sample.sample in
-    let source = c.advance.ensures.source ∙ c.loop-sample.invariant.source in
-    let stimulus = c.advance.ensures.stimulus ∙ c.loop-sample.invariant.stimulus in
+    let goes = c.loop-sample.invariant.goes in
     record {
-      stands = c.advance.ensures.stands;
-      source = source;
-      stimulus = stimulus;
-      periods = c.line.follows.holds-at-none ∙ c.loop-sample.invariant.periods;
+      goes = goes-on goes c.advance.new.self c.advance.ensures.source c.advance.ensures.stimulus _ c.advance.ensures.stands c.line.follows.holds-at-none;
       taken = λ table is.
-          let here = moved-table c.advance.new.self c.args.replay.now table source stimulus is in
-          let line = line-of table c.line.ensures.line c.loop-sample.invariant.periods (c.row.ensures.sampled table here) in
+          let line = line-on goes c.advance.new.self c.advance.ensures.source c.advance.ensures.stimulus c.row.result.now c.line.result.now c.row.ensures.sampled c.line.ensures.line table is in
           c.in_default.ensures.whole
           ∙ ap (λ (told : Option (List ℕ)). also_took told c.line.result.now) (c.loop-sample.invariant.taken table is)
           ∙ ap (also_took (also_took (g.K.Sink.taken c.args.out.now) (response periods table t))) line

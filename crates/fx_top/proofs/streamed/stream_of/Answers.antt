@@ -18,15 +18,15 @@ wrap-made-requires-clause-keeps c = c.in_ok-core.ensures.keeps
 pub wrap-made-requires-clause-names : goal.wrap-made-requires-clause-names
 wrap-made-requires-clause-names c =
     let laws : Laws = record { inputs = c.root_elements_are_listed.ensures.inputs; outputs = c.root_elements_are_listed.ensures.outputs; fits = c.ready_fits.ensures } in
-    let core = is-core c.args.checked.now.diagram c.args.plan.now c.args.times.now c.in_ok-core.core c.as_slice.result.now c.slots_are_scheduled.ensures c.keeps_rules.ensures.checked
-    c.requires.plan c.requires.times c.requires.steady c.in_ok-core.ensures (subst (AreStreamNames c.args.checked.now.diagram) (sym c.as_slice.ensures) c.in_ok-names.ensures.names) in
+    let core = is-core c.args.checked.now.diagram c.args.planned.now.resolved c.args.planned.now.times c.in_ok-core.core c.as_slice.result.now c.slots_are_scheduled.ensures c.keeps_rules.ensures.checked
+    c.requires.on.plan c.requires.on.times c.requires.steady c.in_ok-core.ensures (subst (AreStreamNames c.args.checked.now.diagram) (sym c.as_slice.ensures) c.in_ok-names.ensures.names) in
     column-names laws core
 
 pub returns-clause-streams : goal.returns-clause-streams
 returns-clause-streams c =
     let laws : Laws = record { inputs = c.root_elements_are_listed.ensures.inputs; outputs = c.root_elements_are_listed.ensures.outputs; fits = c.ready_fits.ensures } in
-    let core = is-core c.args.checked.now.diagram c.args.plan.now c.args.times.now c.in_ok-core.core c.as_slice.result.now c.slots_are_scheduled.ensures c.keeps_rules.ensures.checked
-    c.requires.plan c.requires.times c.requires.steady c.in_ok-core.ensures (subst (AreStreamNames c.args.checked.now.diagram) (sym c.as_slice.ensures) c.in_ok-names.ensures.names) in
+    let core = is-core c.args.checked.now.diagram c.args.planned.now.resolved c.args.planned.now.times c.in_ok-core.core c.as_slice.result.now c.slots_are_scheduled.ensures c.keeps_rules.ensures.checked
+    c.requires.on.plan c.requires.on.times c.requires.steady c.in_ok-core.ensures (subst (AreStreamNames c.args.checked.now.diagram) (sym c.as_slice.ensures) c.in_ok-names.ensures.names) in
     let e = c.wrap-made.ensures in
     stream-all laws core c.wrap-made.result e.header e.conditions e.products e.handshake e.transfers e.follows
 

@@ -5,4 +5,4 @@ use Rattle.fx_top.proofs.streamed.text_of.Goals as goal
 pub returns : goal.returns
 returns g c =
     IfOk-weaker c.write-text.result _ _
-    (λ text is. stream-written c.args.checked.now.diagram c.args.plan.now c.args.times.now c.in_ok-module.module text c.unique.ensures c.in_ok-module.ensures.streams c.in_ok-module.ensures.spelled is) c.write-text.ensures.text
+    (λ text is. stream-written c.args.checked.now.diagram c.args.planned.now.resolved c.args.planned.now.times c.in_ok-module.module text c.unique.ensures c.in_ok-module.ensures.streams c.in_ok-module.ensures.spelled is) c.write-text.ensures.text
