@@ -2,6 +2,7 @@
 ghost use Rattle.std.specs.Prelude.{◌≡◌, ◌≤◌, [], ◌∷◌, ◌++◌, IfOk, IsTrue, OnOk, length, map, slice_index_or, take};
 ghost use Rattle.std.specs.Fmt.{decimal, signed_decimal};
 ghost use Rattle.std.specs.List.{flat_map};
+ghost use Rattle.fx_model.specs.inner.Pieces.{piece_text};
 ghost use Rattle.fx_model.specs.RuleLine.{cycle_text, period_text, place_text, quoted_byte, quoted_path, rule_line, shown_text};
 
 use dg_model::{Block, Path, RuleFault, Shown};
@@ -15,11 +16,17 @@ pub fn rule_text(alloc: Global, fault: &RuleFault, blocks: &[Block]) -> Result<T
         (λ block. block.path) blocks.now) fault.now) }
 {
     let mut line = Vec::new(alloc);
-    push(&mut line, b"rule ")?;
-    push_number(&mut line, u64::from(fault.rule.number()))?;
-    push(&mut line, b" (")?;
-    push(&mut line, fault.rule.word())?;
-    push(&mut line, b"): ")?;
+    push_pieces(
+        &mut line,
+        &[
+            Piece::Bytes(b"rule "),
+            Piece::Number(u64::from(fault.rule.number())),
+            Piece::Bytes(b" ("),
+            Piece::Bytes(fault.rule.word()),
+            Piece::Bytes(b"): "),
+        ],
+        blocks,
+    )?;
     push_place(&mut line, fault.place.bytes())?;
     push_shown(&mut line, &fault.shown, blocks)?;
     push(&mut line, b"\n")?;
@@ -178,53 +185,107 @@ pub fn push_shown(line: &mut Vec<u8>, shown: &Shown, blocks: &[Block]) -> Result
 {
     match shown {
         Shown::Nothing => Ok(()),
-        Shown::Word(word) => {
-            push(line, b": ")?;
-            push_escaped(line, word.bytes())
-        }
-        Shown::Periods { own, other } => {
-            push(line, b": periods ")?;
-            push_period(line, *own)?;
-            push(line, b" ")?;
-            push_period(line, *other)
-        }
-        Shown::Cycle { blocks: numbers } => {
-            push(line, b": cycle")?;
-            push_cycle(line, numbers.as_slice(), blocks)
-        }
+        Shown::Word(word) => push_pieces(
+            line,
+            &[Piece::Bytes(b": "), Piece::Escaped(word.bytes())],
+            blocks,
+        ),
+        Shown::Periods { own, other } => push_pieces(
+            line,
+            &[
+                Piece::Bytes(b": periods "),
+                Piece::Period(*own),
+                Piece::Bytes(b" "),
+                Piece::Period(*other),
+            ],
+            blocks,
+        ),
+        Shown::Cycle { blocks: numbers } => push_pieces(
+            line,
+            &[Piece::Bytes(b": cycle"), Piece::Cycle(numbers.as_slice())],
+            blocks,
+        ),
         Shown::Latency {
             blocks: numbers,
             total,
-        } => {
-            push(line, b": total ")?;
-            push_signed(line, *total)?;
-            push(line, b" cycle")?;
-            push_cycle(line, numbers.as_slice(), blocks)
-        }
-        Shown::Budget { period, need, have } => {
-            push(line, b": period ")?;
-            push_number(line, u64::from(*period))?;
-            push_pair(line, b" need ", *need, b" have ", *have)
-        }
-        Shown::Size { storage, latency } => {
-            push_pair(line, b": storage ", *storage, b" latency ", *latency)
-        }
+        } => push_pieces(
+            line,
+            &[
+                Piece::Bytes(b": total "),
+                Piece::Signed(*total),
+                Piece::Bytes(b" cycle"),
+                Piece::Cycle(numbers.as_slice()),
+            ],
+            blocks,
+        ),
+        Shown::Budget { period, need, have } => push_pieces(
+            line,
+            &[
+                Piece::Bytes(b": period "),
+                Piece::Number(u64::from(*period)),
+                Piece::Bytes(b" need "),
+                Piece::Number(*need),
+                Piece::Bytes(b" have "),
+                Piece::Number(*have),
+            ],
+            blocks,
+        ),
+        Shown::Size { storage, latency } => push_pieces(
+            line,
+            &[
+                Piece::Bytes(b": storage "),
+                Piece::Number(*storage),
+                Piece::Bytes(b" latency "),
+                Piece::Number(*latency),
+            ],
+            blocks,
+        ),
     }
 }
 
-/// Adds two numbers, each behind its word.
-fn push_pair(
+/// A piece of a line.
+#[derive(Clone, Copy)]
+pub enum Piece<'a> {
+    /// Bytes as they are.
+    Bytes(&'a [u8]),
+    /// Bytes of a name as they stand between quotes.
+    Escaped(&'a [u8]),
+    /// A number in decimal.
+    Number(u64),
+    /// A number in decimal, with a minus where it is below 0.
+    Signed(i64),
+    /// A period.
+    Period(u32),
+    /// The paths of blocks, each behind a space.
+    Cycle(&'a [u32]),
+}
+
+/// Adds pieces, one after another.
+fn push_pieces(
     line: &mut Vec<u8>,
-    first: &[u8],
-    one: u64,
-    second: &[u8],
-    other: u64,
+    pieces: &[Piece<'_>],
+    blocks: &[Block],
 ) -> Result<(), OutOfMemory>
-    ensures { OnOk result (line.new.items
-        ≡ line.old.items ++ (first.now ++ decimal one ++ second.now ++ decimal other)) }
+    ensures { OnOk result (line.new.items ≡ line.old.items
+        ++ flat_map (piece_text (map (λ block. block.path) blocks.now)) pieces.now) }
 {
-    push(line, first)?;
-    push_number(line, one)?;
-    push(line, second)?;
-    push_number(line, other)
+    for piece in pieces {
+        push_piece(line, *piece, blocks)?;
+    }
+    Ok(())
+}
+
+/// Adds a piece.
+fn push_piece(line: &mut Vec<u8>, piece: Piece<'_>, blocks: &[Block]) -> Result<(), OutOfMemory>
+    ensures { OnOk result (line.new.items
+        ≡ line.old.items ++ piece_text (map (λ block. block.path) blocks.now) piece.entry) }
+{
+    match piece {
+        Piece::Bytes(bytes) => push(line, bytes),
+        Piece::Escaped(bytes) => push_escaped(line, bytes),
+        Piece::Number(number) => push_number(line, number),
+        Piece::Signed(number) => push_signed(line, number),
+        Piece::Period(period) => push_period(line, period),
+        Piece::Cycle(numbers) => push_cycle(line, numbers, blocks),
+    }
 }
