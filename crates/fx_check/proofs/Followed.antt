@@ -1,5 +1,5 @@
 -- The tight edges of a diagram's latencies are followed back.
-use Rattle.std.proofs.Common.{◌≡◌, ℕ, ◌+◌, ◌<◌, List, [], ◌∷◌, length, drop, None, Some, subst, arith, length-drop}
+use Rattle.std.proofs.Common.{◌≡◌, ℕ, ◌+◌, ◌<◌, List, [], ◌∷◌, length, drop, Option, None, Some, ap, sym, ◌∙◌, subst, arith, length-drop}
 use Rattle.std.specs.Prelude.{All, slice_get, slice_index_or}
 use Rattle.std.proofs.lemmas.Option.{slice_get-get_or}
 use Rattle.dg_model.specs.declared.diagram.Diagram.{Diagram}
@@ -29,6 +29,14 @@ module _ (diagram : Diagram) (plan : Resolved) (latencies : Latencies) (end : �
       let size = are.size in
       let tight = are.tight.size in
       omega (arith, low, size, tight)
+
+  -- what a list of them says at its block
+  pub tight_at : (block : ℕ) (path : List ℕ) (tights : List (Option ℕ)) (number : Option ℕ) → Follows diagram plan latencies end block path → tights ≡ latencies.tight → slice_index_or tights block None ≡ number
+      → slice_get latencies.tight block ≡ Some number
+  tight_at block path tights number way same is =
+      let inside = tight_inside block path way in
+      let size = ap (λ (xs : List (Option ℕ)). length xs) same in
+      ap (λ (xs : List (Option ℕ)). slice_get xs block) (sym same) ∙ slice_get-get_or tights block None (omega (arith, inside, size)) ∙ ap (λ (o : Option ℕ). Some o) is
 
   pub follow_more : (block number source : ℕ) (path : List ℕ) → Follows diagram plan latencies end block path → slice_get latencies.tight block ≡ Some (Some number) → IsSource diagram block number source → source < length diagram.blocks → Follows diagram plan latencies end source (source ∷ path)
   follow_more block number source path way at is below tight =

@@ -1,9 +1,8 @@
 use Rattle.std.proofs.Common.{◌-◌, ℕ, List, None, Some, Option, length, drop, ap, sym, ◌∙◌, subst, arith}
-use Rattle.std.specs.Prelude.{slice_get, slice_index_or}
+use Rattle.std.specs.Prelude.{slice_index_or}
 use Rattle.std.proofs.lemmas.List.{length-set}
-use Rattle.std.proofs.lemmas.Option.{slice_get-get_or}
 use Rattle.fx_check.specs.inner.Way.{Follows}
-use Rattle.fx_check.proofs.Followed.{block_inside, follow_begins, follow_ends, follow_more, follow_room, follow_there, tight_inside}
+use Rattle.fx_check.proofs.Followed.{block_inside, follow_begins, follow_ends, follow_more, follow_room, follow_there, tight_at, tight_inside}
 use Rattle.fx_check.proofs.Handing.{none_of}
 use Rattle.fx_check.proofs.Rooms.{before_set, last_set}
 use Rattle.fx_check.proofs.paths.path_to.Goals as goal
@@ -34,9 +33,7 @@ pub overflow_sub-start-in-Some : goal.overflow_sub-start-in-Some
 overflow_sub-start-in-Some c =
     let diagram = c.args.checked.now.diagram in
     let path : List ℕ = drop c.loop-block.start c.loop-block.room in
-    let inside = tight_inside diagram c.args.plan.now c.args.latencies.now c.args.end c.requires.latencies c.loop-block.block path c.loop-block.invariant.way in
-    let same = ap (λ (xs : List (Option ℕ)). length xs) c.as_slice-tight.ensures in
-    let at = ap (λ (xs : List (Option ℕ)). slice_get xs c.loop-block.block) (sym c.as_slice-tight.ensures) ∙ slice_get-get_or c.as_slice-tight.result.now c.loop-block.block None (omega (arith, inside, same)) ∙ ap (λ (o : Option ℕ). Some o) c.in-Some.is in
+    let at = tight_at diagram c.args.plan.now c.args.latencies.now c.args.end c.requires.latencies c.loop-block.block path c.as_slice-tight.result.now (Some c.in-Some.number) c.loop-block.invariant.way c.as_slice-tight.ensures c.in-Some.is in
     let more = follow_more diagram c.args.plan.now c.args.latencies.now c.args.end c.requires.latencies c.loop-block.block c.in-Some.number c.source_of-block.result path c.loop-block.invariant.way at c.source_of-block.ensures.is c.source_of-block.ensures.there in
     let room = follow_room diagram c.args.plan.now c.args.latencies.now c.args.end c.requires.latencies c.source_of-block.result c.loop-block.start c.loop-block.room more c.loop-block.invariant.size c.loop-block.invariant.within in
     omega (arith, room)
@@ -48,9 +45,7 @@ pub loop-block-preserved : goal.loop-block-preserved
 loop-block-preserved c =
     let diagram = c.args.checked.now.diagram in
     let path : List ℕ = drop c.loop-block.start c.loop-block.room in
-    let inside = tight_inside diagram c.args.plan.now c.args.latencies.now c.args.end c.requires.latencies c.loop-block.block path c.loop-block.invariant.way in
-    let same = ap (λ (xs : List (Option ℕ)). length xs) c.as_slice-tight.ensures in
-    let at = ap (λ (xs : List (Option ℕ)). slice_get xs c.loop-block.block) (sym c.as_slice-tight.ensures) ∙ slice_get-get_or c.as_slice-tight.result.now c.loop-block.block None (omega (arith, inside, same)) ∙ ap (λ (o : Option ℕ). Some o) c.in-Some.is in
+    let at = tight_at diagram c.args.plan.now c.args.latencies.now c.args.end c.requires.latencies c.loop-block.block path c.as_slice-tight.result.now (Some c.in-Some.number) c.loop-block.invariant.way c.as_slice-tight.ensures c.in-Some.is in
     let more = follow_more diagram c.args.plan.now c.args.latencies.now c.args.end c.requires.latencies c.loop-block.block c.in-Some.number c.source_of-block.result path c.loop-block.invariant.way at c.source_of-block.ensures.is c.source_of-block.ensures.there in
     let some = overflow_sub-start-in-Some c in
     let within = c.loop-block.invariant.within in
@@ -65,10 +60,8 @@ pub returns-clause-tight : goal.returns-clause-tight
 returns-clause-tight c =
     let diagram = c.args.checked.now.diagram in
     let path : List ℕ = drop c.loop-block.start c.loop-block.room in
-    let inside = tight_inside diagram c.args.plan.now c.args.latencies.now c.args.end c.requires.latencies c.loop-block.block path c.loop-block.invariant.way in
-    let same = ap (λ (xs : List (Option ℕ)). length xs) c.as_slice-tight.ensures in
     let none = none_of (slice_index_or c.as_slice-tight.result.now c.loop-block.block None) c.in_default.not-Some in
-    let at = ap (λ (xs : List (Option ℕ)). slice_get xs c.loop-block.block) (sym c.as_slice-tight.ensures) ∙ slice_get-get_or c.as_slice-tight.result.now c.loop-block.block None (omega (arith, inside, same)) ∙ ap (λ (o : Option ℕ). Some o) none in
+    let at = tight_at diagram c.args.plan.now c.args.latencies.now c.args.end c.requires.latencies c.loop-block.block path c.as_slice-tight.result.now None c.loop-block.invariant.way c.as_slice-tight.ensures none in
     follow_ends diagram c.args.plan.now c.args.latencies.now c.args.end c.requires.latencies c.loop-block.block path c.loop-block.invariant.way at
 
 pub returns-clause-there : goal.returns-clause-there
