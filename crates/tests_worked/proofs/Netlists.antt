@@ -46,24 +46,10 @@ circuit nets = record { cycles = 2; nets = nets; inputs = port (codes "a") 0 ∷
 products : (x y : ℤ) → InWord 2 true x → InWord 2 true y → InWord 4 true (x *ℤ y)
 products (pos (suc (suc n))) y left right = let high = left.high in absurd (omega (arith, ints, high))
 products (negsuc (suc (suc n))) y left right = let low = left.low in absurd (omega (arith, ints, low))
-products x (pos (suc (suc n))) left right = let high = right.high in absurd (omega (arith, ints, high))
-products x (negsuc (suc (suc n))) left right = let low = right.low in absurd (omega (arith, ints, low))
-products (pos zero) (pos zero) left right = record { low = le_z_yes tt; high = le_z_yes tt }
-products (pos zero) (pos (suc zero)) left right = record { low = le_z_yes tt; high = le_z_yes tt }
-products (pos zero) (negsuc zero) left right = record { low = le_z_yes tt; high = le_z_yes tt }
-products (pos zero) (negsuc (suc zero)) left right = record { low = le_z_yes tt; high = le_z_yes tt }
-products (pos (suc zero)) (pos zero) left right = record { low = le_z_yes tt; high = le_z_yes tt }
-products (pos (suc zero)) (pos (suc zero)) left right = record { low = le_z_yes tt; high = le_z_yes tt }
-products (pos (suc zero)) (negsuc zero) left right = record { low = le_z_yes tt; high = le_z_yes tt }
-products (pos (suc zero)) (negsuc (suc zero)) left right = record { low = le_z_yes tt; high = le_z_yes tt }
-products (negsuc zero) (pos zero) left right = record { low = le_z_yes tt; high = le_z_yes tt }
-products (negsuc zero) (pos (suc zero)) left right = record { low = le_z_yes tt; high = le_z_yes tt }
-products (negsuc zero) (negsuc zero) left right = record { low = le_z_yes tt; high = le_z_yes tt }
-products (negsuc zero) (negsuc (suc zero)) left right = record { low = le_z_yes tt; high = le_z_yes tt }
-products (negsuc (suc zero)) (pos zero) left right = record { low = le_z_yes tt; high = le_z_yes tt }
-products (negsuc (suc zero)) (pos (suc zero)) left right = record { low = le_z_yes tt; high = le_z_yes tt }
-products (negsuc (suc zero)) (negsuc zero) left right = record { low = le_z_yes tt; high = le_z_yes tt }
-products (negsuc (suc zero)) (negsuc (suc zero)) left right = record { low = le_z_yes tt; high = le_z_yes tt }
+products (pos zero) y left right = let low = right.low in let high = right.high in record { low = omega (arith, ints, low, high); high = omega (arith, ints, low, high) }
+products (pos (suc zero)) y left right = let low = right.low in let high = right.high in record { low = omega (arith, ints, low, high); high = omega (arith, ints, low, high) }
+products (negsuc zero) y left right = let low = right.low in let high = right.high in record { low = omega (arith, ints, low, high); high = omega (arith, ints, low, high) }
+products (negsuc (suc zero)) y left right = let low = right.low in let high = right.high in record { low = omega (arith, ints, low, high); high = omega (arith, ints, low, high) }
 
 holds : HoldsProducts nets 3 0 4 true
 holds = record {
