@@ -15,7 +15,7 @@ use Rattle.fx_text.specs.Strings.{string_behind}
 use Rattle.fx_text.proofs.FormLemmas.{read_form, form_read}
 use Rattle.fx_tables.specs.Fields.{is_blank, after_blanks, fields_of}
 use Rattle.fx_tables.specs.inner.PlanReading.{sole_number, cycles_entry, multipliers_entry, pipelined_entry, counted_entry, pipeline_entry, words_entry, entry_of}
-use Rattle.fx_tables.specs.PlanLines.{AreBlanks, IsCount, IsPipelineLine, Says}
+use Rattle.fx_tables.specs.PlanLines.{AreBlanks, IsCount, IsPipelineLine, IsSetting, Says}
 use Rattle.fx_tables.specs.declared.entry.PlanEntry.{PlanEntry}
 use Rattle.fx_tables.specs.declared.entry.PlanEntry.TheVariants.{Passed, Cycles, Multipliers, Pipelined}
 use Rattle.fx_tables.proofs.FieldsLemmas.{IsRunAt, no_field, first_field, fields_of-blank, fields_of-field}
@@ -194,27 +194,23 @@ pipeline_form line words entry fields h =
       is_count = counted.is_count;
     })
 
+-- a word and a count
+setting_form : (word line : List ℕ) (words : List (List ℕ)) (least greatest count : ℕ) → fields_of line ≡ word ∷ words → sole_number least greatest words ≡ Some count → IsSetting word line least greatest count
+setting_form word line words least greatest count fields number =
+    let sole = sole_form least greatest words count number in
+    record { digits = sole.digits; fields = fields ∙ ap (λ l. word ∷ l) sole.is; is_count = sole.is_count }
+
 cycles_form : (line : List ℕ) (words : List (List ℕ)) (entry : PlanEntry) (sole : Option ℕ) → fields_of line ≡ codes "cycles" ∷ words → sole_number 1 1024 words ≡ sole → cycles_entry sole ≡ Some entry → Says line entry
 cycles_form line words entry None fields number h = cc
 cycles_form line words entry (Some count) fields number h =
-    let sole = sole_form 1 1024 words count number in
     let is : entry ≡ Cycles count = cc in
-    subst (Says line) (sym is) (record {
-      digits = sole.digits;
-      fields = fields ∙ ap (λ l. codes "cycles" ∷ l) sole.is;
-      is_count = sole.is_count;
-    })
+    subst (Says line) (sym is) (setting_form (codes "cycles") line words 1 1024 count fields number)
 
 multipliers_form : (line : List ℕ) (words : List (List ℕ)) (entry : PlanEntry) (sole : Option ℕ) → fields_of line ≡ codes "multipliers" ∷ words → sole_number 0 64 words ≡ sole → multipliers_entry sole ≡ Some entry → Says line entry
 multipliers_form line words entry None fields number h = cc
 multipliers_form line words entry (Some count) fields number h =
-    let sole = sole_form 0 64 words count number in
     let is : entry ≡ Multipliers count = cc in
-    subst (Says line) (sym is) (record {
-      digits = sole.digits;
-      fields = fields ∙ ap (λ l. codes "multipliers" ∷ l) sole.is;
-      is_count = sole.is_count;
-    })
+    subst (Says line) (sym is) (setting_form (codes "multipliers") line words 0 64 count fields number)
 
 words_form : (line : List ℕ) (fields : List (List ℕ)) (entry : PlanEntry) → fields_of line ≡ fields → words_entry fields (drop 8 (after_blanks line)) ≡ Some entry → Says line entry
 words_form line [] entry is h =
