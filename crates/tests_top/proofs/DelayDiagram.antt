@@ -1,30 +1,24 @@
 -- The diagram of the model of one delay keeps the rules, worked out by hand.
-use Rattle.std.proofs.Common.{◌≡◌, ◌≢◌, ℕ, zero, suc, ◌%◌, ◌-◌, ◌≤◌, true≢false, List, [], ◌∷◌, length, All, Option, Some, inl, codes, sym, subst, ap, ◌∙◌, refl, arith}
-use Rattle.std.specs.Prelude.{IsSome, count_by, slice_index}
-use Rattle.std.proofs.Math.Dec.{lit<, lit≤}
-use Rattle.std.proofs.Math.Nat.{mod_self}
-use lib.Signed.{le_z_yes}
+use Rattle.std.proofs.Common.{◌≡◌, ◌≢◌, ℕ, true≢false, List, [], ◌∷◌, length, Option, Some, slice_get, inl, codes, sym, refl, arith}
+use Rattle.std.proofs.Math.Dec.{lit≤}
 use Rattle.fx_type.specs.declared.decimal.Decimal.{Decimal}
-use Rattle.fx_type.specs.declared.kind.FxType.{FxType}
 use Rattle.dg_model.specs.declared.diagram.Block.{Block}
-use Rattle.dg_model.specs.Attributes.{attributes_of, or_logical, param_type_at}
+use Rattle.dg_model.specs.Attributes.{attributes_of}
 use Rattle.dg_model.specs.Checked.{IsChecked}
-use Rattle.dg_model.specs.Dimension.{IsRepeated, KeepsDimension, KeepsDimensions, IsBounded}
+use Rattle.dg_model.specs.Dimension.{IsRepeated, KeepsDimension, KeepsDimensions}
 use Rattle.dg_model.specs.Faults.{AllKeep}
-use Rattle.dg_model.specs.Instant.{IsInstant}
-use Rattle.dg_model.specs.LatencyEdges.{LatencyEdge}
 use Rattle.dg_model.specs.Library.{row_of, IsReadable}
-use Rattle.dg_model.specs.Loop.{LeadsNow, KeepsLoop}
-use Rattle.dg_model.specs.Periods.{known_at, periods_of, period_at}
 use Rattle.dg_model.specs.Rate.{KeepsDeclared, KeepsPeriods, KeepsRates}
 use Rattle.dg_model.specs.Signals.{Attributes}
-use Rattle.dg_model.specs.TypeRounds.{Types, types_of}
-use Rattle.dg_model.specs.TypeRule.{IsNotWide, HasTypes, HasAgreeing, KeepsTypes}
-use Rattle.dg_model.specs.Widths.{Widths, width_at, widths_of}
-use Rattle.dg_model.specs.Wired.{AreNumbered, IsWired, Joins, StandsBefore, NamesControl, MayStand}
-use Rattle.dg_model.specs.Wires.{enters}
-use Rattle.tests_top.proofs.DelayModel.{diagram, inport, delay, outport, int8, three}
-use Rattle.dg_model.proofs.Written.{all_of, each_of, pairs_of}
+use Rattle.dg_model.specs.TypeRounds.{Types}
+use Rattle.dg_model.specs.TypeRule.{IsNotWide, HasTypes, HasAgreeing}
+use Rattle.dg_model.specs.Widths.{Widths}
+use Rattle.dg_model.specs.Wired.{IsWired, NamesControl, MayStand}
+use Rattle.dg_model.proofs.Written.{all_of}
+use Rattle.hw_shows.proofs.Small.{int8_valid, each_by, none_driven, one_driven, one_fits, one_repeats, none_known, one_known, no_loop, attributes_by, attributes_are, AreDrivenOnce}
+use Rattle.hw_shows.proofs.KeptRules.{all_join, in_order, one_number, dimensions_kept, types_kept, rates_kept}
+use Rattle.tests_premises.specs.Whole.{int8}
+use Rattle.tests_top.proofs.DelayModel.{diagram, inport, delay, outport, three}
 
 -- ---- its widths, types and periods
 
@@ -37,173 +31,63 @@ types = Some int8 ∷ Some int8 ∷ Some int8 ∷ []
 abbrev periods : List (Option ℕ)
 periods = Some 1 ∷ Some 1 ∷ Some 1 ∷ []
 
-widths-are : widths_of diagram ≡ widths
-widths-are = refl
-
-types-are : types_of diagram ≡ types
-types-are = refl
-
-periods-are : periods_of diagram ≡ periods
-periods-are = refl
-
-abbrev attributes_with : Widths → Types → List (Option ℕ) → Attributes
-attributes_with widths types periods = record {
-  width_at = width_at widths;
-  type_at = λ block port. or_logical (known_at types block);
-  param_at = λ block. or_logical (param_type_at diagram types block);
-  period_at = period_at periods;
-}
-
 abbrev pub attributes : Attributes
-attributes = attributes_with widths types periods
+attributes = attributes_by diagram widths types periods
 
 pub attributes-are : attributes_of diagram ≡ attributes
-attributes-are =
-    ap (λ (w : Widths). attributes_with w (types_of diagram) (periods_of diagram)) widths-are
-    ∙ ap (λ (t : Types). attributes_with widths t (periods_of diagram)) types-are
-    ∙ ap (λ (p : List (Option ℕ)). attributes_with widths types p) periods-are
+attributes-are = attributes_are diagram widths types periods refl refl refl
 
 -- ---- it is well formed
 
-abbrev in_block : Block
-in_block = inport (codes "u")
+driven : (place : ℕ) (block : Block) → slice_get diagram.blocks place ≡ Some block → AreDrivenOnce diagram.edges place block.inputs
+driven = each_by (λ (k : ℕ) (x : Block). AreDrivenOnce diagram.edges k x.inputs) diagram.blocks (none_driven diagram.edges 0) (one_driven diagram.edges 1 refl) (one_driven diagram.edges 2 refl)
 
-abbrev delay_block : Block
-delay_block = delay (codes "D")
+in-readable : IsReadable (inport (codes "u"))
+in-readable = record { ports = (refl, refl); parameters = ((lit≤ tt, lit≤ tt), (lit≤ tt, lit≤ tt)); types = int8_valid; result = tt; rounding = (refl, refl); period = tt }
 
-abbrev out_block : Block
-out_block = outport (codes "y")
-
--- what holds of each of the three blocks
-each-block : (P : ℕ → Block → Type 0) → P 0 in_block → P 1 delay_block → P 2 out_block → AllKeep diagram P
-each-block P first second third = each_of P diagram.blocks (first, (second, (third, tt)))
-
-all-blocks : (P : Block → Type 0) → P in_block → P delay_block → P out_block → All P diagram.blocks
-all-blocks P first second third = all_of P diagram.blocks (first, (second, (third, tt)))
-
-abbrev IsDriven : ℕ → Block → Type 0
-IsDriven place block = (port : ℕ) → 1 ≤ port → port ≤ block.inputs → count_by (enters place port) diagram.edges ≡ 1
-
-driven-delay : IsDriven 1 delay_block
-driven-delay zero from to = absurd (omega arith)
-driven-delay (suc zero) from to = refl
-driven-delay (suc (suc port)) from to = absurd (omega arith)
-
-driven-out : IsDriven 2 out_block
-driven-out zero from to = absurd (omega arith)
-driven-out (suc zero) from to = refl
-driven-out (suc (suc port)) from to = absurd (omega arith)
-
-in-readable : IsReadable in_block
-in-readable = record { ports = (refl, refl); parameters = ((lit≤ tt, lit≤ tt), (lit≤ tt, lit≤ tt)); types = ((lit≤ tt, lit≤ tt), le_z_yes tt, le_z_yes tt); result = tt; rounding = (refl, refl); period = tt }
-
-delay-readable : IsReadable delay_block
+delay-readable : IsReadable (delay (codes "D"))
 delay-readable = record { ports = (refl, refl); parameters = ((lit≤ tt, lit≤ tt), (lit≤ tt, lit≤ tt)); types = tt; result = refl; rounding = (refl, refl); period = tt }
 
-out-readable : IsReadable out_block
+out-readable : IsReadable (outport (codes "y"))
 out-readable = record { ports = (refl, refl); parameters = (lit≤ tt, lit≤ tt); types = tt; result = tt; rounding = (refl, refl); period = tt }
-
--- the one number of the one input, and of the one output
-numbered-once : AreNumbered (1 ∷ [])
-numbered-once = record {
-  within = all_of (λ (number : ℕ). (1 ≤ number) × (number ≤ 1)) (1 ∷ []) ((lit≤ tt, lit≤ tt), tt);
-  distinct = pairs_of (λ (number other : ℕ). number ≢ other) (1 ∷ []) (tt, tt);
-}
 
 pub wired : IsWired diagram
 wired = record {
   size = lit≤ tt;
-  edges = all_of (Joins diagram.blocks) diagram.edges (record { source = (lit≤ tt, lit≤ tt); target = (lit≤ tt, lit≤ tt) }, (record { source = (lit≤ tt, lit≤ tt); target = (lit≤ tt, lit≤ tt) }, tt));
-  driven = λ place port block at. each-block IsDriven (λ port from to. absurd (omega arith)) driven-delay driven-out place block at port;
-  ordered = pairs_of StandsBefore diagram.edges ((inl (lit< tt), tt), (tt, tt));
-  blocks = all-blocks IsReadable in-readable delay-readable out-readable;
-  controls = all-blocks (λ block. NamesControl diagram.blocks block.enable) tt tt tt;
-  enables = all-blocks (λ block. MayStand (row_of block.kind).place.stands block.enable) tt tt tt;
-  inports = numbered-once;
-  outports = numbered-once;
+  edges = all_join diagram.blocks diagram.edges refl;
+  driven = λ place port block at. driven place block at port;
+  ordered = in_order diagram.edges refl;
+  blocks = all_of IsReadable diagram.blocks (in-readable, (delay-readable, (out-readable, tt)));
+  controls = all_of (λ (block : Block). NamesControl diagram.blocks block.enable) diagram.blocks (tt, (tt, (tt, tt)));
+  enables = all_of (λ (block : Block). MayStand (row_of block.kind).place.stands block.enable) diagram.blocks (tt, (tt, (tt, tt)));
+  inports = one_number;
+  outports = one_number;
 }
 
 -- ---- dimensions, types and rates
 
-no-lists : All {X = List Decimal} (λ list. IsRepeated 1 (length list)) []
-no-lists = λ place other below. absurd (omega arith)
-
-one-fits : All (λ (width : ℕ). width ≤ 1024) (1 ∷ [])
-one-fits = all_of (λ (width : ℕ). width ≤ 1024) (1 ∷ []) (lit≤ tt, tt)
-
-one-repeats : All (IsRepeated 1) (1 ∷ [])
-one-repeats = all_of (IsRepeated 1) (1 ∷ []) (inl refl, tt)
-
-one-known : All {X = Option FxType} IsSome (Some int8 ∷ [])
-one-known = all_of {A = Option FxType} IsSome (Some int8 ∷ []) (refl, tt)
-
 dimensions-by : AllKeep diagram (KeepsDimension diagram widths)
-dimensions-by = each-block (KeepsDimension diagram widths)
-    (record { settled = refl; within = λ some. one-fits; agrees = λ place other below. absurd (omega arith); lists = no-lists; declared = inl refl })
-    (record { settled = refl; within = λ some. one-fits; agrees = one-repeats; lists = all_of (λ (list : List Decimal). IsRepeated 1 (length list)) (three ∷ []) (inl refl, tt); declared = inl refl })
-    (record { settled = refl; within = λ some. one-fits; agrees = one-repeats; lists = no-lists; declared = inl refl })
-
-bounded-by : IsBounded diagram widths
-bounded-by = record { outputs = omega arith; inputs = omega arith; delays = omega arith }
+dimensions-by = each_by (KeepsDimension diagram widths) diagram.blocks
+    (record { settled = refl; within = λ some. one_fits; agrees = λ k d below. absurd (omega arith); lists = λ k d below. absurd (omega arith); declared = inl refl })
+    (record { settled = refl; within = λ some. one_fits; agrees = one_repeats; lists = all_of (λ (list : List Decimal). IsRepeated 1 (length list)) (three ∷ []) (inl refl, tt); declared = inl refl })
+    (record { settled = refl; within = λ some. one_fits; agrees = one_repeats; lists = λ k d below. absurd (omega arith); declared = inl refl })
 
 dimensions : KeepsDimensions diagram
-dimensions = record {
-  blocks = subst (λ (w : Widths). AllKeep diagram (KeepsDimension diagram w)) (sym widths-are) dimensions-by;
-  bounded = subst (λ (w : Widths). IsBounded diagram w) (sym widths-are) bounded-by;
-}
+dimensions = dimensions_kept diagram widths refl dimensions-by (record { outputs = omega arith; inputs = omega arith; delays = omega arith })
 
 narrow-by : AllKeep diagram (IsNotWide diagram types)
-narrow-by = each-block (IsNotWide diagram types)
-    (λ named known. absurd (true≢false (sym named)))
-    (λ named known. absurd (true≢false (sym named)))
-    (λ named known. absurd (true≢false (sym named)))
+narrow-by = each_by (IsNotWide diagram types) diagram.blocks (λ named known. absurd (true≢false (sym named))) (λ named known. absurd (true≢false (sym named))) (λ named known. absurd (true≢false (sym named)))
 
 known-by : AllKeep diagram (HasTypes diagram types)
-known-by = each-block (HasTypes diagram types)
-    (record { outputs = λ some. refl; inputs = λ place other below. absurd (omega arith) })
-    (record { outputs = λ some. refl; inputs = one-known })
-    (record { outputs = λ some. refl; inputs = one-known })
+known-by = each_by (HasTypes diagram types) diagram.blocks (record { outputs = λ some. refl; inputs = none_known }) (record { outputs = λ some. refl; inputs = one_known }) (record { outputs = λ some. refl; inputs = one_known })
 
 agree-by : AllKeep diagram (HasAgreeing diagram types)
-agree-by = each-block (HasAgreeing diagram types)
-    (record { written = tt; inside = tt })
-    (record { written = tt; inside = tt })
-    (record { written = tt; inside = tt })
-
-types-kept : KeepsTypes diagram
-types-kept = record {
-  narrow = subst (λ (t : Types). AllKeep diagram (IsNotWide diagram t)) (sym types-are) narrow-by;
-  known = subst (λ (t : Types). AllKeep diagram (HasTypes diagram t)) (sym types-are) known-by;
-  agree = subst (λ (t : Types). AllKeep diagram (HasAgreeing diagram t)) (sym types-are) agree-by;
-}
+agree-by = each_by (HasAgreeing diagram types) diagram.blocks (record { written = tt; inside = tt }) (record { written = tt; inside = tt }) (record { written = tt; inside = tt })
 
 rates : KeepsRates diagram
-rates = record {
-  declared = each-block (KeepsDeclared diagram) tt tt tt;
-  periods = subst (λ (p : List (Option ℕ)). AllKeep diagram (KeepsPeriods diagram p)) (sym periods-are) (each-block (KeepsPeriods diagram periods) refl refl refl);
-}
+rates = rates_kept diagram periods refl (each_by (KeepsDeclared diagram) diagram.blocks tt tt tt) (each_by (KeepsPeriods diagram periods) diagram.blocks refl refl refl)
 
--- ---- loops: the one instant edge leads from the delay to the output
-
-abbrev IsLastEdge : ℕ → ℕ → Type 0
-IsLastEdge from to = (from ≡ 1) × (to ≡ 2)
-
-leads-last : (from to : ℕ) → LeadsNow diagram (attributes_of diagram) from to → IsLastEdge from to
-leads-last from to (zero, edge, below, at, (from_is, to_is, now)) =
-    absurd (true≢false (sym (subst (λ (x : LatencyEdge). IsInstant diagram (attributes_of diagram) x) (sym at) now)))
-leads-last from to (suc zero, edge, below, at, (from_is, to_is, now)) =
-    (sym from_is ∙ ap (λ (x : LatencyEdge). x.from) (sym at), sym to_is ∙ ap (λ (x : LatencyEdge). x.to) (sym at))
-leads-last from to (suc (suc k), edge, below, at, (from_is, to_is, now)) = absurd (omega (arith, below))
-
-no-loop : KeepsLoop diagram (attributes_of diagram)
-no-loop cycle is =
-    let last : ℕ = length cycle - 1 in
-    let first = leads-last _ _ (is.leads 0 (omega (arith, is.some))) in
-    let back = leads-last _ _ (is.leads last (omega (arith, is.some))) in
-    let whole : suc last ≡ length cycle = omega (arith, is.some) in
-    let round : suc last % length cycle ≡ 0 = ap (λ (m : ℕ). m % length cycle) whole ∙ mod_self (length cycle) in
-    let to : slice_index cycle 0 ≡ 2 = subst (λ (place : ℕ). slice_index cycle place ≡ 2) round back.1 in
-    absurd (omega (arith, first.0, to))
+-- ---- all rules
 
 pub checked : IsChecked diagram
-checked = record { wired = wired; dimensions = dimensions; types = types-kept; rates = rates; loops = no-loop }
+checked = record { wired = wired; dimensions = dimensions; types = types_kept diagram types refl narrow-by known-by agree-by; rates = rates; loops = no_loop diagram (attributes_of diagram) refl }

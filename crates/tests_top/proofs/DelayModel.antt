@@ -1,28 +1,17 @@
 -- The model of one delay with initial value 3, as text: the tree that it stands for, its blocks and lines, and its diagram, worked out by hand.
-use Rattle.std.proofs.Common.{◌≡◌, ◌<◌, ◌≤◌, ℕ, zero, suc, pos, true, false, List, [], ◌∷◌, ◌++◌, All, None, Some, slice_get, inl, inr, codes, refl, sym, subst, arith}
+use Rattle.std.proofs.Common.{◌≡◌, ℕ, false, List, [], ◌∷◌, ◌++◌, Some, inl, inr, codes, refl}
 use Rattle.std.proofs.Math.Dec.{lit<, lit≤}
-use Rattle.std.proofs.lemmas.Option.{none-some, same_Some}
-use lib.Signed.{le_z_yes}
 use Rattle.fx_type.specs.declared.decimal.Decimal.{Decimal}
-use Rattle.fx_type.specs.declared.kind.FxType.{FxType}
-use Rattle.fx_type.specs.declared.kind.FxType.TheVariants.{Num}
-use Rattle.fx_type.specs.declared.rounding.Rounding.TheVariants.{Floor}
 use Rattle.fx_type.specs.declared.spec.TypeSpec.TheVariants.{Fixed, Auto}
 use Rattle.dg_model.specs.declared.diagram.Block.{Block}
 use Rattle.dg_model.specs.declared.diagram.Diagram.{Diagram}
-use Rattle.dg_model.specs.declared.diagram.Edge.{Edge}
 use Rattle.dg_model.specs.declared.diagram.PeriodSpec.TheVariants.{Inherit}
-use Rattle.dg_model.specs.declared.kind.Kind.{Kind}
 use Rattle.dg_model.specs.declared.kind.Kind.TheVariants.{Inport, Outport, Delay}
 use Rattle.dg_model.specs.declared.nested.Nested.{Nested}
-use Rattle.dg_model.specs.declared.nested.NestedBlock.{NestedBlock}
-use Rattle.dg_model.specs.declared.nested.NestedLine.{NestedLine}
-use Rattle.dg_model.specs.declared.nested.Part.TheVariants.{Plain, In, Out}
-use Rattle.dg_model.specs.declared.nested.Target.TheVariants.{Port}
 use Rattle.dg_model.specs.Wired.{StandsBefore}
 use Rattle.mdl_text.specs.declared.tree.Item.{Item}
 use Rattle.mdl_text.specs.declared.tree.Tree.{Tree}
-use Rattle.mdl_text.specs.declared.tree.Value.TheVariants.{Section, Bare, Quoted}
+use Rattle.mdl_text.specs.declared.tree.Value.TheVariants.{Quoted}
 use Rattle.mdl_text.specs.Bytes.{is_blank, is_name_byte, lines_of as text_lines}
 use Rattle.mdl_text.specs.inner.Plain.{string_step, opened, closed, listed, valued, named, fresh, step, finish, run, start}
 use Rattle.mdl_text.specs.Stands.{Stands}
@@ -34,25 +23,15 @@ use Rattle.mdl_build.specs.Blocks.{HasSettings}
 use Rattle.mdl_build.specs.Nested.{IsNestedOf}
 use Rattle.mdl_build.specs.Settings.{unset, unsaid, zero_decimal}
 use Rattle.dg_flat.specs.Flat.{IsFlatOf}
-use Rattle.dg_flat.specs.Parts.{in_number, out_number}
-use Rattle.dg_flat.specs.Rules.{AllNestedKeep, KeepsWiring, KeepsEnable, IsNumbered, HasEnd, drivers, is_port}
-use Rattle.dg_model.proofs.Written.{all_of, each_of, pairs_of}
+use Rattle.dg_flat.specs.Rules.{AllNestedKeep, KeepsWiring, KeepsEnable}
+use Rattle.dg_model.proofs.Written.{each_of, pairs_of}
+use Rattle.tests_premises.specs.Whole.{block_of, edge_of, int8}
+use Rattle.tests_premises.proofs.Three.{section, bare, quoted, line_items, three_nested, three_wired, whole_number}
 
 -- ---- the text, and the tree that it stands for
 
 abbrev pub model_text : List ℕ
 model_text = codes "Model {\n  Name \"one\"\n  System {\n    Block {\n      BlockType Inport\n      Name \"u\"\n      OutDataTypeStr \"int8\"\n    }\n    Block {\n      BlockType UnitDelay\n      Name \"D\"\n      InitialCondition \"3\"\n    }\n    Block {\n      BlockType Outport\n      Name \"y\"\n    }\n    Line {\n      SrcBlock \"u\"\n      SrcPort 1\n      DstBlock \"D\"\n      DstPort 1\n    }\n    Line {\n      SrcBlock \"D\"\n      SrcPort 1\n      DstBlock \"y\"\n      DstPort 1\n    }\n  }\n}\n"
-
--- a section of this depth and name
-abbrev section : ℕ → List ℕ → Item
-section depth name = record { depth = depth; name = name; value = Section }
-
--- a parameter of a block or a line with a bare value, or with a quoted one
-abbrev bare : List ℕ → List ℕ → Item
-bare name value = record { depth = 3; name = name; value = Bare value }
-
-abbrev quoted : List ℕ → List ℕ → Item
-quoted name value = record { depth = 3; name = name; value = Quoted value }
 
 abbrev blocks : List Item
 blocks =
@@ -61,12 +40,6 @@ blocks =
     ∷ section 2 (codes "Block") ∷ bare (codes "BlockType") (codes "UnitDelay") ∷ quoted (codes "Name") (codes "D")
     ∷ quoted (codes "InitialCondition") (codes "3")
     ∷ section 2 (codes "Block") ∷ bare (codes "BlockType") (codes "Outport") ∷ quoted (codes "Name") (codes "y") ∷ []
-
--- a line from the first port of a block to the first of another
-abbrev line_items : List ℕ → List ℕ → List Item
-line_items source target =
-    section 2 (codes "Line") ∷ quoted (codes "SrcBlock") source ∷ bare (codes "SrcPort") (codes "1")
-    ∷ quoted (codes "DstBlock") target ∷ bare (codes "DstPort") (codes "1") ∷ []
 
 abbrev pub tree : Tree
 tree = record {
@@ -84,12 +57,12 @@ stands = reading_stands model_text tree.items read
 
 -- ---- its blocks and lines
 
-abbrev pub int8 : FxType
-int8 = Num true 8 (pos 0)
-
 -- the initial value
+abbrev initial : Decimal
+initial = record zero_decimal { digits = 3; eighteen_digits = lit< tt }
+
 abbrev pub three : List Decimal
-three = record zero_decimal { digits = 3; eighteen_digits = lit< tt } ∷ []
+three = initial ∷ []
 
 -- what the parameters of each block say
 abbrev in_settings : Settings
@@ -126,37 +99,7 @@ has_delay = (
   Setting.List three,
   (
     three,
-    record {
-      texts = codes "3" ∷ [];
-      are_elements = refl;
-      read = (
-        inr (inr (record {
-          numeral = record {
-            sign = [];
-            negative = false;
-            whole = codes "3";
-            point = [];
-            fraction = [];
-            digits = 3;
-            written = [];
-            exponent = pos 0;
-            form = refl;
-            is_sign = inl refl;
-            are_digits = refl;
-            some_digit = lit≤ tt;
-            value = refl;
-            is_fraction = inr (refl, refl);
-            is_exponent = inr (refl, refl);
-          };
-          short = record { few_digits = lit< tt; few_behind = lit≤ tt; least = le_z_yes tt; greatest = le_z_yes tt };
-          negative = refl;
-          digits = refl;
-          exponent = refl;
-        })),
-        tt,
-      );
-      size = (lit≤ tt, lit≤ tt);
-    },
+    record { texts = codes "3" ∷ []; are_elements = refl; read = (whole_number (codes "3") initial refl (lit≤ tt) refl refl (lit< tt) refl, tt); size = (lit≤ tt, lit≤ tt) },
     refl,
   ),
   (
@@ -189,10 +132,6 @@ has_out = (
   ),
 )
 
--- a block of which nothing else is said
-abbrev block_of : List ℕ → Kind → ℕ → ℕ → Block
-block_of path kind inputs outputs = record { path = path; kind = kind; inputs = inputs; outputs = outputs; result = Auto; rounding = Floor; saturate = false; period = Inherit; enable = None }
-
 -- an input of an int8, a delay and an output, with their paths
 abbrev pub inport : List ℕ → Block
 inport path = record (block_of path (Inport 1 0) 0 1) { result = Fixed int8 }
@@ -203,23 +142,8 @@ delay path = block_of path (Delay 1 three false) 1 1
 abbrev pub outport : List ℕ → Block
 outport path = block_of path (Outport 1) 1 0
 
-abbrev in_block : NestedBlock
-in_block = record { name = codes "u"; parent = None; part = In (inport []) 1 }
-
-abbrev delay_block : NestedBlock
-delay_block = record { name = codes "D"; parent = None; part = Plain (delay []) }
-
-abbrev out_block : NestedBlock
-out_block = record { name = codes "y"; parent = None; part = Out (outport []) 1 }
-
-abbrev nested_blocks : List NestedBlock
-nested_blocks = in_block ∷ delay_block ∷ out_block ∷ []
-
-abbrev joins : ℕ → ℕ → NestedLine
-joins from to = record { from = from; from_port = 1; to = to; target = Port 1 }
-
 abbrev pub nested : Nested
-nested = record { blocks = nested_blocks; lines = joins 0 1 ∷ joins 1 2 ∷ [] }
+nested = three_nested (inport []) (delay []) (outport []) (codes "D")
 
 pub is-nested : IsNestedOf tree nested
 is-nested = record {
@@ -240,9 +164,6 @@ is-nested = record {
 
 -- ---- the diagram
 
-abbrev edge_of : ℕ → ℕ → Edge
-edge_of from to = record { from = from; from_port = 1; to = to; to_port = 1 }
-
 abbrev pub diagram : Diagram
 diagram = record {
   blocks = inport (codes "u") ∷ delay (codes "D") ∷ outport (codes "y") ∷ [];
@@ -258,55 +179,8 @@ is-flat = record {
 
 -- ---- the rules of wiring and of enabled subsystems
 
-each-line : (P : NestedLine → Type 0) → P (joins 0 1) → P (joins 1 2) → All P nested.lines
-each-line P first second = all_of P nested.lines (first, (second, tt))
-
-one-driver : (place : ℕ) → drivers nested.lines place (is_port 1) ≡ 1 → (port : ℕ) → 1 ≤ port → port ≤ 1 → drivers nested.lines place (is_port port) ≡ 1
-one-driver place one zero from to = absurd (omega arith)
-one-driver place one (suc zero) from to = one
-one-driver place one (suc (suc port)) from to = absurd (omega arith)
-
-wiring-in : KeepsWiring nested 0 in_block
-wiring-in = record {
-  leaving = each-line (λ line. line.from ≡ 0 → (1 ≤ line.from_port) × (line.from_port ≤ 1)) (λ same. (lit≤ tt, lit≤ tt)) (λ same. (lit≤ tt, lit≤ tt));
-  ending = each-line (λ line. line.to ≡ 0 → HasEnd nested_blocks 0 in_block.part line.target) (λ same. absurd (omega (arith, same))) (λ same. absurd (omega (arith, same)));
-  driven = λ port from to. absurd (omega arith);
-  enabled = tt;
-  in_number = λ number is. subst (IsNumbered nested_blocks 0 None in_number) (same_Some 1 number is)
-      (record { above = lit≤ tt; within = lit≤ tt; first = λ other block below at same. absurd (omega arith) });
-  out_number = λ number is. absurd (cc is);
-}
-
-wiring-delay : KeepsWiring nested 1 delay_block
-wiring-delay = record {
-  leaving = each-line (λ line. line.from ≡ 1 → (1 ≤ line.from_port) × (line.from_port ≤ 1)) (λ same. (lit≤ tt, lit≤ tt)) (λ same. (lit≤ tt, lit≤ tt));
-  ending = each-line (λ line. line.to ≡ 1 → HasEnd nested_blocks 1 delay_block.part line.target) (λ same. (lit≤ tt, lit≤ tt)) (λ same. (lit≤ tt, lit≤ tt));
-  driven = one-driver 1 refl;
-  enabled = tt;
-  in_number = λ number is. absurd (cc is);
-  out_number = λ number is. absurd (cc is);
-}
-
-wiring-out : KeepsWiring nested 2 out_block
-wiring-out = record {
-  leaving = each-line (λ line. line.from ≡ 2 → (1 ≤ line.from_port) × (line.from_port ≤ 0)) (λ same. absurd (omega (arith, same))) (λ same. absurd (omega (arith, same)));
-  ending = each-line (λ line. line.to ≡ 2 → HasEnd nested_blocks 2 out_block.part line.target) (λ same. (lit≤ tt, lit≤ tt)) (λ same. (lit≤ tt, lit≤ tt));
-  driven = one-driver 2 refl;
-  enabled = tt;
-  in_number = λ number is. absurd (cc is);
-  out_number = λ number is. subst (IsNumbered nested_blocks 2 None out_number) (same_Some 1 number is)
-      (record { above = lit≤ tt; within = lit≤ tt; first = λ other block below at same. no-earlier other block below at });
-}
-  where
-    no-earlier : (other : ℕ) (block : NestedBlock) → other < 2 → slice_get nested_blocks other ≡ Some block → out_number block.part ≡ Some 1 → ⊥
-    no-earlier zero block below at is =
-        none-some 1 (subst (λ (b : NestedBlock). out_number b.part ≡ Some 1) (sym (same_Some in_block block at)) is)
-    no-earlier (suc zero) block below at is =
-        none-some 1 (subst (λ (b : NestedBlock). out_number b.part ≡ Some 1) (sym (same_Some delay_block block at)) is)
-    no-earlier (suc (suc other)) block below at is = absurd (omega arith)
-
 pub wiring : AllNestedKeep nested KeepsWiring
-wiring = each_of (KeepsWiring nested) nested_blocks (wiring-in, (wiring-delay, (wiring-out, tt)))
+wiring = three_wired (inport []) (delay []) (outport []) (codes "D") refl refl
 
 pub enables : AllNestedKeep nested KeepsEnable
-enables = each_of (KeepsEnable nested) nested_blocks (tt, (tt, (tt, tt)))
+enables = each_of (KeepsEnable nested) nested.blocks (tt, (tt, (tt, tt)))

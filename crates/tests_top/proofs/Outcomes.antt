@@ -1,13 +1,16 @@
 -- Ends of calls, worked out by hand.
 use Rattle.std.specs.Prelude.{⊤}
 use Rattle.std.specs.Borrow.{Bor}
-use Rattle.std.proofs.Common.{◌≡◌, ℕ, List, [], ◌∷◌, length, take_all, codes, Some, None, refl, ap, sym, subst, ◌∙◌, arith}
-use Rattle.fx_top.specs.declared.answer.Answer.TheVariants.{Usage, CannotRead}
+use Rattle.std.proofs.Common.{◌≡◌, ℕ, List, [], ◌∷◌, All, length, take_all, codes, Option, Some, None, refl, ap, sym, subst, ◌∙◌, arith}
+use Rattle.std.proofs.lemmas.List.Elements.{All-cons, All-nil}
+use Rattle.fx_top.specs.declared.answer.Answer.TheVariants.{Done, Usage, CannotRead}
 use Rattle.fx_top.specs.Answer.{status_of}
 use Rattle.fx_top.specs.Call.{Files, Stream, Said}
-use Rattle.fx_top.specs.Caused.{Ends, HasCause}
-use Rattle.fx_top.specs.Command.{Generate, EmptyPlan}
+use Rattle.fx_top.specs.Cause.{IsFetched}
+use Rattle.fx_top.specs.Caused.{Ends, HasCause, IsCarriedOut}
+use Rattle.fx_top.specs.Command.{Asked, Command, OfFiles, Generate, EmptyPlan, asked_of, files_of}
 use Rattle.fx_top.specs.Messages.{usage_line, unread_line}
+use Rattle.fx_top.specs.Output.{IsOutput}
 
 -- a steady shelf that holds nothing, and fails where it is asked
 abbrev empty : Files
@@ -40,3 +43,18 @@ without-file file is = record {
     refl,
   );
 }
+
+-- a command over two files that were fetched, whose text was put whole: status 0
+pub done : (words : List (List ℕ)) (files : Files) (command : Command) (first second bytes numbers text : List ℕ) → asked_of words ≡ Some (OfFiles command) → files_of command ≡ first ∷ second ∷ []
+    → IsFetched files first bytes → IsFetched files second numbers → IsOutput command files.held text → Ends words files (took text) (took []) 0
+done words files command first second bytes numbers text asked are fetched given output =
+    let P : List ℕ → Type 0 = λ file. (found : List ℕ) × IsFetched files file found in
+    record {
+      answer = Done;
+      status_is = refl;
+      said = said [];
+      carried_out = subst (λ (wanted : Option Asked). IsCarriedOut files (took text) wanted Done) (sym asked) (
+        subst (λ (names : List (List ℕ)). All P names) (sym are) (All-cons P first (second ∷ []) (bytes, fetched) (All-cons P second [] (numbers, given) (All-nil P))),
+        record { text = text; output = output; taken = refl },
+      );
+    }

@@ -1,8 +1,7 @@
 -- A replay of the unit delay with initial value 3, worked out by hand: of 5, -1, 127 it writes 3, 5, -1, with status 0.
 use Rattle.std.specs.Prelude.{⊤}
-use Rattle.std.proofs.Common.{◌≡◌, ◌<◌, ◌≤◌, ◌+◌, ◌*◌, ◌/◌, if◌then◌else◌, ℕ, ℤ, zero, suc, pos, negsuc, List, [], ◌∷◌, All, true, false, None, Some, Contains, slice_get, length, map, inl, bytes_eq, codes, refl, ap, sym, ◌∙◌, subst, arith}
+use Rattle.std.proofs.Common.{◌≡◌, ◌<◌, ◌≤◌, ◌+◌, ◌*◌, ◌/◌, if◌then◌else◌, ℕ, ℤ, zero, suc, pos, negsuc, List, [], ◌∷◌, true, false, None, Some, Contains, slice_get, length, map, inl, bytes_eq, codes, refl, ap, sym, ◌∙◌, subst, arith}
 use Rattle.std.specs.Fmt.{digits}
-use Rattle.std.proofs.lemmas.List.Elements.{All-cons, All-nil}
 use Rattle.vl_ast.specs.declared.expressions.Expr.TheOpen.{Expr-F}
 use Rattle.vl_ast.specs.declared.expressions.Expr.TheFolds.{fold-roll-Expr}
 use Rattle.vl_ast.specs.declared.expressions.Expr.TheVariants.{Name, rolls-Name}
@@ -22,16 +21,14 @@ use Rattle.vl_replay.specs.Sampled.{AreReplayed, Sampled, hit_at, numbers_of, wi
 use Rattle.vl_ast.specs.Header.{output_port}
 use Rattle.tests_top.proofs.DelayModule.{byte_port}
 use Rattle.fx_top.specs.Replayed.{AreRowsFor, IsReplayOf, IsSoundText}
-use Rattle.fx_top.specs.declared.answer.Answer.TheVariants.{Done}
 use Rattle.fx_top.specs.Call.{Files, file_limit}
-use Rattle.fx_top.specs.Cause.{IsFetched}
 use Rattle.fx_top.specs.Caused.{Ends}
 use Rattle.fx_top.specs.Command.{Replay}
 use Rattle.fx_top.specs.Outcome.{CanReplay, IsComplete}
 use Rattle.fx_io.specs.Shelf.{Fetched}
 use Rattle.tests_top.proofs.Header.{breaks-none}
 use Rattle.tests_top.proofs.Names.{AreDifferent}
-use Rattle.tests_top.proofs.Outcomes.{took, said}
+use Rattle.tests_top.proofs.Outcomes.{done, took}
 use Rattle.tests_top.proofs.Spelled.{is-module-text, module_text, module-writable}
 use Rattle.tests_top.proofs.UnitDelay.{all, delay, m, stimulus, inputs, rows, driven, shown-by, runs}
 
@@ -210,28 +207,12 @@ both name bytes = record {
 pub fetched : (bytes : List ℕ) → length bytes ≤ 16777216 → Fetched (Some (Some bytes)) file_limit bytes
 fetched bytes within = record { within = within; held = λ entry is. let same : Some bytes ≡ entry = cc is in sym same }
 
--- both files of a command were fetched
-pub both-fetched : (P : List ℕ → Type 0) (first second : List ℕ) → P first → P second → All P (first ∷ second ∷ [])
-both-fetched P first second one other = All-cons P first (second ∷ []) one (All-cons P second [] other (All-nil P))
-
 replayed-delay : Ends (codes "replay" ∷ codes "v" ∷ codes "s" ∷ []) (both (codes "v") verilog_text) (took response_text) (took []) 0
 replayed-delay =
-    let files : Files = both (codes "v") verilog_text in
     let verilog = fetched verilog_text (omega arith) in
     let stimulus = fetched stimulus_text (omega arith) in
-    record {
-      answer = Done;
-      status_is = refl;
-      said = said [];
-      carried_out = (
-        both-fetched (λ file. (bytes : List ℕ) × IsFetched files file bytes) (codes "v") (codes "s") (verilog_text, verilog) (stimulus_text, stimulus),
-        record {
-          text = response_text;
-          output = record { verilog_bytes = verilog_text; stimulus_bytes = stimulus_text; verilog_fetched = verilog; stimulus_fetched = stimulus; replay = is-replay };
-          taken = refl;
-        },
-      );
-    }
+    done (codes "replay" ∷ codes "v" ∷ codes "s" ∷ []) (both (codes "v") verilog_text) (Replay (codes "v") (codes "s")) (codes "v") (codes "s") verilog_text stimulus_text response_text refl refl verilog stimulus
+    (record { verilog_bytes = verilog_text; stimulus_bytes = stimulus_text; verilog_fetched = verilog; stimulus_fetched = stimulus; replay = is-replay })
 
 -- and it owes that status, but for want of memory
 owes-replay : (status : ℕ) → IsComplete (both (codes "v") verilog_text) (took response_text) (Replay (codes "v") (codes "s")) status → Contains (0 ∷ 1 ∷ []) status

@@ -19,15 +19,14 @@ use Rattle.dg_response.specs.Response.{column_of, input_columns, output_columns,
 use Rattle.mdl_build.specs.Settings.{zero_decimal}
 use Rattle.fx_type.specs.Conversion.{Stores}
 use Rattle.fx_model.specs.Model.{IsDiagramOf, IsModelOf}
-use Rattle.fx_top.specs.declared.answer.Answer.TheVariants.{Done}
-use Rattle.fx_top.specs.Call.{Files}
-use Rattle.fx_top.specs.Cause.{IsFetched}
+use Rattle.fx_top.specs.Command.{Simulate}
 use Rattle.fx_top.specs.Caused.{Ends}
 use Rattle.fx_top.specs.Simulated.{IsSimulationOf, output_periods}
 use Rattle.tests_top.proofs.DelayDiagram.{attributes, attributes-are, wired, checked}
-use Rattle.tests_top.proofs.DelayModel.{diagram, enables, inport, int8, is-flat, is-nested, model_text, nested, stands, tree, wiring}
-use Rattle.tests_top.proofs.Outcomes.{took, said}
-use Rattle.tests_top.proofs.ReplayedDelay.{both, both-fetched, fetched, numbers, response_text, stimulus_text}
+use Rattle.tests_premises.specs.Whole.{int8}
+use Rattle.tests_top.proofs.DelayModel.{diagram, enables, inport, is-flat, is-nested, model_text, nested, stands, tree, wiring}
+use Rattle.tests_top.proofs.Outcomes.{done, took}
+use Rattle.tests_top.proofs.ReplayedDelay.{both, fetched, numbers, response_text, stimulus_text}
 
 -- ---- the text is the model of the diagram
 
@@ -134,19 +133,7 @@ is-simulation = record { diagram = diagram; accepted = is-model; rows = numbers;
 
 simulated-delay : Ends (codes "simulate" ∷ codes "m" ∷ codes "s" ∷ []) (both (codes "m") model_text) (took response_text) (took []) 0
 simulated-delay =
-    let files : Files = both (codes "m") model_text in
     let model = fetched model_text (omega arith) in
     let stimulus = fetched stimulus_text (omega arith) in
-    record {
-      answer = Done;
-      status_is = refl;
-      said = said [];
-      carried_out = (
-        both-fetched (λ file. (bytes : List ℕ) × IsFetched files file bytes) (codes "m") (codes "s") (model_text, model) (stimulus_text, stimulus),
-        record {
-          text = response_text;
-          output = record { model_bytes = model_text; stimulus_bytes = stimulus_text; model_fetched = model; stimulus_fetched = stimulus; simulation = is-simulation };
-          taken = refl;
-        },
-      );
-    }
+    done (codes "simulate" ∷ codes "m" ∷ codes "s" ∷ []) (both (codes "m") model_text) (Simulate (codes "m") (codes "s")) (codes "m") (codes "s") model_text stimulus_text response_text refl refl model stimulus
+    (record { model_bytes = model_text; stimulus_bytes = stimulus_text; model_fetched = model; stimulus_fetched = stimulus; simulation = is-simulation })
