@@ -4,7 +4,7 @@ use crate::calls::{Answer, answered, benched};
 use crate::ends::put_ends;
 use crate::plans::{FEW, WHOLE, put_explored};
 use crate::samples::{put_sample, put_summary};
-use crate::wires::{put_expected, put_met};
+use crate::wires::put_wires;
 use anyhow::{Error, Result};
 use fx_sample::plan_text;
 use std::alloc::Global;
@@ -201,8 +201,8 @@ fn put_row<R: Threads + Sync, W: Write>(
     match found(row.command, COMMANDS)? {
         Command::Explored => put_explored(rt, alloc, row.text.as_slice(), WHOLE, out),
         Command::ExploredFew => put_explored(rt, alloc, row.text.as_slice(), FEW, out),
-        Command::Met => put_met(rt, alloc, row, out),
-        Command::Wires => put_expected(rt, alloc, row, out),
+        Command::Met => put_wires(rt, alloc, row, true, out),
+        Command::Wires => put_wires(rt, alloc, row, false, out),
         Command::Sample => put_sample(alloc, row, out),
         Command::SamplePlan => written(out.write_all(plan_text())),
         Command::Summary => put_summary(alloc, row.text.as_slice(), out),

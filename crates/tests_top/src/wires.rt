@@ -81,13 +81,14 @@ fn texts_like<R: Threads + Sync>(
     expected: &[u8],
 ) -> Result<u32> {
     for texts in 0..TEXTS {
-        if !is_written(rt, alloc, module, expected)? || !is_spelled(rt, alloc, module, expected)? {
+        if !is_written(rt, alloc, module, expected)? {
             return Ok(texts);
         }
     }
     Ok(TEXTS)
 }
 
+/// Whether a module is written as expected, whole and in parts.
 fn is_written<R: Threads + Sync>(
     rt: &R,
     alloc: Global,
@@ -95,40 +96,24 @@ fn is_written<R: Threads + Sync>(
     expected: &[u8],
 ) -> Result<bool> {
     let text = write(rt, alloc, module, &OpenGate)?;
-    Ok(text.bytes() == expected)
-}
-
-fn is_spelled<R: Threads + Sync>(
-    rt: &R,
-    alloc: Global,
-    module: &Module,
-    expected: &[u8],
-) -> Result<bool> {
     let parts = spelled(rt, alloc, module, &OpenGate)?;
-    let text = joined(alloc, parts.as_slice())?;
-    Ok(text.as_slice() == expected)
+    let spelled = joined(alloc, parts.as_slice())?;
+    Ok(text.bytes() == expected && spelled.as_slice() == expected)
 }
 
-/// Writes how many workers meet.
-pub fn put_met<R: Threads + Sync, W: io::Write>(
+/// Writes how many workers meet while a module is written, or else how many texts are the expected one.
+pub fn put_wires<R: Threads + Sync, W: io::Write>(
     rt: &R,
     alloc: Global,
     row: &mut Row<'_>,
+    meets: bool,
     out: &mut W,
 ) -> Result<()> {
     let count = row.number()?;
-    let met = meet(rt, alloc, count)?;
-    written(writeln!(out, "{count} wires, {met} workers met"))
-}
-
-/// Writes how many texts are the expected one.
-pub fn put_expected<R: Threads + Sync, W: io::Write>(
-    rt: &R,
-    alloc: Global,
-    row: &mut Row<'_>,
-    out: &mut W,
-) -> Result<()> {
-    let count = row.number()?;
+    if meets {
+        let met = meet(rt, alloc, count)?;
+        return written(writeln!(out, "{count} wires, {met} workers met"));
+    }
     let texts = texts_as_expected(rt, alloc, count)?;
     written(writeln!(out, "{count} wires, {texts} texts as expected"))
 }
