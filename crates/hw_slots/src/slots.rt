@@ -1,6 +1,6 @@
 ghost use Rattle.std.specs.Prelude.{◌<◌, IfErr, IfOk, length};
 ghost use Rattle.hw_slots.specs.Answer.{AreSlots, AreUnits, IsSlotFault};
-ghost use Rattle.hw_slots.specs.inner.Made.{AreCounts, AreLaid, AreLevels, AreTurns};
+ghost use Rattle.hw_slots.specs.inner.Made.{AreCounts, AreLaid, AreLevels, CanServe};
 
 use crate::bases::Bases;
 use crate::firsts::firsts_of;
@@ -75,9 +75,7 @@ fn units_by(
     kinds: u64,
     made: &Turns,
 ) -> Result<Longs, OutOfMemory>
-    requires some { 0 < multipliers }
-    requires turns { AreTurns operations.now (length operations.now) made.now.turns }
-    requires counts { AreCounts operations.now made.now.counts }
+    requires { CanServe operations.now multipliers made.now }
     ensures { IfOk result (λ units.
         AreUnits operations.now multipliers kinds (length operations.now) units) }
 {
@@ -100,9 +98,7 @@ fn slots_by(
     kinds: u64,
     made: &Turns,
 ) -> Result<Slots, SlotFault>
-    requires some { 0 < multipliers }
-    requires turns { AreTurns operations.now (length operations.now) made.now.turns }
-    requires counts { AreCounts operations.now made.now.counts }
+    requires { CanServe operations.now multipliers made.now }
     ensures slots { IfOk result (AreSlots operations.now multipliers periods.now kinds) }
     ensures short { IfErr result (IsSlotFault operations.now multipliers periods.now) }
 {

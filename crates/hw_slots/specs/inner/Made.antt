@@ -5,6 +5,7 @@ use Rattle.dg_waves.specs.Rounds.{numbers_from}
 use Rattle.hw_slots.specs.declared.operation.Operation.{Operation}
 use Rattle.hw_slots.specs.declared.operation.Span.{Span}
 use Rattle.hw_slots.specs.declared.tally.Rung.{Rung}
+use Rattle.hw_slots.specs.declared.turns.Turns.{Turns}
 use Rattle.hw_slots.specs.Slots.{count_at, level_width, levels_of, base_slot, need_of, turn_of, most_at_once, first_unit}
 use Rattle.hw_slots.specs.inner.Tally.{tally_at}
 
@@ -16,6 +17,12 @@ pub record AreCounts (operations : List Operation) (tally : List (Rung × ℕ)) 
 pub record AreTurns (operations : List Operation) (count : ℕ) (turns : List ℕ) : Type 0 where
   pub size : length turns ≡ count
   pub are : (number : ℕ) (o : Operation) → number < count → slice_get operations number ≡ Some o → slice_get turns number ≡ Some (turn_of operations number o)
+
+-- operations have these turns and counts, and may be served
+pub record CanServe (operations : List Operation) (multipliers : ℕ) (made : Turns) : Type 0 where
+  pub some : 0 < multipliers
+  pub turns : AreTurns operations (length operations) made.turns
+  pub counts : AreCounts operations made.counts
 
 -- a tally has the widths of levels by period
 pub record AreWidths (operations : List Operation) (multipliers : ℕ) (tally : List (Rung × ℕ)) : Type 0 where
