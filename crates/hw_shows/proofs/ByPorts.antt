@@ -1,5 +1,6 @@
 -- What a small diagram owes at each port of its blocks.
-use Rattle.std.proofs.Common.{◌≡◌, ℕ, zero, suc, ◌≤◌, Some, None, ap, sym, ◌∙◌, subst, arith}
+use Rattle.std.proofs.Common.{◌≡◌, ℕ, zero, suc, ◌≤◌, Option, Some, None, ap, sym, ◌∙◌, subst, refl, arith}
+use Rattle.std.proofs.Math.Nat.{mod_self}
 use Rattle.std.proofs.lemmas.Option.{none-some, same_Some}
 use Rattle.dg_model.specs.declared.diagram.Diagram.{Diagram}
 use Rattle.dg_model.specs.declared.diagram.Block.{Block}
@@ -8,8 +9,8 @@ use Rattle.dg_model.specs.declared.nested.Target.{Target}
 use Rattle.dg_model.specs.declared.nested.Target.TheVariants.{Port, Enable}
 use Rattle.dg_model.specs.Signals.{Attributes}
 use Rattle.dg_model.specs.Wires.{driver_of, repeated}
-use Rattle.hw_shows.specs.Timing.{Timing}
-use Rattle.hw_shows.specs.Timed.{Feeds, IsInTime}
+use Rattle.hw_shows.specs.Timing.{Timing, IsEdgeInTime, latency_after}
+use Rattle.hw_shows.specs.Timed.{Feeds, IsInTime, lag_into}
 use Rattle.hw_shows.specs.Waves.{Waves, IsOfferedAt}
 
 -- ---- times
@@ -25,6 +26,20 @@ module _ (diagram : Diagram) (attributes : Attributes) (timing : Timing) where
       let source_is : period ≡ source = same_Some period source (sym is ∙ ap (λ (x : ℕ). attributes.period_at x) same ∙ at) in
       subst (λ (x : ℕ). IsInTime diagram attributes timing block b (Port port) from x) source_is (subst (λ (x : ℕ). IsInTime diagram attributes timing block b (Port port) x period) same time)
 
+  -- an edge without registers in one period is in time, where its source is early enough
+  pub plain_in_time : (block : ℕ) (b : Block) (port : ℕ) (edge : Edge) (period : ℕ) → driver_of diagram block port ≡ Some edge → attributes.period_at edge.from ≡ Some period → attributes.period_at block ≡ Some period
+      → lag_into diagram attributes block b (Port port) period ≡ None → latency_after timing period edge.from ≤ timing.latency block → timing.ready edge.from ≤ timing.ready block
+      → ((element slot : ℕ) → timing.slot block element ≡ Some slot → timing.ready edge.from ≤ slot) → InTime block b (Port port)
+  plain_in_time block b port edge period driver from_is own_is plain late ready slot =
+      port_in_time block b port edge period driver from_is (record {
+        own = period;
+        period = own_is;
+        same = λ joins. refl;
+        edge = subst (λ (lag : Option ℕ). IsEdgeInTime timing edge.from period block period lag) (sym plain) (record { divides = mod_self period; behind = late });
+        ready = λ takes. ready;
+        slot = slot;
+      })
+
   pub no_ports_in_time : (block : ℕ) (b : Block) → b.inputs ≡ 0 → (port : ℕ) → InTime block b (Port port)
   no_ports_in_time block b none port from source feeds at = absurd (omega (arith, none, feeds.1, feeds.2))
 
@@ -37,6 +52,9 @@ module _ (diagram : Diagram) (attributes : Attributes) (timing : Timing) where
   pub outside : (block : ℕ) (b : Block) → b.enable ≡ None → ((port : ℕ) → InTime block b (Port port)) → (target : Target) → InTime block b target
   outside block b free ports (Port port) from source feeds at = ports port from source feeds at
   outside block b free ports Enable from source feeds at = absurd (none-some from (sym free ∙ feeds.0))
+
+  pub no_ends_in_time : (block : ℕ) (b : Block) → b.inputs ≡ 0 → b.enable ≡ None → (target : Target) → InTime block b target
+  no_ends_in_time block b none free = outside block b free (no_ports_in_time block b none)
 
 -- ---- waves
 module _ (diagram : Diagram) (attributes : Attributes) (timing : Timing) (clocks : ℕ) (waves : Waves) where

@@ -1,5 +1,5 @@
 -- The diagram of a Gain before a Delay in an enabled subsystem: an input and a control, the test of the control, a Gain of 1, a Delay of one sample with held states, and an output. It keeps the rules.
-use Rattle.std.proofs.Common.{◌≡◌, ◌≢◌, ℕ, ◌≤◌, true, false, true≢false, List, [], ◌∷◌, length, Option, Some, slice_get, inl, sym, refl, arith}
+use Rattle.std.proofs.Common.{◌≡◌, ℕ, true, false, true≢false, List, [], ◌∷◌, length, Option, Some, slice_get, inl, sym, refl, arith}
 use Rattle.std.proofs.Math.Dec.{lit<, lit≤}
 use Rattle.fx_type.specs.declared.kind.FxType.TheVariants.{Logical}
 use Rattle.fx_type.specs.declared.spec.TypeSpec.TheVariants.{Fixed}

@@ -1,35 +1,34 @@
 -- The times and waves of the Gain's diagram, with two pipeline registers behind the Gain, and the table that they show.
-use Rattle.std.proofs.Common.{◌≡◌, ℕ, zero, suc, ◌*◌, ◌<◌, ◌||◌, pos, ◌*ℤ◌, true, false, [], ◌∷◌, get_or, Some, None, slice_get, sym, subst, refl, arith}
+use Rattle.std.proofs.Common.{◌≡◌, ℕ, zero, suc, ◌*◌, ◌<◌, ◌≤◌, ◌||◌, pos, ◌*ℤ◌, true, false, [], ◌∷◌, get_or, Some, None, slice_get, sym, subst, refl, arith}
 use Rattle.std.specs.Prelude.{int_lt}
 use Rattle.std.proofs.Math.Dec.{lit<}
 use Rattle.std.proofs.Math.Nat.{mod-one}
 use Rattle.std.proofs.lemmas.Option.{none-some, same_Some}
 use Rattle.fx_type.specs.declared.rounding.Rounding.TheVariants.{Floor}
 use Rattle.fx_type.specs.Conversion.{Converts}
-use Rattle.fx_type.specs.FxType.{InRange}
 use Rattle.dg_model.specs.declared.diagram.Block.{Block}
 use Rattle.dg_model.specs.declared.nested.Target.{Target}
 use Rattle.dg_model.specs.declared.nested.Target.TheVariants.{Port, Enable}
 use Rattle.dg_model.specs.declared.op.Op.TheVariants.{Pass, Gain as OpGain}
 use Rattle.dg_model.specs.Equation.{Equation}
+use Rattle.dg_model.specs.Faults.{AllKeep}
 use Rattle.dg_model.specs.Hits.{Hits, last_hit}
 use Rattle.dg_model.specs.declared.row.Inherited.{Inherited}
-use Rattle.dg_model.specs.Library.{row_of}
 use Rattle.dg_model.specs.Operation.{stored_truth}
-use Rattle.dg_model.specs.Signals.{Attributes, Stimulus, Table}
+use Rattle.dg_model.specs.Signals.{Stimulus, Table}
 use Rattle.dg_model.specs.Solves.{IsShown, IsStimulus, Solves}
-use Rattle.dg_model.specs.Wired.{root_input}
+use Rattle.dg_model.specs.Wires.{driver_of}
 use Rattle.hw_net.specs.Registers.{Wave}
-use Rattle.hw_shows.specs.Shows.{IsSeen}
-use Rattle.hw_shows.specs.Timing.{Timing}
-use Rattle.hw_shows.specs.Timed.{Feeds, IsInTime, IsTimed}
+use Rattle.hw_shows.specs.Timing.{Timing, latency_after}
+use Rattle.hw_shows.specs.Timed.{Feeds, IsInTime, IsTimed, lag_into}
 use Rattle.hw_shows.specs.Series.{span_at, IsEnabledSeries}
 use Rattle.hw_shows.specs.Waves.{Waves, IsMadeAs, IsPiped, IsOfferedAt, AreBuilt, AreDriven}
 use Rattle.hw_shows.specs.Laws.{IsDesign}
 use Rattle.hw_shows.proofs.Trying.{wave_of, tried_shows, tried_range, tried_line, tried_same}
 use Rattle.dg_model.proofs.Examples.{stores_small}
 use Rattle.hw_shows.proofs.Small.{int8, int16, int16_full, kept, input_of, output, edge_of, each_by, order_of_six}
-use Rattle.hw_shows.proofs.ByPorts.{InTime, port_in_time, no_ports_in_time, one_port_in_time, outside, port_offered, AreOfferedTo, no_ports_offered, one_port_offered}
+use Rattle.hw_shows.proofs.ByBlocks.{Moves, IsAtOnce, IsDriven, Fits, timed_by, driven_by, given_by, input_fits, no_input_fits, designed, undesigned}
+use Rattle.hw_shows.proofs.ByPorts.{InTime, plain_in_time, no_ends_in_time, one_port_in_time, outside, port_offered, AreOfferedTo, no_ports_offered, one_port_offered}
 use Rattle.hw_shows.proofs.GainChecked.{test, gain, delay, blocks, diagram, attributes, propagated, ordered}
 use Rattle.hw_shows.proofs.GainIntoDelay.{gains, controls, delays, stage, control, enable, state, moved, pipeline, states, not_states}
 
@@ -55,32 +54,14 @@ ready_is (suc (suc (suc (suc (suc (suc block)))))) period e = absurd (none-some 
 abbrev Arrives : ℕ → Block → Target → Type 0
 Arrives block b target = InTime diagram attributes timing block b target
 
-from_input : (block : ℕ) (b : Block) → b.inputs ≡ 0 → b.enable ≡ None → (target : Target) → Arrives block b target
-from_input block b none free target = outside diagram attributes timing block b free (no_ports_in_time diagram attributes timing block b none) target
-
-into_test : Arrives 2 test (Port 1)
-into_test =
-    port_in_time diagram attributes timing 2 test 1 (edge_of 1 2 1) 1 refl refl
-    (record { own = 1; period = refl; same = λ h. refl; edge = record { divides = refl; behind = omega arith }; ready = λ h. omega arith; slot = λ element slot h. absurd (none-some slot h) })
-
-into_gain : Arrives 3 gain (Port 1)
-into_gain =
-    port_in_time diagram attributes timing 3 gain 1 (edge_of 0 3 1) 1 refl refl
-    (record { own = 1; period = refl; same = λ h. refl; edge = record { divides = refl; behind = omega arith }; ready = λ h. omega arith; slot = λ element slot h. absurd (none-some slot h) })
-
-into_delay : Arrives 4 delay (Port 1)
-into_delay =
-    port_in_time diagram attributes timing 4 delay 1 (edge_of 3 4 1) 1 refl refl
-    (record { own = 1; period = refl; same = λ h. refl; edge = record { divides = refl; behind = omega arith }; ready = λ h. omega arith; slot = λ element slot h. absurd (none-some slot h) })
-
-into_output : Arrives 5 output (Port 1)
-into_output =
-    port_in_time diagram attributes timing 5 output 1 (edge_of 4 5 1) 1 refl refl
-    (record { own = 1; period = refl; same = λ h. refl; edge = record { divides = refl; behind = omega arith }; ready = λ h. omega arith; slot = λ element slot h. absurd (none-some slot h) })
+-- from the block before it, of the same latency
+into : (block : ℕ) (b : Block) (from : ℕ) → driver_of diagram block 1 ≡ Some (edge_of from block 1) → attributes.period_at from ≡ Some 1 → attributes.period_at block ≡ Some 1 → lag_into diagram attributes block b (Port 1) 1 ≡ None
+    → latency_after timing 1 from ≤ timing.latency block → Arrives block b (Port 1)
+into block b from driver from_is own_is plain late = plain_in_time diagram attributes timing block b 1 (edge_of from block 1) 1 driver from_is own_is plain late (omega arith) (λ element slot h. absurd (none-some slot h))
 
 -- the Delay from the Gain, two base samples late, and from its control
 at_delay : (target : Target) → Arrives 4 delay target
-at_delay (Port port) from source feeds is = one_port_in_time diagram attributes timing 4 delay refl into_delay port from source feeds is
+at_delay (Port port) from source feeds is = one_port_in_time diagram attributes timing 4 delay refl (into 4 delay 3 refl refl refl refl (omega arith)) port from source feeds is
 at_delay Enable from source feeds is =
     let same : 2 ≡ from = same_Some 2 from feeds.0 in
     let source_is : 1 ≡ source = same_Some 1 source (subst (λ (x : ℕ). attributes.period_at x ≡ Some source) (sym same) is) in
@@ -88,21 +69,21 @@ at_delay Enable from source feeds is =
     (subst (λ (x : ℕ). IsInTime diagram attributes timing 4 delay Enable x 1) same
     (record { own = 1; period = refl; same = λ h. refl; edge = record { divides = refl; behind = omega arith }; ready = λ h. omega arith; slot = λ element slot h. absurd (none-some slot h) }))
 
-arrive : (block : ℕ) (b : Block) → slice_get blocks block ≡ Some b → (target : Target) → Arrives block b target
+arrive : AllKeep diagram (λ (k : ℕ) (x : Block). (target : Target) → Arrives k x target)
 arrive = each_by (λ (k : ℕ) (x : Block). (target : Target) → Arrives k x target) blocks
-    (from_input 0 (input_of 1 1 (lit< tt)) refl refl)
-    (from_input 1 (input_of 2 1 (lit< tt)) refl refl)
-    (outside diagram attributes timing 2 test refl (one_port_in_time diagram attributes timing 2 test refl into_test))
-    (outside diagram attributes timing 3 gain refl (one_port_in_time diagram attributes timing 3 gain refl into_gain))
+    (no_ends_in_time diagram attributes timing 0 (input_of 1 1 (lit< tt)) refl refl)
+    (no_ends_in_time diagram attributes timing 1 (input_of 2 1 (lit< tt)) refl refl)
+    (outside diagram attributes timing 2 test refl (one_port_in_time diagram attributes timing 2 test refl (into 2 test 1 refl refl refl refl (omega arith))))
+    (outside diagram attributes timing 3 gain refl (one_port_in_time diagram attributes timing 3 gain refl (into 3 gain 0 refl refl refl refl (omega arith))))
     at_delay
-    (outside diagram attributes timing 5 output refl (one_port_in_time diagram attributes timing 5 output refl into_output))
+    (outside diagram attributes timing 5 output refl (one_port_in_time diagram attributes timing 5 output refl (into 5 output 4 refl refl refl refl (omega arith))))
 
-moves : (block : ℕ) (b : Block) → slice_get blocks block ≡ Some b → (row_of b.kind).timing.inherits ≡ Inherited.Moving → (period : ℕ) × (attributes.period_at block ≡ Some period)
-moves = each_by (λ (k : ℕ) (x : Block). (row_of x.kind).timing.inherits ≡ Inherited.Moving → (period : ℕ) × (attributes.period_at k ≡ Some period)) blocks
+moves : AllKeep diagram (Moves attributes)
+moves = each_by (Moves attributes) blocks
     (λ is. (1, refl)) (λ is. (1, refl)) (λ is. (1, refl)) (λ is. (1, refl)) (λ is. (1, refl)) (λ is. (1, refl))
 
-base_is : (block : ℕ) (b : Block) → slice_get blocks block ≡ Some b → (row_of b.kind).timing.inherits ≡ Inherited.Base → (timing.latency block ≡ 0) × (timing.ready block ≡ 0)
-base_is = each_by (λ (k : ℕ) (x : Block). (row_of x.kind).timing.inherits ≡ Inherited.Base → (timing.latency k ≡ 0) × (timing.ready k ≡ 0)) blocks
+at_once : AllKeep diagram (IsAtOnce timing)
+at_once = each_by (IsAtOnce timing) blocks
     (λ is. (refl, refl))
     (λ is. (refl, refl))
     (λ is. (refl, refl))
@@ -111,37 +92,22 @@ base_is = each_by (λ (k : ℕ) (x : Block). (row_of x.kind).timing.inherits ≡
     (λ is. let other : Inherited.Moving ≡ Inherited.Base = is in cc)
 
 pub timed : IsTimed diagram attributes timing
-timed = record {
-  ready = ready_is;
-  edges = λ block b target from source e showing feeds is. arrive block b e target from source feeds is;
-  moving = moves;
-  base = base_is;
-  slots = λ block element slot e. absurd (none-some slot e);
-  still = λ block element e. refl;
-}
+timed = timed_by diagram attributes timing ready_is arrive moves at_once (λ block element slot e. absurd (none-some slot e)) (λ block element e. refl)
 
 -- ---- its waves, with any registers of the Delay
-abbrev entries : (ℕ → Wave) → ℕ → Wave
-entries registers zero = stage 0
-entries registers (suc zero) = control
-entries registers (suc (suc zero)) = control
-entries registers (suc (suc (suc zero))) = stage 0
-entries registers (suc (suc (suc (suc block)))) = registers 1
-
--- behind the pipelines
-abbrev behind : (ℕ → Wave) → ℕ → Wave
-behind registers zero = stage 0
-behind registers (suc zero) = control
-behind registers (suc (suc zero)) = control
-behind registers (suc (suc (suc zero))) = stage 2
-behind registers (suc (suc (suc (suc block)))) = registers 1
-
 abbrev steps : (ℕ → Wave) → ℕ → ℕ → Wave
 steps registers zero k = stage 0
 steps registers (suc zero) k = control
 steps registers (suc (suc zero)) k = control
 steps registers (suc (suc (suc zero))) k = stage k
 steps registers (suc (suc (suc (suc block)))) k = registers 1
+
+abbrev entries : (ℕ → Wave) → ℕ → Wave
+entries registers block = steps registers block 0
+
+-- behind the pipelines
+abbrev behind : (ℕ → Wave) → ℕ → Wave
+behind registers block = steps registers block 2
 
 abbrev offers : (ℕ → Wave) → ℕ → Wave
 offers registers zero = wave_of []
@@ -300,11 +266,8 @@ pub solves : Solves diagram attributes stimulus 3 table
 solves = record { at_hits = at_hits; between_hits = between_hits }
 
 -- ---- the inputs
-abbrev Driven : ℕ → Block → Type 0
-Driven block b = (number element t c : ℕ) → root_input (row_of b.kind).place.role ≡ Some number → t < 3 → c < 6 → IsSeen 1 (attributes.period_at block) 0 0 t c → inputs number c ≡ stimulus number element t
-
-driven_by : (block : ℕ) (b : Block) → slice_get blocks block ≡ Some b → Driven block b
-driven_by = each_by Driven blocks
+inputs_driven : AllKeep diagram (IsDriven attributes stimulus timing 6 3 (waves state))
+inputs_driven = each_by (IsDriven attributes stimulus timing 6 3 (waves state)) blocks
     (λ number element t c is early soon seen. subst (λ (k : ℕ). inputs k c ≡ stimulus k element t) (same_Some 1 number is) ((tried_shows 6 3 1 1 0 0 gains (stage 0) refl).at t c early soon seen))
     (λ number element t c is early soon seen. subst (λ (k : ℕ). inputs k c ≡ stimulus k element t) (same_Some 2 number is) ((tried_shows 6 3 1 1 0 0 controls control refl).at t c early soon seen))
     (λ number element t c is early soon seen. absurd (none-some number is))
@@ -313,34 +276,25 @@ driven_by = each_by Driven blocks
     (λ number element t c is early soon seen. absurd (none-some number is))
 
 pub driven : AreDriven diagram attributes stimulus 3 1 6 (waves state)
-driven = record { shows = λ block b number element t c e is inside early soon seen. driven_by block b e number element t c is early soon seen }
+driven = driven_by diagram attributes stimulus timing 6 3 (waves state) inputs_driven
 
 -- and are in range
-abbrev Fits : ℕ → Block → Type 0
-Fits block b = (number element t : ℕ) → root_input (row_of b.kind).place.role ≡ Some number → t < 3 → InRange (attributes.type_at block 1) (stimulus number element t)
-
-fits : (block : ℕ) (b : Block) → slice_get blocks block ≡ Some b → Fits block b
-fits = each_by Fits blocks
-    (λ number element t is below. subst (λ (k : ℕ). InRange int8 (stimulus k element t)) (same_Some 1 number is) (tried_range int8 3 gains refl t below))
-    (λ number element t is below. subst (λ (k : ℕ). InRange int8 (stimulus k element t)) (same_Some 2 number is) (tried_range int8 3 controls refl t below))
-    (λ number element t is below. absurd (none-some number is))
-    (λ number element t is below. absurd (none-some number is))
-    (λ number element t is below. absurd (none-some number is))
-    (λ number element t is below. absurd (none-some number is))
+inputs_fit : AllKeep diagram (Fits attributes stimulus 3)
+inputs_fit = each_by (Fits attributes stimulus 3) blocks
+    (input_fits attributes stimulus 3 0 (input_of 1 1 (lit< tt)) 1 refl (λ element t below. tried_range int8 3 gains refl t below))
+    (input_fits attributes stimulus 3 1 (input_of 2 1 (lit< tt)) 2 refl (λ element t below. tried_range int8 3 controls refl t below))
+    (no_input_fits attributes stimulus 3 2 test refl)
+    (no_input_fits attributes stimulus 3 3 gain refl)
+    (no_input_fits attributes stimulus 3 4 delay refl)
+    (no_input_fits attributes stimulus 3 5 output refl)
 
 pub given : IsStimulus diagram attributes stimulus 3
-given = record { in_range = λ block b number element t e is inside below hit. fits block b e number element t is below }
+given = given_by diagram attributes stimulus 3 inputs_fit
 
 -- ---- all of it
 pub design : IsDesign diagram order_of_six stimulus timing 6 3 table (waves state)
-design = record {
-  ordered = ordered;
-  timed = subst (λ (a : Attributes). IsTimed diagram a timing) (sym propagated) timed;
-  solves = subst (λ (a : Attributes). Solves diagram a stimulus 3 table) (sym propagated) solves;
-  built = subst (λ (a : Attributes). AreBuilt diagram a timing 6 (waves state)) (sym propagated) built;
-  driven = subst (λ (a : Attributes). AreDriven diagram a stimulus 3 1 6 (waves state)) (sym propagated) driven;
-}
+design = designed diagram attributes order_of_six stimulus timing 6 3 table (waves state) propagated ordered timed solves built driven
 
 -- and with the wrong number it is none
 pub no_design : ¬ IsDesign diagram order_of_six stimulus timing 6 3 table (waves moved)
-no_design is = not_built (subst (λ (a : Attributes). AreBuilt diagram a timing 6 (waves moved)) propagated is.built)
+no_design = undesigned diagram attributes order_of_six stimulus timing 6 3 table (waves moved) propagated not_built

@@ -1,4 +1,5 @@
 pub mod Blocks
+pub mod ByBlocks
 pub mod ByPorts
 pub mod Chains
 pub mod Delays

@@ -1,5 +1,5 @@
 -- The diagram of the shared product: two inputs of period 2, their product, a transition to period 4 and an output; beside them an input of the base period, which nothing reads. It keeps the rules.
-use Rattle.std.proofs.Common.{◌≡◌, ◌≢◌, ℕ, zero, suc, ◌≤◌, true, true≢false, List, [], ◌∷◌, length, Option, Some, slice_get, inl, sym, refl, arith}
+use Rattle.std.proofs.Common.{◌≡◌, ℕ, zero, suc, true, true≢false, List, [], ◌∷◌, length, Option, Some, slice_get, inl, sym, refl, arith}
 use Rattle.std.specs.Prelude.{IsSome}
 use Rattle.std.proofs.Math.Dec.{lit<, lit≤}
 use Rattle.fx_type.specs.declared.kind.FxType.{FxType}

@@ -4,20 +4,17 @@ use Rattle.std.proofs.Math.Dec.{lit<}
 use Rattle.std.proofs.lemmas.Option.{none-some, same_Some}
 use Rattle.fx_type.specs.declared.rounding.Rounding.TheVariants.{Floor}
 use Rattle.fx_type.specs.Conversion.{Converts}
-use Rattle.fx_type.specs.FxType.{InRange}
 use Rattle.dg_model.specs.declared.diagram.Block.{Block}
 use Rattle.dg_model.specs.declared.nested.Target.{Target}
 use Rattle.dg_model.specs.declared.nested.Target.TheVariants.{Port}
 use Rattle.dg_model.specs.declared.op.Op.TheVariants.{Pass, Product as OpProduct}
 use Rattle.dg_model.specs.Equation.{Equation}
+use Rattle.dg_model.specs.Faults.{AllKeep}
 use Rattle.dg_model.specs.Hits.{Hits, last_hit}
 use Rattle.dg_model.specs.declared.row.Inherited.{Inherited}
-use Rattle.dg_model.specs.Library.{row_of}
-use Rattle.dg_model.specs.Signals.{Attributes, Stimulus, Table}
+use Rattle.dg_model.specs.Signals.{Stimulus, Table}
 use Rattle.dg_model.specs.Solves.{IsShown, IsStimulus, Solves}
-use Rattle.dg_model.specs.Wired.{root_input}
 use Rattle.hw_net.specs.Registers.{Wave}
-use Rattle.hw_shows.specs.Shows.{IsSeen}
 use Rattle.hw_shows.specs.Timing.{Timing}
 use Rattle.hw_shows.specs.Timed.{IsTimed}
 use Rattle.hw_shows.specs.Series.{span_at, IsProductAt}
@@ -26,7 +23,8 @@ use Rattle.hw_shows.specs.Laws.{IsDesign}
 use Rattle.hw_shows.proofs.Trying.{wave_of, tried_shows, tried_range, tried_line, tried_stays}
 use Rattle.dg_model.proofs.Examples.{stores_small}
 use Rattle.hw_shows.proofs.Small.{int8, int16, int16_full, kept, input_of, output, edge_of, each_by, order_of_six}
-use Rattle.hw_shows.proofs.ByPorts.{InTime, port_in_time, no_ports_in_time, one_port_in_time, outside, port_offered, AreOfferedTo, no_ports_offered, one_port_offered}
+use Rattle.hw_shows.proofs.ByBlocks.{Moves, IsAtOnce, IsDriven, Fits, timed_by, driven_by, given_by, input_fits, no_input_fits, designed, undesigned}
+use Rattle.hw_shows.proofs.ByPorts.{InTime, plain_in_time, port_in_time, no_ends_in_time, one_port_in_time, outside, port_offered, AreOfferedTo, no_ports_offered, one_port_offered}
 use Rattle.hw_shows.proofs.SharedChecked.{multiplied, transition, blocks, diagram, attributes, propagated, ordered}
 use Rattle.hw_shows.proofs.SharedProduct.{lefts, rights, products, slower, left, right, product, slowed, wrong, served, lined, not_lined}
 
@@ -52,19 +50,12 @@ ready_is (suc (suc (suc (suc (suc (suc block)))))) period e = absurd (none-some 
 abbrev Arrives : ℕ → Block → Target → Type 0
 Arrives block b target = InTime diagram attributes timing block b target
 
-from_input : (block : ℕ) (b : Block) → b.inputs ≡ 0 → b.enable ≡ None → (target : Target) → Arrives block b target
-from_input block b none free target = outside diagram attributes timing block b free (no_ports_in_time diagram attributes timing block b none) target
-
 into_product : (port : ℕ) → Arrives 2 multiplied (Port port)
 into_product zero from source feeds is = absurd (omega (arith, feeds.1))
 into_product (suc zero) from source feeds is =
-    port_in_time diagram attributes timing 2 multiplied 1 (edge_of 0 2 1) 2 refl refl
-    (record { own = 2; period = refl; same = λ h. refl; edge = record { divides = refl; behind = omega arith }; ready = λ h. omega arith; slot = λ element slot h. omega arith })
-    from source feeds is
+    plain_in_time diagram attributes timing 2 multiplied 1 (edge_of 0 2 1) 2 refl refl refl refl (omega arith) (omega arith) (λ element slot h. omega arith) from source feeds is
 into_product (suc (suc zero)) from source feeds is =
-    port_in_time diagram attributes timing 2 multiplied 2 (edge_of 1 2 2) 2 refl refl
-    (record { own = 2; period = refl; same = λ h. refl; edge = record { divides = refl; behind = omega arith }; ready = λ h. omega arith; slot = λ element slot h. omega arith })
-    from source feeds is
+    plain_in_time diagram attributes timing 2 multiplied 2 (edge_of 1 2 2) 2 refl refl refl refl (omega arith) (omega arith) (λ element slot h. omega arith) from source feeds is
 into_product (suc (suc (suc port))) from source feeds is = absurd (omega (arith, feeds.2))
 
 into_transition : Arrives 3 transition (Port 1)
@@ -74,24 +65,23 @@ into_transition =
 
 into_output : Arrives 4 output (Port 1)
 into_output =
-    port_in_time diagram attributes timing 4 output 1 (edge_of 3 4 1) 4 refl refl
-    (record { own = 4; period = refl; same = λ h. refl; edge = record { divides = refl; behind = omega arith }; ready = λ h. omega arith; slot = λ element slot h. absurd (none-some slot h) })
+    plain_in_time diagram attributes timing 4 output 1 (edge_of 3 4 1) 4 refl refl refl refl (omega arith) (omega arith) (λ element slot h. absurd (none-some slot h))
 
-arrive : (block : ℕ) (b : Block) → slice_get blocks block ≡ Some b → (target : Target) → Arrives block b target
+arrive : AllKeep diagram (λ (k : ℕ) (x : Block). (target : Target) → Arrives k x target)
 arrive = each_by (λ (k : ℕ) (x : Block). (target : Target) → Arrives k x target) blocks
-    (from_input 0 (input_of 1 2 (lit< tt)) refl refl)
-    (from_input 1 (input_of 2 2 (lit< tt)) refl refl)
+    (no_ends_in_time diagram attributes timing 0 (input_of 1 2 (lit< tt)) refl refl)
+    (no_ends_in_time diagram attributes timing 1 (input_of 2 2 (lit< tt)) refl refl)
     (outside diagram attributes timing 2 multiplied refl into_product)
     (outside diagram attributes timing 3 transition refl (one_port_in_time diagram attributes timing 3 transition refl into_transition))
     (outside diagram attributes timing 4 output refl (one_port_in_time diagram attributes timing 4 output refl into_output))
-    (from_input 5 (input_of 3 1 (lit< tt)) refl refl)
+    (no_ends_in_time diagram attributes timing 5 (input_of 3 1 (lit< tt)) refl refl)
 
-moves : (block : ℕ) (b : Block) → slice_get blocks block ≡ Some b → (row_of b.kind).timing.inherits ≡ Inherited.Moving → (period : ℕ) × (attributes.period_at block ≡ Some period)
-moves = each_by (λ (k : ℕ) (x : Block). (row_of x.kind).timing.inherits ≡ Inherited.Moving → (period : ℕ) × (attributes.period_at k ≡ Some period)) blocks
+moves : AllKeep diagram (Moves attributes)
+moves = each_by (Moves attributes) blocks
     (λ is. (2, refl)) (λ is. (2, refl)) (λ is. (2, refl)) (λ is. (4, refl)) (λ is. (4, refl)) (λ is. (1, refl))
 
-base_is : (block : ℕ) (b : Block) → slice_get blocks block ≡ Some b → (row_of b.kind).timing.inherits ≡ Inherited.Base → (timing.latency block ≡ 0) × (timing.ready block ≡ 0)
-base_is = each_by (λ (k : ℕ) (x : Block). (row_of x.kind).timing.inherits ≡ Inherited.Base → (timing.latency k ≡ 0) × (timing.ready k ≡ 0)) blocks
+at_once : AllKeep diagram (IsAtOnce timing)
+at_once = each_by (IsAtOnce timing) blocks
     (λ is. (refl, refl))
     (λ is. (refl, refl))
     (λ is. let other : Inherited.OfSources ≡ Inherited.Base = is in cc)
@@ -112,14 +102,7 @@ still_is (suc (suc zero)) e = absurd (none-some 2 (sym e))
 still_is (suc (suc (suc block))) e = refl
 
 pub timed : IsTimed diagram attributes timing
-timed = record {
-  ready = ready_is;
-  edges = λ block b target from source e showing feeds is. arrive block b e target from source feeds is;
-  moving = moves;
-  base = base_is;
-  slots = λ block element slot e. slot_is block slot e;
-  still = λ block element e. still_is block e;
-}
+timed = timed_by diagram attributes timing ready_is arrive moves at_once (λ block element slot e. slot_is block slot e) (λ block element e. still_is block e)
 
 -- ---- its waves, with any line to the transition
 abbrev entries : ℕ → Wave
@@ -307,11 +290,8 @@ pub solves : Solves diagram attributes stimulus 8 table
 solves = record { at_hits = at_hits; between_hits = between_hits }
 
 -- ---- the inputs
-abbrev Driven : ℕ → Block → Type 0
-Driven block b = (number element t c : ℕ) → root_input (row_of b.kind).place.role ≡ Some number → t < 8 → c < 16 → IsSeen 2 (attributes.period_at block) 0 0 t c → inputs number c ≡ stimulus number element t
-
-driven_by : (block : ℕ) (b : Block) → slice_get blocks block ≡ Some b → Driven block b
-driven_by = each_by Driven blocks
+inputs_driven : AllKeep diagram (IsDriven attributes stimulus timing 16 8 (waves slowed))
+inputs_driven = each_by (IsDriven attributes stimulus timing 16 8 (waves slowed)) blocks
     (λ number element t c is early soon seen. subst (λ (k : ℕ). inputs k c ≡ stimulus k element t) (same_Some 1 number is) ((tried_shows 16 8 2 2 0 0 lefts left refl).at t c early soon seen))
     (λ number element t c is early soon seen. subst (λ (k : ℕ). inputs k c ≡ stimulus k element t) (same_Some 2 number is) ((tried_shows 16 8 2 2 0 0 rights right refl).at t c early soon seen))
     (λ number element t c is early soon seen. absurd (none-some number is))
@@ -320,34 +300,25 @@ driven_by = each_by Driven blocks
     (λ number element t c is early soon seen. subst (λ (k : ℕ). inputs k c ≡ stimulus k element t) (same_Some 3 number is) ((tried_shows 16 8 2 1 0 0 (λ (s : ℕ). pos 0) (wave_of []) refl).at t c early soon seen))
 
 pub driven : AreDriven diagram attributes stimulus 8 2 16 (waves slowed)
-driven = record { shows = λ block b number element t c e is inside early soon seen. driven_by block b e number element t c is early soon seen }
+driven = driven_by diagram attributes stimulus timing 16 8 (waves slowed) inputs_driven
 
 -- and are in range
-abbrev Fits : ℕ → Block → Type 0
-Fits block b = (number element t : ℕ) → root_input (row_of b.kind).place.role ≡ Some number → t < 8 → InRange (attributes.type_at block 1) (stimulus number element t)
-
-fits : (block : ℕ) (b : Block) → slice_get blocks block ≡ Some b → Fits block b
-fits = each_by Fits blocks
-    (λ number element t is below. subst (λ (k : ℕ). InRange int8 (stimulus k element t)) (same_Some 1 number is) (tried_range int8 8 lefts refl t below))
-    (λ number element t is below. subst (λ (k : ℕ). InRange int8 (stimulus k element t)) (same_Some 2 number is) (tried_range int8 8 rights refl t below))
-    (λ number element t is below. absurd (none-some number is))
-    (λ number element t is below. absurd (none-some number is))
-    (λ number element t is below. absurd (none-some number is))
-    (λ number element t is below. subst (λ (k : ℕ). InRange int8 (stimulus k element t)) (same_Some 3 number is) (tried_range int8 8 (λ (s : ℕ). pos 0) refl t below))
+inputs_fit : AllKeep diagram (Fits attributes stimulus 8)
+inputs_fit = each_by (Fits attributes stimulus 8) blocks
+    (input_fits attributes stimulus 8 0 (input_of 1 2 (lit< tt)) 1 refl (λ element t below. tried_range int8 8 lefts refl t below))
+    (input_fits attributes stimulus 8 1 (input_of 2 2 (lit< tt)) 2 refl (λ element t below. tried_range int8 8 rights refl t below))
+    (no_input_fits attributes stimulus 8 2 multiplied refl)
+    (no_input_fits attributes stimulus 8 3 transition refl)
+    (no_input_fits attributes stimulus 8 4 output refl)
+    (input_fits attributes stimulus 8 5 (input_of 3 1 (lit< tt)) 3 refl (λ element t below. tried_range int8 8 (λ (s : ℕ). pos 0) refl t below))
 
 pub given : IsStimulus diagram attributes stimulus 8
-given = record { in_range = λ block b number element t e is inside below hit. fits block b e number element t is below }
+given = given_by diagram attributes stimulus 8 inputs_fit
 
 -- ---- all of it
 pub design : IsDesign diagram order_of_six stimulus timing 16 8 table (waves slowed)
-design = record {
-  ordered = ordered;
-  timed = subst (λ (a : Attributes). IsTimed diagram a timing) (sym propagated) timed;
-  solves = subst (λ (a : Attributes). Solves diagram a stimulus 8 table) (sym propagated) solves;
-  built = subst (λ (a : Attributes). AreBuilt diagram a timing 16 (waves slowed)) (sym propagated) built;
-  driven = subst (λ (a : Attributes). AreDriven diagram a stimulus 8 2 16 (waves slowed)) (sym propagated) driven;
-}
+design = designed diagram attributes order_of_six stimulus timing 16 8 table (waves slowed) propagated ordered timed solves built driven
 
 -- and with the wrong number it is none
 pub no_design : ¬ IsDesign diagram order_of_six stimulus timing 16 8 table (waves wrong)
-no_design is = not_built (subst (λ (a : Attributes). AreBuilt diagram a timing 16 (waves wrong)) propagated is.built)
+no_design = undesigned diagram attributes order_of_six stimulus timing 16 8 table (waves wrong) propagated not_built
