@@ -30,7 +30,7 @@ use Rattle.hw_slots.proofs.Sums.{greatest_at, sums_same, sum_below, sum_below_ne
 use Rattle.hw_sched.specs.Ready.{AreReady, declared_latency, ready_of}
 use Rattle.hw_sched.specs.Answer.{timing_of}
 use Rattle.hw_sched.specs.Slots.{Timing, operation, operations_of, shared_operations}
-use Rattle.hw_sched.specs.Storage.{lines_in_all, registers_in_all, storage, greatest_latency}
+use Rattle.hw_sched.specs.Storage.{lines_in_all, registers_at, registers_in_all, storage, greatest_latency}
 use Rattle.hw_sched.specs.inner.Counted.{line_at, lines_of, controls_line, results_at, is_root_output, is_output, output_latency}
 use Rattle.hw_sched.proofs.Lists.{greatest_within}
 
@@ -95,23 +95,9 @@ module _ (diagram : Diagram) (attributes : Attributes) (plan : Resolved) (timing
 
 -- ---- blocks
 
-pub counted_more : (f : ℕ → ℕ) (count more all place : ℕ) → more ≡ f place → all ≡ count + more → count ≡ sum_below f place → all ≡ sum_below f (place + 1)
-counted_more f count more all place more_is all_is is =
-    let next = sum_below_next f place in
-    let one : place + 1 ≡ suc place = omega arith in
-    let e = ap (sum_below f) one in
-    omega (arith, next, e, more_is, all_is, is)
-
-pub counted_all : (f : ℕ → ℕ) (count place size : ℕ) → place ≤ size → size ≤ place → count ≡ sum_below f place → count ≡ sum_below f size
-counted_all f count place size low high is = let same : place ≡ size = omega (arith, low, high) in is ∙ ap (sum_below f) same
-
--- all of them
-pub storage_as : (diagram : Diagram) (plan : Resolved) (latencies : Latencies) (depths : List ℕ) (lines registers results blocks all : ℕ) → lines ≡ lines_in_all diagram (attributes_of diagram) plan (timing_of latencies [])
-    → registers ≡ registers_in_all diagram (attributes_of diagram) plan → results ≡ length (shared_operations diagram (attributes_of diagram) plan) → blocks ≡ registers + results → all ≡ lines + blocks
-    → all ≡ storage diagram (attributes_of diagram) plan (timing_of latencies depths)
-storage_as diagram plan latencies depths lines registers results blocks all lines_are registers_are results_are blocks_are all_is =
-    all_is ∙ ap (λ (n : ℕ). n + blocks) lines_are
-    ∙ ap (λ (n : ℕ). lines_in_all diagram (attributes_of diagram) plan (timing_of latencies depths) + n) (blocks_are ∙ ap (λ (n : ℕ). n + results) registers_are ∙ ap (λ (n : ℕ). registers_in_all diagram (attributes_of diagram) plan + n) results_are)
+-- what a block keeps beside lines
+abbrev pub kept_at : Diagram → Attributes → Resolved → ℕ → ℕ
+kept_at diagram attributes plan place = registers_at diagram attributes plan place (slice_get diagram.blocks place)
 
 -- the results of shared operations, block by block
 filtered_length : {A B : Type 0} (f : A → List B) (p : A → Bool) (xs : List A) → length (flat_map f (filter p xs)) ≡ sum (map (λ x. cond (p x) (length (f x)) 0) xs)
@@ -122,11 +108,32 @@ filtered_length {A} {B} f p (x ∷ xs) = go (p x) (filtered_length f p xs) ∙ s
     go true more = let parts = length-append (f x) (flat_map f (filter p xs)) in omega (arith, parts, more)
     go false more = omega (arith, more)
 
-pub results_are : (diagram : Diagram) (attributes : Attributes) (plan : Resolved) → sum_below (results_at diagram attributes plan) (length diagram.blocks) ≡ length (shared_operations diagram attributes plan)
+results_are : (diagram : Diagram) (attributes : Attributes) (plan : Resolved) → sum_below (results_at diagram attributes plan) (length diagram.blocks) ≡ length (shared_operations diagram attributes plan)
 results_are diagram attributes plan =
     sums_same (results_at diagram attributes plan) (λ place. cond (is_shared diagram attributes plan place) (length (operations_of attributes place)) 0) (numbers_from 0 (length diagram.blocks))
     (λ place. ap (λ (n : ℕ). cond (is_shared diagram attributes plan place) n 0) (sym (length-map (numbers_from 0 (attributes.width_at place 1)) (operation place) ∙ length_numbers 0 (attributes.width_at place 1))))
     ∙ sym (filtered_length (operations_of attributes) (is_shared diagram attributes plan) (numbers_from 0 (length diagram.blocks)))
+
+-- two sums that one loop makes
+pub both_more : (f g : ℕ → ℕ) (count more too both all place : ℕ) → more ≡ f place → too ≡ g place → both ≡ more + too → all ≡ count + both → count ≡ sum_below f place + sum_below g place
+    → all ≡ sum_below f (place + 1) + sum_below g (place + 1)
+both_more f g count more too both all place more_is too_is both_is all_is is =
+    let one : place + 1 ≡ suc place = omega arith in
+    omega (arith, ap (sum_below f) one, ap (sum_below g) one, sum_below_next f place, sum_below_next g place, more_is, too_is, both_is, all_is, is)
+
+-- what the blocks before a place keep and have as results is that of all
+pub blocks_all : (diagram : Diagram) (attributes : Attributes) (plan : Resolved) (count place : ℕ) → place ≡ length diagram.blocks
+    → count ≡ sum_below (kept_at diagram attributes plan) place + sum_below (results_at diagram attributes plan) place
+    → count ≡ registers_in_all diagram attributes plan + length (shared_operations diagram attributes plan)
+blocks_all diagram attributes plan count place end is =
+    is ∙ ap (λ (n : ℕ). sum_below (kept_at diagram attributes plan) n + sum_below (results_at diagram attributes plan) n) end
+    ∙ ap (λ (n : ℕ). registers_in_all diagram attributes plan + n) (results_are diagram attributes plan)
+
+-- all of them
+pub storage_as : (diagram : Diagram) (plan : Resolved) (latencies : Latencies) (depths : List ℕ) (lines blocks all : ℕ) → lines ≡ lines_in_all diagram (attributes_of diagram) plan (timing_of latencies [])
+    → blocks ≡ registers_in_all diagram (attributes_of diagram) plan + length (shared_operations diagram (attributes_of diagram) plan) → all ≡ lines + blocks → all ≡ storage diagram (attributes_of diagram) plan (timing_of latencies depths)
+storage_as diagram plan latencies depths lines blocks all lines_are blocks_are all_is =
+    all_is ∙ ap (λ (n : ℕ). n + blocks) lines_are ∙ ap (λ (n : ℕ). lines_in_all diagram (attributes_of diagram) plan (timing_of latencies depths) + n) blocks_are
 
 -- ---- greatest numbers
 

@@ -1,6 +1,7 @@
 -- A kind that has no number yet takes the next.
 use Rattle.std.proofs.Common.{◌≡◌, ℕ, suc, ◌+◌, ◌<◌, Bool, true, false, cond, Some, None, List, [], ◌∷◌, ◌++◌, length, if◌then◌else◌, refl, sym, ap, ◌∙◌, inl, inr, length-append, arith}
 use Rattle.std.specs.Prelude.{count_by, nat_lt}
+use Rattle.std.specs.BTreeMap.{BTreeMap}
 use Rattle.std.proofs.lemmas.Bool.{false≢true, cases_Bool, cond-true, cond-false, ltb-true, ltb-false, lt-ltb}
 use Rattle.std.proofs.lemmas.List.Sums.{sum_by_push}
 use Rattle.std.proofs.lemmas.Option.{none-some, same_Some}
@@ -75,7 +76,7 @@ none_in kinds kind e = go (is_in kinds kind) e
     go false at = refl
 
 module _ (kinds : List OperationKind) (kind : OperationKind) (numbers : KindNumbers) (are : AreKinds kinds numbers) where
-  module _ (number : ℕ) (at : number_at numbers.index kind ≡ Some number) where
+  module _ (number : ℕ) (at : number_at numbers.by_kind.entries kind ≡ Some number) where
     parts : (is_in kinds kind ≡ true) × (number ≡ length (before_kind kind kinds))
     parts = some_in kinds kind number (sym (are.found kind) ∙ at)
 
@@ -90,7 +91,7 @@ module _ (kinds : List OperationKind) (kind : OperationKind) (numbers : KindNumb
 
   -- ---- with one that is new
 
-  module _ (none : number_at numbers.index kind ≡ None) where
+  module _ (none : number_at numbers.by_kind.entries kind ≡ None) where
     is_new : is_in kinds kind ≡ false
     is_new = none_in kinds kind (sym (are.found kind) ∙ none)
 
@@ -144,16 +145,16 @@ module _ (kinds : List OperationKind) (kind : OperationKind) (numbers : KindNumb
             ∙ sym (cond-true (is_in (kinds ++ kind ∷ []) other) (Some (length (before_kind other (kinds ++ kind ∷ [])))) None (test ∙ e))
         go false e = sym (cond-false (is_in (kinds ++ kind ∷ []) other) (Some (length (before_kind other (kinds ++ kind ∷ [])))) None (test ∙ e))
 
-    pub new_kinds : (entries : List (KindKey × ℕ)) (count : ℕ) → count ≡ numbers.count + 1
-        → ((other : OperationKind) → number_at entries other ≡ (if is_same_kind kind other then Some numbers.count else number_at numbers.index other))
-        → AreKinds (with_kind kinds kind) (record { index = entries; count = count })
-    new_kinds entries count next puts = record {
+    pub new_kinds : (map : BTreeMap KindKey ℕ) (count : ℕ) → count ≡ numbers.count + 1
+        → ((other : OperationKind) → number_at map.entries other ≡ (if is_same_kind kind other then Some numbers.count else number_at numbers.by_kind.entries other))
+        → AreKinds (with_kind kinds kind) (record { by_kind = map; count = count })
+    new_kinds map count next puts = record {
       found = λ other.
           puts other ∙ go other (is_same_kind kind other) refl
           ∙ sym (ap (λ (ks : List OperationKind). number_in ks other) with_new);
       count = let size = ap (λ (ks : List OperationKind). length ks) with_new in let push = length-append kinds (kind ∷ []) in let before = are.count in omega (arith, next, before, size, push);
     }
       where
-        go : (other : OperationKind) (b : Bool) → is_same_kind kind other ≡ b → cond b (Some numbers.count) (number_at numbers.index other) ≡ number_in (kinds ++ kind ∷ []) other
+        go : (other : OperationKind) (b : Bool) → is_same_kind kind other ≡ b → cond b (Some numbers.count) (number_at numbers.by_kind.entries other) ≡ number_in (kinds ++ kind ∷ []) other
         go other true e = found_own other e
         go other false e = are.found other ∙ found_other other e

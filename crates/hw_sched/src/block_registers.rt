@@ -1,5 +1,5 @@
-//! The registers of blocks beside lines.
-ghost use Rattle.std.specs.Prelude.{◌≡◌, ◌<◌, ◌≤◌, ◌^◌, IfOk, length, slice_get};
+//! The registers of blocks beside lines, and the results that they keep.
+ghost use Rattle.std.specs.Prelude.{◌≡◌, ◌<◌, ◌≤◌, ◌+◌, ◌^◌, IfOk, length, slice_get};
 ghost use Rattle.dg_model.specs.Attributes.{attributes_of};
 ghost use Rattle.dg_model.specs.PlanOf.{IsPlanOf};
 ghost use Rattle.hw_sched.specs.Slots.{shared_operations};
@@ -66,22 +66,6 @@ fn registers_at(checked: &Checked, plan: &Resolved, place: u32) -> Result<u64, O
     times(u64::from(own_width(checked, place)), each)
 }
 
-/// The registers of all blocks beside lines.
-pub fn registers_in_all(checked: &Checked, plan: &Resolved) -> Result<u64, OutOfMemory>
-    requires plan { IsPlanOf checked.now.diagram plan.now }
-    ensures { IfOk result (λ count.
-        count ≡ registers_in_all_of checked.now.diagram (attributes_of checked.now.diagram)
-        plan.now) }
-{
-    checked.keeps_rules();
-    let blocks = checked.diagram().blocks.as_slice();
-    let mut all = 0u64;
-    for place in 0..blocks.len() {
-        all = total(all, registers_at(checked, plan, place as u32)?)?;
-    }
-    Ok(all)
-}
-
 /// The results of the shared operations of a block.
 fn results_at(checked: &Checked, plan: &Resolved, place: u32) -> u32
     requires plan { IsPlanOf checked.now.diagram plan.now }
@@ -96,18 +80,21 @@ fn results_at(checked: &Checked, plan: &Resolved, place: u32) -> u32
     }
 }
 
-/// The results of all shared operations, one each.
-pub fn results_in_all(checked: &Checked, plan: &Resolved) -> Result<u64, OutOfMemory>
+/// The registers of all blocks beside lines, and the results of all shared operations, one each.
+pub fn blocks_in_all(checked: &Checked, plan: &Resolved) -> Result<u64, OutOfMemory>
     requires plan { IsPlanOf checked.now.diagram plan.now }
     ensures { IfOk result (λ count.
-        count ≡ length (shared_operations checked.now.diagram (attributes_of checked.now.diagram)
+        count ≡ registers_in_all_of checked.now.diagram (attributes_of checked.now.diagram) plan.now
+        + length (shared_operations checked.now.diagram (attributes_of checked.now.diagram)
         plan.now)) }
 {
     checked.keeps_rules();
     let blocks = checked.diagram().blocks.as_slice();
     let mut all = 0u64;
     for place in 0..blocks.len() {
-        all = total(all, u64::from(results_at(checked, plan, place as u32)))?;
+        let registers = registers_at(checked, plan, place as u32)?;
+        let results = results_at(checked, plan, place as u32);
+        all = total(all, total(registers, u64::from(results))?)?;
     }
     Ok(all)
 }

@@ -135,8 +135,9 @@ pub fn lines_in_all(
         (timing_of latencies.now [])) }
 {
     checked.keeps_rules();
-    let edges = checked.diagram().edges.as_slice();
-    let blocks = checked.diagram().blocks.as_slice();
+    let diagram = checked.diagram();
+    let edges = diagram.edges.as_slice();
+    let blocks = diagram.blocks.as_slice();
     let mut lines = 0u64;
     for edge in edges {
         let edge = *edge;

@@ -4,8 +4,8 @@
 //! `Level` says how many shared blocks stand one behind another, `Slots` which operations are of one
 //! kind, and in which slot of its period and at which multiplier each stands. `Ready` says when
 //! outputs are ready and how late root outputs are in clocks. The rules of budget and of size are
-//! those of `Budget` and `Storage`; `Answer` says what `slots_of` answers, and `Sizing` what `size` and
-//! `check_size` do. `Chained` counts the registers of a module whose lines share them. What all of
+//! those of `Budget` and `Storage`; `Answer` says what `slots_of` answers, and `Sizing` what
+//! `check_size` does. `Chained` counts the registers of a module whose lines share them. What all of
 //! these say together of a diagram that keeps the rules (`Scheduled`) are `laws`: they are all that is
 //! wanted of a schedule when a module is built and proved.
 #![tactic(auto)]
@@ -33,5 +33,5 @@ pub use laws::{
     operations_are_numbered, operations_are_served, periods_are_above, ready_fits, ready_rises,
     root_inputs_are_first, slots_differ, unfed_are_ready, units_are_used,
 };
-pub use sizing::{SizeFault, Sizing, check_size, size};
+pub use sizing::{SizeFault, Sizing, check_size};
 pub use slots::{BudgetFault, Slots, slots_of};

@@ -1,10 +1,10 @@
 ghost use Rattle.std.specs.Prelude.{◌≡◌, IfErr, IfOk, length};
 ghost use Rattle.hw_latency.specs.Latency.{AreLatencies};
 ghost use Rattle.dg_model.specs.PlanOf.{IsPlanOf};
-ghost use Rattle.hw_sched.specs.Sizing.{ForTimes, IsKeptSize, IsSizeFault, IsSizeOf};
+ghost use Rattle.hw_sched.specs.Sizing.{ForTimes, IsKeptSize, IsSizeFault};
 ghost use Rattle.hw_sched.specs.inner.Counted.{are_within};
 
-use crate::block_registers::{registers_in_all, results_in_all};
+use crate::block_registers::blocks_in_all;
 use crate::edge_lines::lines_in_all;
 use crate::output_latency::latest_output;
 use dg_model::{Checked, Resolved, root_elements_are_listed};
@@ -47,34 +47,6 @@ const MOST_STORAGE: u64 = 400_000;
 /// The greatest latency of a module, in clocks.
 const MOST_LATENCY: u64 = 16_777_216;
 
-/// How large the module of a checked diagram is by a plan, from its latencies and the clock of its
-/// period at which the output of each block is ready. It takes no memory; its time is linear in the
-/// edges and blocks, but for a search of the line into each block. A number of 2^64 or more is want
-/// of memory.
-pub fn size(
-    checked: &Checked,
-    plan: &Resolved,
-    latencies: &Latencies,
-    ready: &[u64],
-) -> Result<Sizing, OutOfMemory>
-    requires plan { IsPlanOf checked.now.diagram plan.now }
-    requires latencies { AreLatencies checked.now.diagram plan.now latencies.now }
-    requires ready { length ready.now ≡ length checked.now.diagram.blocks }
-    ensures { IfOk result (λ sizing.
-        ForTimes checked.now.diagram plan.now latencies.now ready.now
-        (IsSizeOf checked.now.diagram plan.now sizing)) }
-{
-    checked.keeps_rules();
-    root_elements_are_listed();
-    let lines = lines_in_all(checked, plan, latencies)?;
-    let registers = registers_in_all(checked, plan)?;
-    let results = results_in_all(checked, plan)?;
-    let blocks = total(registers, results)?;
-    let storage = total(lines, blocks)?;
-    let latency = latest_output(checked, plan, latencies, ready)?;
-    Ok(Sizing { storage, latency })
-}
-
 /// Whether a module of this size has few enough registers and isn't too late.
 fn is_within(sizing: Sizing) -> bool
     ensures { result ≡ are_within sizing }
@@ -82,8 +54,11 @@ fn is_within(sizing: Sizing) -> bool
     sizing.storage <= MOST_STORAGE && sizing.latency <= MOST_LATENCY
 }
 
-/// The same, or the fault of the rule of size: a module has at most 400,000 registers and declares no
-/// latency above 16,777,216 clocks.
+/// How large the module of a checked diagram is by a plan, from its latencies and the clock of its
+/// period at which the output of each block is ready, or the fault of the rule of size: a module has
+/// at most 400,000 registers and declares no latency above 16,777,216 clocks. It takes no memory; its
+/// time is linear in the edges and blocks, but for a search of the line into each block. A number of
+/// 2^64 or more is want of memory.
 pub fn check_size(
     checked: &Checked,
     plan: &Resolved,
@@ -100,13 +75,16 @@ pub fn check_size(
         ForTimes checked.now.diagram plan.now latencies.now ready.now
         (IsSizeFault checked.now.diagram plan.now fault)) }
 {
-    let sizing = size(checked, plan, latencies, ready)?;
+    checked.keeps_rules();
+    root_elements_are_listed();
+    let lines = lines_in_all(checked, plan, latencies)?;
+    let blocks = blocks_in_all(checked, plan)?;
+    let storage = total(lines, blocks)?;
+    let latency = latest_output(checked, plan, latencies, ready)?;
+    let sizing = Sizing { storage, latency };
     if is_within(sizing) {
         Ok(sizing)
     } else {
-        Err(SizeFault::Size {
-            storage: sizing.storage,
-            latency: sizing.latency,
-        })
+        Err(SizeFault::Size { storage, latency })
     }
 }

@@ -106,13 +106,16 @@ fn served(
     let spans = spans_of(alloc, checked, plan)?;
     let multipliers = multipliers_of(plan);
     let kinds = cells.numbers.count();
-    serve(
+    let made = serve(
         alloc,
         cells.operations.as_slice(),
         spans.as_slice(),
         multipliers,
         kinds,
-    )
+    );
+    drop(spans);
+    drop(cells);
+    made
 }
 
 /// The slots and multipliers of the shared operations of a checked diagram by a plan, and when its

@@ -18,7 +18,7 @@ number_in kinds kind = if nat_lt 0 (count_by (is_same_kind kind) kinds) then Som
 
 -- the numbers of kinds are those in a list
 pub record AreKinds (kinds : List OperationKind) (numbers : KindNumbers) : Type 0 where
-  pub found : (kind : OperationKind) → number_at numbers.index kind ≡ number_in kinds kind
+  pub found : (kind : OperationKind) → number_at numbers.by_kind.entries kind ≡ number_in kinds kind
   pub count : numbers.count ≡ length kinds
 
 -- this is what the operations of a block have in common

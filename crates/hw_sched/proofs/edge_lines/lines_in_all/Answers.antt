@@ -15,12 +15,12 @@ none = record { from = 0; from_port = 0; to = 0; to_port = 0 }
 
 pub line_registers-requires-clause-there : goal.line_registers-requires-clause-there
 line_registers-requires-clause-there c =
-    let es = c.as_slice-edges.ensures ∙ ap (λ (d : Diagram). d.edges) c.diagram.ensures in
+    let es = c.as_slice-edges.ensures ∙ ap (λ (d : Diagram). d.edges) c.diagram-diagram.ensures in
     line_there c.args.checked.now.diagram c.keeps_rules.ensures.checked c.loop-edge.edge-index _ (item_read c.args.checked.now.diagram.edges c.as_slice-edges.result.now c.loop-edge.edge-index none es c.loop-edge-test.true)
 
 pub loop-place-preserved : goal.loop-place-preserved
 loop-place-preserved c =
-    let bs = c.as_slice-blocks.ensures ∙ ap (λ (d : Diagram). d.blocks) c.diagram-2.ensures in
+    let bs = c.as_slice-blocks.ensures ∙ ap (λ (d : Diagram). d.blocks) c.diagram-diagram.ensures in
     let block = get_some c.args.checked.now.diagram.blocks c.loop-place.place (subst (λ (blocks : List Block). c.loop-place.place < length blocks) bs c.loop-place-test.true) in
     beside_control c.args.checked.now.diagram (attributes_of c.args.checked.now.diagram) c.args.plan.now (timing_of c.args.latencies.now []) c.loop-place.all c.in_ok-controls_line.field-0 c.in_ok-all.all c.loop-place.place block.0 block.1
     c.in_ok-controls_line.ensures c.in_ok-all.ensures c.loop-place.invariant
@@ -30,24 +30,24 @@ loop-edge-init c = omega arith
 
 pub loop-edge-preserved : goal.loop-edge-preserved
 loop-edge-preserved c =
-    let es = c.as_slice-edges.ensures ∙ ap (λ (d : Diagram). d.edges) c.diagram.ensures in
+    let es = c.as_slice-edges.ensures ∙ ap (λ (d : Diagram). d.edges) c.diagram-diagram.ensures in
     beside_line c.args.checked.now.diagram (attributes_of c.args.checked.now.diagram) c.args.plan.now (timing_of c.args.latencies.now []) c.loop-edge.lines c.in_ok-line_registers.field-0 c.in_ok-lines.lines c.loop-edge.edge-index _
     (item_read c.args.checked.now.diagram.edges c.as_slice-edges.result.now c.loop-edge.edge-index none es c.loop-edge-test.true)
     c.in_ok-line_registers.ensures c.in_ok-lines.ensures c.loop-edge.invariant
 
 pub loop-place-init : goal.loop-place-init
 loop-place-init c =
-    let es = c.as_slice-edges.ensures ∙ ap (λ (d : Diagram). d.edges) c.diagram.ensures in
+    let es = c.as_slice-edges.ensures ∙ ap (λ (d : Diagram). d.edges) c.diagram-diagram.ensures in
     beside_lines c.args.checked.now.diagram (attributes_of c.args.checked.now.diagram) c.args.plan.now (timing_of c.args.latencies.now []) c.loop-edge.lines c.loop-edge.edge-index
     (subst (λ (edges : List Edge). length edges ≤ c.loop-edge.edge-index) es c.loop-edge-test.false) c.loop-edge.invariant
 
 pub controls_line-requires-clause-there : goal.controls_line-requires-clause-there
 controls_line-requires-clause-there c =
-    let bs = c.as_slice-blocks.ensures ∙ ap (λ (d : Diagram). d.blocks) c.diagram-2.ensures in
+    let bs = c.as_slice-blocks.ensures ∙ ap (λ (d : Diagram). d.blocks) c.diagram-diagram.ensures in
     subst (λ (blocks : List Block). c.loop-place.place < length blocks) bs c.loop-place-test.true
 
 pub returns : goal.returns
 returns c =
-    let bs = c.as_slice-blocks.ensures ∙ ap (λ (d : Diagram). d.blocks) c.diagram-2.ensures in
+    let bs = c.as_slice-blocks.ensures ∙ ap (λ (d : Diagram). d.blocks) c.diagram-diagram.ensures in
     beside_none c.args.checked.now.diagram (attributes_of c.args.checked.now.diagram) c.args.plan.now (timing_of c.args.latencies.now []) c.loop-place.all c.loop-place.place
     (subst (λ (blocks : List Block). length blocks ≤ c.loop-place.place) bs c.loop-place-test.false) c.loop-place.invariant
