@@ -1,5 +1,5 @@
 -- A prepared conversion in 64 bits gives the conversion.
-use Rattle.std.proofs.Common.{◌≡◌, ℕ, zero, suc, ◌+◌, ◌-◌, ◌^◌, ◌≤◌, Bool, true, false, ℤ, pos, negsuc, neg_ℤ, ◌*ℤ◌, ◌≤ℤ◌, ◌<ℤ◌, FitsSigned, ap, sym, ◌∙◌, refl, subst, subst₂, arith, pow_pos, pow_mono, mul-le-mul, unsigned_abs, to_z, of_z, ◌*◌, ◌%◌, cond, int_lt}
+use Rattle.std.proofs.Common.{◌≡◌, ℕ, zero, suc, ◌+◌, ◌-◌, ◌^◌, ◌≤◌, Bool, true, false, ℤ, pos, negsuc, neg_ℤ, ◌+ℤ◌, ◌*ℤ◌, ◌≤ℤ◌, ◌<ℤ◌, FitsSigned, ap, sym, ◌∙◌, refl, subst, subst₂, arith, pow_pos, pow_mono, mul-le-mul, unsigned_abs, to_z, of_z, ◌*◌, ◌%◌, cond, int_lt}
 use Rattle.std.specs.Int.{w64, w128}
 use Rattle.std.proofs.lemmas.Nat.{one_shl, pow-add}
 use Rattle.fx_num.proofs.Arithmetic.{scaled-mono, scaled-neg, double}
@@ -10,9 +10,9 @@ use Rattle.fx_type.specs.declared.kind.FxType.TheVariants.{Num, Logical}
 use Rattle.fx_type.specs.declared.rounding.Rounding.{Rounding}
 use Rattle.fx_type.specs.declared.rounding.Rounding.TheVariants.{Floor, Ceiling, Zero, Nearest, Round, Convergent}
 use Rattle.fx_type.specs.FxType.{IsType, IsNumber, InRange, is_signed, width_of, frac_of, lowest_of, highest_of}
-use Rattle.fx_type.specs.Conversion.{Rounds, RoundsDown, Settles, StoresQuotient, Converts}
+use Rattle.fx_type.specs.Conversion.{twice, Rounds, RoundsDown, Settles, StoresQuotient, Converts}
 use Rattle.dg_blocks.specs.declared.narrow.Narrow.{Narrow}
-use Rattle.dg_blocks.specs.Narrow.{bias_for, IsSmall, IsWithin, IsShifted, HasShifts, IsNarrow}
+use Rattle.dg_blocks.specs.Narrow.{bias_for, IsBias, IsSmall, IsWithin, IsShifted, HasShifts, IsNarrow}
 use Rattle.dg_blocks.proofs.Shifts.{floor_mode, mode_rounds}
 
 pub inside : (to : FxType) (saturate : Bool) (r : ℤ) → IsNumber to → lowest_of to ≤ℤ r → r ≤ℤ highest_of to → Settles to saturate r r
@@ -140,6 +140,38 @@ part_fits i j v h within = within_fits i v (omega (arith, h)) within
 
 pub whole_fits : (bits : ℕ) (v : ℤ) → bits ≤ 61 → IsWithin bits v → FitsSigned w64 v
 whole_fits bits v h within = within_fits bits v h within
+
+-- ---- a bias before a shift down by at most 60 bits
+module _ (d : ℕ) (some : 2 ≤ d) (few : d ≤ 2 ^ 60) where
+  abbrev Within : ℤ → Type 0
+  Within bias = (pos 0 ≤ℤ bias) × (bias ≤ℤ pos (2 ^ 60))
+
+  none : (bias : ℤ) → bias ≡ pos 0 → Within bias
+  none bias is = (omega (arith, ints, is), omega (arith, ints, is))
+
+  one_less : (bias : ℤ) → bias +ℤ pos 1 ≡ pos d → Within bias
+  one_less bias is = (omega (arith, ints, some, is), omega (arith, ints, few, is))
+
+  half : (bias : ℤ) → twice bias ≡ pos d → Within bias
+  half bias is = (omega (arith, ints, is), omega (arith, ints, few, is))
+
+  less_than_half : (bias : ℤ) → twice bias +ℤ pos 2 ≡ pos d → Within bias
+  less_than_half bias is = (omega (arith, ints, some, is), omega (arith, ints, few, is))
+
+  by_mode : (mode : Rounding) (bias below : ℤ) (even : Bool) → IsBias mode d bias below even → Within bias × Within below
+  by_mode Floor bias below even is = (none bias is.0, none below is.1)
+  by_mode Ceiling bias below even is = (one_less bias is.0, one_less below is.1)
+  by_mode Zero bias below even is = (none bias is.0, one_less below is.1)
+  by_mode Nearest bias below even is = (half bias is.0, half below is.1)
+  by_mode Round bias below even is = (half bias is.0, less_than_half below is.1)
+  by_mode Convergent bias below even is = (less_than_half bias is.0, less_than_half below is.1)
+
+pub bias_within : (mode : Rounding) (down : ℕ) (bias below : ℤ) (even : Bool) → 1 ≤ down → down ≤ 60 → IsBias mode (2 ^ down) bias below even
+    → ((pos 0 ≤ℤ bias) × (bias ≤ℤ pos (2 ^ 60))) × ((pos 0 ≤ℤ below) × (below ≤ℤ pos (2 ^ 60)))
+bias_within mode down bias below even low high is =
+    let two = (half_bounds down low high).0 in
+    let some = pow_pos (down - 1) in
+    by_mode (2 ^ down) (omega (arith, two, some)) (pow_mono high) mode bias below even is
 
 pub bias_range : (narrow : Narrow) (frac : ℤ) (to : FxType) (mode : Rounding) (v : ℤ) → HasShifts narrow frac to mode → (pos 0 ≤ℤ bias_for v narrow.bias narrow.below) × (bias_for v narrow.bias narrow.below ≤ℤ pos (2 ^ 60))
 bias_range narrow frac to mode v shifts = go (int_lt v (pos 0))

@@ -1,5 +1,5 @@
 //! Conversion in 64 bits.
-ghost use Rattle.std.specs.Prelude.{◌≡◌, Bool, true, IfSome, ℤ, pos, negsuc, ◌*ℤ◌, ◌≤ℤ◌, ◌^◌, ◌≤◌, FitsSigned};
+ghost use Rattle.std.specs.Prelude.{◌≡◌, Bool, true, false, IfSome, ℤ, pos, negsuc, ◌*ℤ◌, ◌≤ℤ◌, ◌^◌, ◌≤◌, FitsSigned};
 ghost use Rattle.std.specs.Int.{int_gap, w64};
 ghost use Rattle.fx_type.specs.declared.kind.FxType.{FxType};
 ghost use Rattle.fx_type.specs.declared.rounding.Rounding.{Rounding};
@@ -64,9 +64,7 @@ struct Bias {
 fn bias_of(mode: Rounding, down: u32) -> Bias
     requires low { 1 ≤ down }
     requires high { down ≤ 60 }
-    ensures is { IsBias mode (2 ^ down) result.bias result.below result.even }
-    ensures bias { (pos 0 ≤ℤ result.bias) × (result.bias ≤ℤ pos (2 ^ 60)) }
-    ensures below { (pos 0 ≤ℤ result.below) × (result.below ≤ℤ pos (2 ^ 60)) }
+    ensures { IsBias mode (2 ^ down) result.bias result.below result.even }
 {
     let half = half_of(down);
     let less = half - 1;
@@ -128,8 +126,7 @@ fn tie(even: bool, lower: i64) -> i64
 fn shifted(v: i64, down: u32, bias: i64, even: bool) -> i64
     requires small { IsSmall v }
     requires down { down ≤ 60 }
-    requires bias_low { pos 0 ≤ℤ bias }
-    requires bias_high { bias ≤ℤ pos (2 ^ 60) }
+    requires bias { (pos 0 ≤ℤ bias) × (bias ≤ℤ pos (2 ^ 60)) }
     ensures { IsShifted v bias even (2 ^ down) result }
 {
     let above = v + bias + tie(even, v >> down);
@@ -137,6 +134,34 @@ fn shifted(v: i64, down: u32, bias: i64, even: bool) -> i64
 }
 
 impl Narrow {
+    /// The conversion of a whole number to a type without bits behind the point, where that has at
+    /// most 60 bits.
+    fn unshifted(to: FxType, saturate: bool) -> Option<Narrow>
+        requires { IsType to }
+        ensures ends { IfSome result (λ narrow. HasEnds narrow to saturate) }
+        ensures plain { IfSome result (λ narrow. (narrow.scale ≡ pos 1) × (narrow.down ≡ 0)
+            × (narrow.bias ≡ pos 0) × (narrow.below ≡ pos 0) × (narrow.even ≡ false)) }
+    {
+        let FxType::Num { signed, width, .. } = to else {
+            return None;
+        };
+        if width > 60 {
+            return None;
+        }
+        Some(Narrow {
+            scale: 1,
+            down: 0,
+            bias: 0,
+            below: 0,
+            even: false,
+            low: fx_num::lowest(width, signed) as i64,
+            high: fx_num::highest(width, signed) as i64,
+            width,
+            signed,
+            saturate,
+        })
+    }
+
     /// The conversion to a type of a number of up to so many bits, in units of 2 to the `-frac`, where
     /// 64 bits are enough.
     pub fn new(bits: u32, frac: i16, to: FxType, mode: Rounding, saturate: bool) -> Option<Narrow>
@@ -147,37 +172,17 @@ impl Narrow {
         ensures is { IfSome result (λ narrow. IsNarrow narrow frac to mode saturate) }
         ensures room { IfSome result (λ narrow. HasRoom narrow bits) }
     {
-        let FxType::Num {
-            signed,
-            width,
-            frac: to_frac,
-        } = to
-        else {
+        let Some(mut narrow) = Narrow::unshifted(to, saturate) else {
             return None;
         };
-        if width > 60 {
-            return None;
-        }
-        let low = fx_num::lowest(width, signed) as i64;
-        let high = fx_num::highest(width, signed) as i64;
-        if let Some(up) = gap(frac, to_frac) {
+        if let Some(up) = gap(frac, to.frac()) {
             if bits + up > 61 {
                 return None;
             }
-            return Some(Narrow {
-                scale: 1 << up,
-                down: 0,
-                bias: 0,
-                below: 0,
-                even: false,
-                low,
-                high,
-                width,
-                signed,
-                saturate,
-            });
+            narrow.scale = 1 << up;
+            return Some(narrow);
         }
-        let Some(down) = gap(to_frac, frac) else {
+        let Some(down) = gap(to.frac(), frac) else {
             return None;
         };
         if down == 0 {
@@ -186,19 +191,12 @@ impl Narrow {
         if bits > 61 {
             return None;
         }
-        let Bias { bias, below, even } = bias_of(mode, down);
-        Some(Narrow {
-            scale: 1,
-            down,
-            bias,
-            below,
-            even,
-            low,
-            high,
-            width,
-            signed,
-            saturate,
-        })
+        let bias = bias_of(mode, down);
+        narrow.down = down;
+        narrow.bias = bias.bias;
+        narrow.below = bias.below;
+        narrow.even = bias.even;
+        Some(narrow)
     }
 
     /// The conversion of `v`, a number in the units that this was prepared for.

@@ -23,86 +23,32 @@ overflow_add-most c =
     let h = c.half_of-half.ensures in
     rw (half_is half h.low h.high, less_is half h.low h.high) (omega (arith, ints, h.low, h.high))
 
-pub returns-in-Ceiling-clause-is : goal.returns-in-Ceiling-clause-is
-returns-in-Ceiling-clause-is c =
+pub returns-in-Ceiling : goal.returns-in-Ceiling
+returns-in-Ceiling c =
     let half = c.half_of-half.result in
     let h = c.half_of-half.ensures in
     rw (half_is half h.low h.high, less_is half h.low h.high, most_is half h.low h.high, c.in-Ceiling.is) (omega (arith, ints, h.twice), omega (arith, ints, h.twice), refl)
 
-pub returns-in-Ceiling-clause-bias : goal.returns-in-Ceiling-clause-bias
-returns-in-Ceiling-clause-bias c =
-    let half = c.half_of-half.result in
-    let h = c.half_of-half.ensures in
-    rw (half_is half h.low h.high, less_is half h.low h.high, most_is half h.low h.high) (omega (arith, ints, h.low, h.high), omega (arith, ints, h.low, h.high))
-
-pub returns-in-Ceiling-clause-below : goal.returns-in-Ceiling-clause-below
-returns-in-Ceiling-clause-below c =
-    let half = c.half_of-half.result in
-    let h = c.half_of-half.ensures in
-    rw (half_is half h.low h.high, less_is half h.low h.high, most_is half h.low h.high) (omega (arith, ints, h.low, h.high), omega (arith, ints, h.low, h.high))
-
-pub returns-in-Zero-clause-is : goal.returns-in-Zero-clause-is
-returns-in-Zero-clause-is c =
+pub returns-in-Zero : goal.returns-in-Zero
+returns-in-Zero c =
     let half = c.half_of-half.result in
     let h = c.half_of-half.ensures in
     rw (half_is half h.low h.high, less_is half h.low h.high, most_is half h.low h.high, c.in-Zero.is) (refl, omega (arith, ints, h.twice), refl)
 
-pub returns-in-Zero-clause-below : goal.returns-in-Zero-clause-below
-returns-in-Zero-clause-below c =
-    let half = c.half_of-half.result in
-    let h = c.half_of-half.ensures in
-    rw (half_is half h.low h.high, less_is half h.low h.high, most_is half h.low h.high) (omega (arith, ints, h.low, h.high), omega (arith, ints, h.low, h.high))
-
-pub returns-in-Nearest-clause-is : goal.returns-in-Nearest-clause-is
-returns-in-Nearest-clause-is c =
+pub returns-in-Nearest : goal.returns-in-Nearest
+returns-in-Nearest c =
     let half = c.half_of-half.result in
     let h = c.half_of-half.ensures in
     rw (half_is half h.low h.high, c.in-Nearest.is) (h.twice, h.twice, refl)
 
-pub returns-in-Nearest-clause-bias : goal.returns-in-Nearest-clause-bias
-returns-in-Nearest-clause-bias c =
-    let half = c.half_of-half.result in
-    let h = c.half_of-half.ensures in
-    rw (half_is half h.low h.high) (omega (arith, ints, h.low, h.high), omega (arith, ints, h.low, h.high))
-
-pub returns-in-Nearest-clause-below : goal.returns-in-Nearest-clause-below
-returns-in-Nearest-clause-below c =
-    let half = c.half_of-half.result in
-    let h = c.half_of-half.ensures in
-    rw (half_is half h.low h.high) (omega (arith, ints, h.low, h.high), omega (arith, ints, h.low, h.high))
-
-pub returns-in-Round-clause-is : goal.returns-in-Round-clause-is
-returns-in-Round-clause-is c =
+pub returns-in-Round : goal.returns-in-Round
+returns-in-Round c =
     let half = c.half_of-half.result in
     let h = c.half_of-half.ensures in
     rw (half_is half h.low h.high, less_is half h.low h.high, c.in-Round.is) (h.twice, omega (arith, ints, h.twice), refl)
 
-pub returns-in-Round-clause-bias : goal.returns-in-Round-clause-bias
-returns-in-Round-clause-bias c =
-    let half = c.half_of-half.result in
-    let h = c.half_of-half.ensures in
-    rw (half_is half h.low h.high) (omega (arith, ints, h.low, h.high), omega (arith, ints, h.low, h.high))
-
-pub returns-in-Round-clause-below : goal.returns-in-Round-clause-below
-returns-in-Round-clause-below c =
-    let half = c.half_of-half.result in
-    let h = c.half_of-half.ensures in
-    rw (half_is half h.low h.high, less_is half h.low h.high) (omega (arith, ints, h.low, h.high), omega (arith, ints, h.low, h.high))
-
-pub returns-in-Convergent-clause-is : goal.returns-in-Convergent-clause-is
-returns-in-Convergent-clause-is c =
+pub returns-in-Convergent : goal.returns-in-Convergent
+returns-in-Convergent c =
     let half = c.half_of-half.result in
     let h = c.half_of-half.ensures in
     rw (half_is half h.low h.high, less_is half h.low h.high, c.in-Convergent.is) (omega (arith, ints, h.twice), omega (arith, ints, h.twice), refl)
-
-pub returns-in-Convergent-clause-bias : goal.returns-in-Convergent-clause-bias
-returns-in-Convergent-clause-bias c =
-    let half = c.half_of-half.result in
-    let h = c.half_of-half.ensures in
-    rw (half_is half h.low h.high, less_is half h.low h.high) (omega (arith, ints, h.low, h.high), omega (arith, ints, h.low, h.high))
-
-pub returns-in-Convergent-clause-below : goal.returns-in-Convergent-clause-below
-returns-in-Convergent-clause-below c =
-    let half = c.half_of-half.result in
-    let h = c.half_of-half.ensures in
-    rw (half_is half h.low h.high, less_is half h.low h.high) (omega (arith, ints, h.low, h.high), omega (arith, ints, h.low, h.high))

@@ -13,8 +13,8 @@ returns c =
     let t = to_z-of_z w64 c.tie.result (record { sfits = c.tie.type_inv }) in
     let l = to_z-of_z w64 (shr_z c.args.v (2 ^ c.args.down)) (shr-fits c.args.v (2 ^ c.args.down) c.ranges.v) in
     let tie : IsTie c.args.even (shr_z c.args.v (2 ^ c.args.down)) c.tie.result = rw (v, l) at c.tie.ensures in
-    let first : FitsSigned w64 (c.args.v +ℤ c.args.bias) = omega (arith, ints, c.requires.small.low, c.requires.small.high, c.requires.bias_low, c.requires.bias_high) in
-    let second : FitsSigned w64 (c.args.v +ℤ c.args.bias +ℤ c.tie.result) = omega (arith, ints, c.requires.small.low, c.requires.small.high, c.requires.bias_low, c.requires.bias_high, tie.low, tie.high) in
+    let first : FitsSigned w64 (c.args.v +ℤ c.args.bias) = omega (arith, ints, c.requires.small.low, c.requires.small.high, c.requires.bias.0, c.requires.bias.1) in
+    let second : FitsSigned w64 (c.args.v +ℤ c.args.bias +ℤ c.tie.result) = omega (arith, ints, c.requires.small.low, c.requires.small.high, c.requires.bias.0, c.requires.bias.1, tie.low, tie.high) in
     let f = to_z-of_z w64 (c.args.v +ℤ c.args.bias) first in
     let s = to_z-of_z w64 (c.args.v +ℤ c.args.bias +ℤ c.tie.result) second in
     let r = to_z-of_z w64 (shr_z (c.args.v +ℤ c.args.bias +ℤ c.tie.result) (2 ^ c.args.down)) (shr-fits (c.args.v +ℤ c.args.bias +ℤ c.tie.result) (2 ^ c.args.down) second) in

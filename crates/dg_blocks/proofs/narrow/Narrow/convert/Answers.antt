@@ -16,19 +16,11 @@ shifted-requires-clause-small c =
     let f : FitsSigned w64 c.args.self.scale = search rules in
     rw (scaled_is c.args.v c.args.self.scale c.ranges.v f c.requires.small) c.requires.small
 
-pub shifted-requires-clause-bias_low : goal.shifted-requires-clause-bias_low
-shifted-requires-clause-bias_low c =
+pub shifted-requires-clause-bias : goal.shifted-requires-clause-bias
+shifted-requires-clause-bias c =
     let n = c.requires.narrow in
     let k = to_z-of_z w64 c.bias_for.result (record { sfits = c.bias_for.type_inv }) in
-    let range = bias_range c.args.self n.0 n.1 n.2 (to_z w64 (of_z w64 (to_z w64 (of_z w64 c.args.v) *ℤ to_z w64 (of_z w64 c.args.self.scale)))) n.4.shifts in
-    rw (k, c.bias_for.ensures) range.0
-
-pub shifted-requires-clause-bias_high : goal.shifted-requires-clause-bias_high
-shifted-requires-clause-bias_high c =
-    let n = c.requires.narrow in
-    let k = to_z-of_z w64 c.bias_for.result (record { sfits = c.bias_for.type_inv }) in
-    let range = bias_range c.args.self n.0 n.1 n.2 (to_z w64 (of_z w64 (to_z w64 (of_z w64 c.args.v) *ℤ to_z w64 (of_z w64 c.args.self.scale)))) n.4.shifts in
-    rw (k, c.bias_for.ensures) range.1
+    rw (k, c.bias_for.ensures) (bias_range c.args.self n.0 n.1 n.2 (to_z w64 (of_z w64 (to_z w64 (of_z w64 c.args.v) *ℤ to_z w64 (of_z w64 c.args.self.scale)))) n.4.shifts)
 
 pub returns : goal.returns
 returns c from to mode saturate is =
