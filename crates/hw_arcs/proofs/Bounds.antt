@@ -57,7 +57,10 @@ no_gap arcs lat most low high block least ask gap wide above =
 
 -- ---- how many latencies are above a level
 
-marked : (level x : ℕ) → ((level < x) × (one_if (nat_lt level x) ≡ 1)) ⊎ ((x ≤ level) × (one_if (nat_lt level x) ≡ 0))
+abbrev Marked : ℕ → ℕ → Type 0
+Marked level x = ((level < x) × (one_if (nat_lt level x) ≡ 1)) ⊎ ((x ≤ level) × (one_if (nat_lt level x) ≡ 0))
+
+marked : (level x : ℕ) → Marked level x
 marked level x = by_test (nat_lt level x) refl
   where
     by_test : (b : Bool) → nat_lt level x ≡ b → ((level < x) × (one_if b ≡ 1)) ⊎ ((x ≤ level) × (one_if b ≡ 0))
@@ -77,42 +80,40 @@ counted level (x ∷ xs) (suc k) above =
     let more = counted level xs k above in
     omega (arith, c, more)
 
+-- one between two levels counts at the lower alone, and every other at both or at none
+between : (low high x : ℕ) → low ≤ high → (((x ≤ low) ⊎ (high < x)) × (one_if (nat_lt high x) ≡ one_if (nat_lt low x))) ⊎ (one_if (nat_lt high x) + 1 ≡ one_if (nat_lt low x))
+between low high x below = by (marked low x) (marked high x)
+  where
+    by : Marked low x → Marked high x → (((x ≤ low) ⊎ (high < x)) × (one_if (nat_lt high x) ≡ one_if (nat_lt low x))) ⊎ (one_if (nat_lt high x) + 1 ≡ one_if (nat_lt low x))
+    by (inl over) (inl above) = let one = over.1 in let too = above.1 in inl (inr above.0, omega (arith, one, too))
+    by (inl over) (inr under) = let one = over.1 in let none = under.1 in inr (omega (arith, one, none))
+    by (inr down) (inl above) = let less = down.0 in let more = above.0 in absurd (omega (arith, less, more, below))
+    by (inr down) (inr under) = let none = down.1 in let too = under.1 in inl (inl down.0, omega (arith, none, too))
+
 no_more : (low high : ℕ) (xs : List ℕ) → low ≤ high → count_by (nat_lt high) xs ≤ count_by (nat_lt low) xs
 no_more low high [] below = omega arith
 no_more low high (x ∷ xs) below =
     let l = sum_by-cons (λ y. cond (nat_lt low y) 1 0) x xs in
     let h = sum_by-cons (λ y. cond (nat_lt high y) 1 0) x xs in
     let more = no_more low high xs below in
-    ⊎_elim
-    (λ (above : (high < x) × (one_if (nat_lt high x) ≡ 1)). ⊎_elim
-    (λ (a : (low < x) × (one_if (nat_lt low x) ≡ 1)). let one = above.1 in let too = a.1 in omega (arith, l, h, more, one, too))
-    (λ (b : (x ≤ low) × (one_if (nat_lt low x) ≡ 0)). let up = above.0 in let down = b.0 in absurd (omega (arith, up, down, below)))
-    (marked low x))
-    (λ (under : (x ≤ high) × (one_if (nat_lt high x) ≡ 0)). let none = under.1 in omega (arith, l, h, more, none))
-    (marked high x)
+    elim (between low high x below) [
+      | inl level ↦ let same = level.1 in omega (arith, l, h, more, same)
+      | inr one ↦ omega (arith, l, h, more, one)
+    ]
 
 fewer : (low high : ℕ) (xs : List ℕ) → low ≤ high → (count_by (nat_lt high) xs + 1 ≤ count_by (nat_lt low) xs) ⊎ IsGap xs low high
 fewer low high [] below = inr (record { apart = λ k. inl (omega arith) })
 fewer low high (x ∷ xs) below =
     let l = sum_by-cons (λ y. cond (nat_lt low y) 1 0) x xs in
     let h = sum_by-cons (λ y. cond (nat_lt high y) 1 0) x xs in
-    let same = no_more low high xs below in
-    ⊎_elim
-    (λ (above : (high < x) × (one_if (nat_lt high x) ≡ 1)). ⊎_elim
-    (λ (a : (low < x) × (one_if (nat_lt low x) ≡ 1)). ⊎_elim
-    (λ (less : count_by (nat_lt high) xs + 1 ≤ count_by (nat_lt low) xs). let one = above.1 in let too = a.1 in inl (omega (arith, l, h, less, one, too)))
-    (λ (gap : IsGap xs low high). inr (wider x gap (inr above.0)))
-    (fewer low high xs below))
-    (λ (b : (x ≤ low) × (one_if (nat_lt low x) ≡ 0)). let up = above.0 in let down = b.0 in absurd (omega (arith, up, down, below)))
-    (marked low x))
-    (λ (under : (x ≤ high) × (one_if (nat_lt high x) ≡ 0)). ⊎_elim
-    (λ (a : (low < x) × (one_if (nat_lt low x) ≡ 1)). let none = under.1 in let one = a.1 in inl (omega (arith, l, h, same, none, one)))
-    (λ (b : (x ≤ low) × (one_if (nat_lt low x) ≡ 0)). ⊎_elim
-    (λ (less : count_by (nat_lt high) xs + 1 ≤ count_by (nat_lt low) xs). let none = under.1 in let too = b.1 in inl (omega (arith, l, h, less, none, too)))
-    (λ (gap : IsGap xs low high). inr (wider x gap (inl b.0)))
-    (fewer low high xs below))
-    (marked low x))
-    (marked high x)
+    let more = no_more low high xs below in
+    elim (between low high x below) [
+      | inl level ↦ elim (fewer low high xs below) [
+        | inl less ↦ let same = level.1 in inl (omega (arith, l, h, less, same))
+        | inr gap ↦ inr (wider x gap level.0)
+      ]
+      | inr one ↦ inl (omega (arith, l, h, more, one))
+    ]
   where
     wider : (x : ℕ) → IsGap xs low high → (x ≤ low) ⊎ (high < x) → IsGap (x ∷ xs) low high
     wider x gap here = record { apart = by_place gap here }
