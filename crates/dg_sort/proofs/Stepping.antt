@@ -90,7 +90,14 @@ step_placed rows walk group state last spent = record {
   unmet = λ block at. unmet_placed (length walk.order) (drop group.start walk.held) walk.marks block at;
 }
 
--- a source is taken off
+-- a source of the last group is taken off
+pub record IsNext (rows : List (List ℕ)) (walk : Walk) (group : Group) (front : List ℕ) (source : ℕ) : Type 0 where
+  pub state : IsState rows walk
+  pub last : slice_get walk.groups (length walk.groups - 1) ≡ Some group
+  pub more : length walk.edges ≡ group.edges → ⊥
+  pub shape : walk.edges ≡ front ++ source ∷ []
+
+-- the walk behind it
 abbrev pub without : Walk → List ℕ → Walk
 without walk front = record { marks = walk.marks; held = walk.held; groups = walk.groups; edges = front; order = walk.order; first = walk.first }
 
@@ -104,8 +111,12 @@ record IsTaken (rows : List (List ℕ)) (walk : Walk) (front : List ℕ) (source
   highest : (k : ℕ) (group : Group) → slice_get walk.groups k ≡ Some group → group.start ≤ top
   shorter : length front + 1 ≡ length walk.edges
 
-taken : (rows : List (List ℕ)) (walk : Walk) (group : Group) (front : List ℕ) (source : ℕ) → IsState rows walk → slice_get walk.groups (length walk.groups - 1) ≡ Some group → (length walk.edges ≡ group.edges → ⊥) → walk.edges ≡ front ++ source ∷ [] → IsTaken rows walk front source
-taken rows walk group front source state last more shape =
+taken : (rows : List (List ℕ)) (walk : Walk) (group : Group) (front : List ℕ) (source : ℕ) → IsNext rows walk group front source → IsTaken rows walk front source
+taken rows walk group front source next =
+    let state = next.state in
+    let last = next.last in
+    let more = next.more in
+    let shape = next.shape in
     let size = ap length shape ∙ length-append front (source ∷ []) in
     let few = (state.groups.within (length walk.groups - 1) group last).1 in
     let room : group.edges ≤ length front = omega (arith, size, few, more) in
@@ -128,25 +139,26 @@ taken rows walk group front source state last more shape =
     last_is [] x = refl
     last_is (y ∷ xs) x = last_is xs x
 
-pub step_passed : (rows : List (List ℕ)) (walk : Walk) (group : Group) (front : List ℕ) (source rank : ℕ) → IsState rows walk → slice_get walk.groups (length walk.groups - 1) ≡ Some group → (length walk.edges ≡ group.edges → ⊥) → walk.edges ≡ front ++ source ∷ []
+pub step_passed : (rows : List (List ℕ)) (walk : Walk) (group : Group) (front : List ℕ) (source rank : ℕ) → IsNext rows walk group front source
     → slice_get walk.marks source ≡ Some (Placed rank) → IsStep rows walk (without walk front)
-step_passed rows walk group front source rank state last more shape is =
-    let t = taken rows walk group front source state last more shape in
+step_passed rows walk group front source rank next is =
+    let t = taken rows walk group front source next in
     let shorter = t.shorter in
     record {
       state = record {
-        places = state.places;
-        groups = passed_groups walk.groups walk.held walk.edges front source group state.groups t.popped last;
-        reads = passed_looked rows walk.marks walk.held walk.groups walk.edges front source state.reads t.popped (record { rank = rank; at = is });
+        places = next.state.places;
+        groups = passed_groups walk.groups walk.held walk.edges front source group next.state.groups t.popped next.last;
+        reads = passed_looked rows walk.marks walk.held walk.groups walk.edges front source next.state.reads t.popped (record { rank = rank; at = is });
       };
       less = omega (arith, shorter);
       unmet = λ block at. at;
     }
 
-pub step_met : (rows : List (List ℕ)) (walk : Walk) (group : Group) (front : List ℕ) (source : ℕ) → IsState rows walk → AreKnown rows → slice_get walk.groups (length walk.groups - 1) ≡ Some group → (length walk.edges ≡ group.edges → ⊥) → walk.edges ≡ front ++ source ∷ []
+pub step_met : (rows : List (List ℕ)) (walk : Walk) (group : Group) (front : List ℕ) (source : ℕ) → IsNext rows walk group front source → AreKnown rows
     → slice_get walk.marks source ≡ Some Unmet → IsStep rows walk (met rows (without walk front) source)
-step_met rows walk group front source state known last more shape is =
-    let t = taken rows walk group front source state last more shape in
+step_met rows walk group front source next known is =
+    let t = taken rows walk group front source next in
+    let state = next.state in
     let shorter = t.shorter in
     let inside = known.there t.reader source t.reads in
     let weight = weight_met walk.marks rows source (length walk.held) is inside in
@@ -168,10 +180,11 @@ step_met rows walk group front source state known last more shape is =
 abbrev pub with_groups : Walk → List ℕ → List Group → Walk
 with_groups walk front joined = record { marks = walk.marks; held = walk.held; groups = joined; edges = front; order = walk.order; first = walk.first }
 
-pub step_joined : (rows : List (List ℕ)) (walk : Walk) (group : Group) (front : List ℕ) (source place : ℕ) (joined : List Group) → IsState rows walk → slice_get walk.groups (length walk.groups - 1) ≡ Some group → (length walk.edges ≡ group.edges → ⊥) → walk.edges ≡ front ++ source ∷ []
+pub step_joined : (rows : List (List ℕ)) (walk : Walk) (group : Group) (front : List ℕ) (source place : ℕ) (joined : List Group) → IsNext rows walk group front source
     → slice_get walk.marks source ≡ Some (Held place) → IsJoined walk.groups joined place → IsStep rows walk (with_groups walk front joined)
-step_joined rows walk group front source place joined state last more shape is join =
-    let t = taken rows walk group front source state last more shape in
+step_joined rows walk group front source place joined next is join =
+    let t = taken rows walk group front source next in
+    let state = next.state in
     let shorter = t.shorter in
     let closes : Closes rows walk.held walk.groups source place = record {
       at = state.places.held_at source place is;
@@ -267,14 +280,21 @@ held_there rows walk state k d below =
     let at = slice_get-get_or walk.held k d below in
     slice_get_within walk.marks (get_or walk.held k d) (Held k) (state.places.holds k (get_or walk.held k d) at)
 
-pub source_there : (rows : List (List ℕ)) (walk : Walk) (group : Group) (front : List ℕ) (source : ℕ) → IsState rows walk → AreKnown rows → slice_get walk.groups (length walk.groups - 1) ≡ Some group → (length walk.edges ≡ group.edges → ⊥) → walk.edges ≡ front ++ source ∷ []
+pub source_there : (rows : List (List ℕ)) (walk : Walk) (group : Group) (front : List ℕ) (source : ℕ) → IsNext rows walk group front source → AreKnown rows
     → source < length rows
-source_there rows walk group front source state known last more shape =
-    let t = taken rows walk group front source state last more shape in
+source_there rows walk group front source next known =
+    let t = taken rows walk group front source next in
     known.there t.reader source t.reads
 
 pub mark_is : (marks : List Mark) (block : ℕ) (mark is : Mark) → block < length marks → mark ≡ get_or marks block mark → mark ≡ is → slice_get marks block ≡ Some is
 mark_is marks block mark is inside at same = slice_get-get_or marks block mark inside ∙ ap Some (sym at ∙ same)
+
+-- its mark, as the code reads it
+pub next_mark : (rows : List (List ℕ)) (walk : Walk) (group : Group) (front : List ℕ) (source : ℕ) (mark is : Mark) → IsNext rows walk group front source → AreKnown rows → mark ≡ get_or walk.marks source mark → mark ≡ is → slice_get walk.marks source ≡ Some is
+next_mark rows walk group front source mark is next known at same =
+    let inside = source_there rows walk group front source next known in
+    let size = next.state.places.marked in
+    mark_is walk.marks source mark is (omega (arith, inside, size)) at same
 
 pub can_join : (rows : List (List ℕ)) (walk : Walk) (source place : ℕ) (group : Group) → IsState rows walk → slice_get walk.groups (length walk.groups - 1) ≡ Some group → CanJoin walk.groups place
 can_join rows walk source place group state last =
@@ -286,10 +306,10 @@ can_join rows walk source place group state last =
 kept_is : (walk after : Walk) → KeepsAllButGroups walk after → after ≡ record { marks = walk.marks; held = walk.held; groups = after.groups; edges = walk.edges; order = walk.order; first = walk.first }
 kept_is walk after kept = λ i. record { marks = kept.marks i; held = kept.held i; groups = after.groups; edges = kept.edges i; order = kept.order i; first = kept.first i }
 
-pub step_kept : (rows : List (List ℕ)) (walk after : Walk) (group : Group) (front : List ℕ) (source place : ℕ) → IsState rows walk → slice_get walk.groups (length walk.groups - 1) ≡ Some group → (length walk.edges ≡ group.edges → ⊥) → walk.edges ≡ front ++ source ∷ []
+pub step_kept : (rows : List (List ℕ)) (walk after : Walk) (group : Group) (front : List ℕ) (source place : ℕ) → IsNext rows walk group front source
     → slice_get walk.marks source ≡ Some (Held place) → IsJoined walk.groups after.groups place → KeepsAllButGroups (without walk front) after → IsStep rows walk after
-step_kept rows walk after group front source place state last more shape is join kept =
-    subst (λ w. IsStep rows walk w) (sym (kept_is (without walk front) after kept)) (step_joined rows walk group front source place after.groups state last more shape is join)
+step_kept rows walk after group front source place next is join kept =
+    subst (λ w. IsStep rows walk w) (sym (kept_is (without walk front) after kept)) (step_joined rows walk group front source place after.groups next is join)
 
 pub step_is : (rows : List (List ℕ)) (walk after known : Walk) → IsStep rows walk known → after ≡ known → IsStep rows walk after
 step_is rows walk after known step same = subst (λ w. IsStep rows walk w) (sym same) step
