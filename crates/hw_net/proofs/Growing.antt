@@ -1,6 +1,6 @@
 -- What is said of a netlist is carried along as it grows. Crates above may cite these lemmas.
 pub use Rattle.hw_net.proofs.Extending.{last-of, front-of, front-some, split-last, if-both, count-append, extends-self, extends-trans, extends-one, longer, one-longer, still-there, stood-there, word-stays, counter-front, counter-stays, is-counter-stays, differ-more, differ-other, differ-counter}
-use Rattle.std.proofs.Common.{◌≡◌, ℕ, ◌+◌, ◌<◌, ◌≤◌, ◌⊎◌, inl, inr, List, [], ◌∷◌, ◌++◌, length, All, Contains, Option, None, Some, slice_get, slice_index_or, Bool, ap, sym, ◌∙◌, subst, arith, refl}
+use Rattle.std.proofs.Common.{◌≡◌, ℕ, ◌<◌, ◌≤◌, ◌⊎◌, inl, inr, List, [], ◌∷◌, ◌++◌, length, All, Contains, Option, None, Some, slice_get, slice_index_or, Bool, ap, sym, ◌∙◌, subst, arith, refl}
 use Rattle.std.proofs.lemmas.Bool.{cases_lt}
 use Rattle.std.proofs.lemmas.Option.{none-some, slice_get_within}
 use Rattle.hw_net.specs.declared.netlist.Frame.{Frame}
@@ -10,7 +10,7 @@ use Rattle.hw_net.specs.declared.netlist.NetOp.TheVariants.{Input, Const, Resize
 use Rattle.hw_net.specs.declared.netlist.NetKind.{NetKind}
 use Rattle.hw_net.specs.declared.netlist.NetKind.TheVariants.{Comb, Reg, EnReg, Bridge, Unit, Counter}
 use Rattle.hw_net.specs.Circuit.{Circuit}
-use Rattle.hw_net.specs.Frames.{frame_of, counted_frame, counter_of, CountersDiffer}
+use Rattle.hw_net.specs.Frames.{IsCounter, frame_of, counted_frame, counter_of, CountersDiffer}
 use Rattle.hw_net.specs.Netlist.{IsKind, HasBits, HasParts, reads, reads_now}
 use Rattle.hw_net.specs.NetRows.{Inputs, Rows, NetShows}
 use Rattle.hw_net.specs.Growing.{Extends, Keeps, IsReopened, InRows, Appends, IsAppended, IsCounted, with_net}
@@ -129,34 +129,46 @@ kind-stays a b cycles inputs width signed (Unit left right) p there has = record
 }
 kind-stays a b cycles inputs width signed (Counter frame) p there has = has
 
+-- what may be read as named, appended or a Counter may be so in a longer netlist
+still-read : (b c : Circuit) (named : List ℕ) (Appended : Type 0) (read : ℕ) → Extends b c → Contains named read ⊎ Appended ⊎ IsCounter b.nets read → Contains named read ⊎ Appended ⊎ IsCounter c.nets read
+still-read b c named Appended read p may =
+    elim may [
+      | inl names ↦ inl names
+      | inr rest ↦ elim rest [
+        | inl appended ↦ inr (inl appended)
+        | inr counter ↦ inr (inr (is-counter-stays b c read p counter))
+      ]
+    ]
+
 -- a net that was appended is so in a longer netlist
 pub appended-stays : (a b c : Circuit) (named : List ℕ) (k : ℕ) (net : Net) → Extends b c → IsAppended a b named k net → IsAppended a c named k net
 appended-stays a b c named k net p is = record {
   word = is.word;
   kind = rw (p.cycles, p.inputs) (kind-stays b c b.cycles (length b.inputs) net.width net.signed net.kind p is.there is.kind);
   there = λ i d within. omega (arith, is.there i d within, longer b c p);
-  allowed = λ i d within.
-      elim (is.allowed i d within) [
-        | inl named_too ↦ inl named_too
-        | inr rest ↦ elim rest [
-          | inl appended ↦ inr (inl appended)
-          | inr counter ↦ inr (inr (is-counter-stays b c (slice_index_or (reads net.kind) i d) p counter))
-        ]
-      ];
-  now = λ i d within.
-      elim (is.now i d within) [
-        | inl named_too ↦ inl named_too
-        | inr rest ↦ elim rest [
-          | inl appended ↦ inr (inl appended)
-          | inr counter ↦ inr (inr (is-counter-stays b c (slice_index_or (reads_now net.kind) i d) p counter))
-        ]
-      ];
+  allowed = λ i d within. let read = slice_index_or (reads net.kind) i d in still-read b c named (length a.nets ≤ read) read p (is.allowed i d within);
+  now = λ i d within. let read = slice_index_or (reads_now net.kind) i d in still-read b c named ((length a.nets ≤ read) × (read < k)) read p (is.now i d within);
   counted = λ frame names. counter-stays b c frame p (is.counted frame names);
 }
 
 -- what a second call names was named by the first or appended in it
 abbrev pub IsNamed : Circuit → Circuit → List ℕ → ℕ → Type 0
 IsNamed a b named read = Contains named read ⊎ ((length a.nets ≤ read) × (read < length b.nets))
+
+-- what a second call may read, the two may
+wider-read : (a b : Circuit) (named more : List ℕ) (nets : List Net) (Later Own : Type 0) (read : ℕ) → (Contains more read → IsNamed a b named read) → ((length a.nets ≤ read) × (read < length b.nets) → Own) → (Later → Own)
+    → Contains more read ⊎ Later ⊎ IsCounter nets read → Contains named read ⊎ Own ⊎ IsCounter nets read
+wider-read a b named more nets Later Own read wider early late may =
+    elim may [
+      | inl names ↦ elim (wider names) [
+        | inl first ↦ inl first
+        | inr appended ↦ inr (inl (early appended))
+      ]
+      | inr rest ↦ elim rest [
+        | inl appended ↦ inr (inl (late appended))
+        | inr counter ↦ inr (inr counter)
+      ]
+    ]
 
 pub appended-wider : (a b c : Circuit) (named more : List ℕ) (k : ℕ) (net : Net) → Extends a b → length b.nets ≤ k → ((read : ℕ) → Contains more read → IsNamed a b named read)
     → IsAppended b c more k net → IsAppended a c named k net
@@ -165,29 +177,14 @@ appended-wider a b c named more k net p past wider is = record {
   kind = is.kind;
   there = is.there;
   allowed = λ i d within.
+      let read = slice_index_or (reads net.kind) i d in
       let more_nets = longer a b p in
-      elim (is.allowed i d within) [
-        | inl names ↦ elim (wider (slice_index_or (reads net.kind) i d) names) [
-          | inl first ↦ inl first
-          | inr appended ↦ inr (inl appended.0)
-        ]
-        | inr rest ↦ elim rest [
-          | inl appended ↦ inr (inl (omega (arith, appended)))
-          | inr counter ↦ inr (inr counter)
-        ]
-      ];
+      wider-read a b named more c.nets (length b.nets ≤ read) (length a.nets ≤ read) read (wider read) (λ early. early.0) (λ late. omega (arith, late, more_nets)) (is.allowed i d within);
   now = λ i d within.
+      let read = slice_index_or (reads_now net.kind) i d in
       let more_nets = longer a b p in
-      elim (is.now i d within) [
-        | inl names ↦ elim (wider (slice_index_or (reads_now net.kind) i d) names) [
-          | inl first ↦ inl first
-          | inr appended ↦ inr (inl (appended.0, omega (arith, appended.1)))
-        ]
-        | inr rest ↦ elim rest [
-          | inl appended ↦ inr (inl (omega (arith, appended.0), appended.1))
-          | inr counter ↦ inr (inr counter)
-        ]
-      ];
+      wider-read a b named more c.nets ((length b.nets ≤ read) × (read < k)) ((length a.nets ≤ read) × (read < k)) read (wider read)
+      (λ early. (early.0, omega (arith, early.1, past))) (λ late. (omega (arith, late.0, more_nets), late.1)) (is.now i d within);
   counted = is.counted;
 }
 
