@@ -92,8 +92,9 @@ pub fn arcs_of(
     ensures known { IfOk result (λ arcs. AreKnown arcs.items (length checked.now.diagram.blocks)) }
 {
     checked.keeps_rules();
-    let edges = checked.diagram().edges.as_slice();
-    let blocks = checked.diagram().blocks.as_slice();
+    let diagram = checked.diagram();
+    let edges = diagram.edges.as_slice();
+    let blocks = diagram.blocks.as_slice();
     let mut arcs = Vec::new(alloc);
     for edge in edges {
         let edge = *edge;
