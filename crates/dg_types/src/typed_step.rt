@@ -1,7 +1,7 @@
 //! The type that a block takes from those of its inputs: one function for each choice of a kind's
 //! row.
 ghost use Rattle.std.specs.Prelude.{◌≡◌, ◌≤◌, All, length, true};
-ghost use Rattle.fx_type.specs.FullTypeOf.{full_sum_of, full_product_of, union_of as union_of_types};
+ghost use Rattle.fx_type.specs.FullTypeOf.{full_sum_of};
 ghost use Rattle.fx_type.specs.FxType.{IsType};
 ghost use Rattle.dg_model.specs.Attributes.{coefficient_type as coefficient_type_of};
 ghost use Rattle.dg_model.specs.GainParam.{param_type_of};
@@ -9,7 +9,7 @@ ghost use Rattle.dg_model.specs.KindRow.{FullRule as FullRuleOf, IsSpec};
 ghost use Rattle.dg_model.specs.Library.{row_of};
 ghost use Rattle.dg_model.specs.Periods.{known_at};
 ghost use Rattle.dg_model.specs.TypeRounds.{with_known, full_type as full_type_of, own_type as own_type_of, taken_type as taken_type_of};
-ghost use Rattle.dg_types.specs.inner.TypedInputs.{source_types, IsKnownValid, CanRead, is_ready, is_full_ready};
+ghost use Rattle.dg_types.specs.inner.TypedInputs.{source_types, IsKnownValid, CanRead, is_ready, is_full_ready, paired_of};
 
 use crate::linked::Source;
 use crate::typed_param::param_type;
@@ -39,24 +39,31 @@ fn sum_of(terms: &[(bool, FxType)]) -> Option<FxType>
     full_sum(terms).ok()
 }
 
-/// The type of a product, where it is valid.
-fn product_of(left: FxType, right: FxType) -> Option<FxType>
-    requires left { IsType left }
-    requires right { IsType right }
-    ensures { result ≡ full_product_of left right }
-{
-    fx_type::full_product_is_one();
-    full_product(left, right).ok()
+/// What is made of two types.
+#[derive(Clone, Copy)]
+enum Pairing {
+    /// Their full product.
+    Product,
+    /// The union of a choice between them.
+    Union,
 }
 
-/// The type of a choice between two, where it is valid.
-fn union_of(left: FxType, right: FxType) -> Option<FxType>
+/// The type that two make, where it is valid.
+fn paired(how: Pairing, left: FxType, right: FxType) -> Option<FxType>
     requires left { IsType left }
     requires right { IsType right }
-    ensures { result ≡ union_of_types left right }
+    ensures { result ≡ paired_of how left right }
 {
-    fx_type::union_is_one();
-    union(left, right).ok()
+    match how {
+        Pairing::Product => {
+            fx_type::full_product_is_one();
+            full_product(left, right).ok()
+        }
+        Pairing::Union => {
+            fx_type::union_is_one();
+            union(left, right).ok()
+        }
+    }
 }
 
 /// The full sum of all inputs.
@@ -96,29 +103,20 @@ fn scaled_at(
     let Some(kind) = param_type(value, param, input) else {
         return None;
     };
-    product_of(input, kind)
+    paired(Pairing::Product, input, kind)
 }
 
-/// The full product of inputs 1 and 2.
-fn product_at(values: &[Option<FxType>], sources: &[Source]) -> Option<FxType>
-    requires { CanRead values.now sources.now }
-    ensures { result ≡ full_type_of FullRuleOf.FullProduct (source_types values.now sources.now) }
-{
-    let Some(left) = input_at(values, sources, 0) else {
-        return None;
-    };
-    let Some(right) = input_at(values, sources, 1) else {
-        return None;
-    };
-    product_of(left, right)
-}
-
-/// The union of input 1 and another.
-fn union_at(values: &[Option<FxType>], sources: &[Source], other: usize) -> Option<FxType>
+/// The type that input 1 and another make.
+fn paired_at(
+    how: Pairing,
+    values: &[Option<FxType>],
+    sources: &[Source],
+    other: usize,
+) -> Option<FxType>
     requires { CanRead values.now sources.now }
     ensures { let types = source_types values.now sources.now in
         result ≡ with_known (known_at types 0)
-        (λ left. with_known (known_at types other) (union_of_types left)) }
+        (λ left. with_known (known_at types other) (paired_of how left)) }
 {
     let Some(left) = input_at(values, sources, 0) else {
         return None;
@@ -126,7 +124,7 @@ fn union_at(values: &[Option<FxType>], sources: &[Source], other: usize) -> Opti
     let Some(right) = input_at(values, sources, other) else {
         return None;
     };
-    union_of(left, right)
+    paired(how, left, right)
 }
 
 /// The full type or union that a kind's equation names of these inputs, where the types that it
@@ -141,9 +139,9 @@ pub fn full_type(kind: &Kind, values: &[Option<FxType>], sources: &[Source]) -> 
         FullRule::NoFull => None,
         FullRule::FullSum { negative } => sum_at(negative, values, sources),
         FullRule::FullScaled { value, param } => scaled_at(value, param, values, sources),
-        FullRule::FullProduct => product_at(values, sources),
-        FullRule::UnionOfTwo => union_at(values, sources, 1),
-        FullRule::UnionOfEnds => union_at(values, sources, 2),
+        FullRule::FullProduct => paired_at(Pairing::Product, values, sources, 1),
+        FullRule::UnionOfTwo => paired_at(Pairing::Union, values, sources, 1),
+        FullRule::UnionOfEnds => paired_at(Pairing::Union, values, sources, 2),
     }
 }
 
@@ -187,29 +185,16 @@ pub fn coefficient_type(
         (known_at (source_types values.now sources.now) 0) }
 {
     match kind.full() {
-        FullRule::FullScaled { value, param } => param_at(value, param, values, sources),
+        FullRule::FullScaled { value, param } => {
+            let Some(input) = input_at(values, sources, 0) else {
+                return None;
+            };
+            param_type(value, param, input)
+        }
         FullRule::NoFull
         | FullRule::FullSum { .. }
         | FullRule::FullProduct
         | FullRule::UnionOfTwo
         | FullRule::UnionOfEnds => None,
     }
-}
-
-/// The type of coefficients, where that of input 1 is known.
-fn param_at(
-    value: &[Decimal],
-    param: TypeSpec,
-    values: &[Option<FxType>],
-    sources: &[Source],
-) -> Option<FxType>
-    requires read { CanRead values.now sources.now }
-    requires param { IsSpec param }
-    ensures { result ≡ with_known (known_at (source_types values.now sources.now) 0)
-        (param_type_of value.now param) }
-{
-    let Some(input) = input_at(values, sources, 0) else {
-        return None;
-    };
-    param_type(value, param, input)
 }

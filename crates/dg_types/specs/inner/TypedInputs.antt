@@ -5,7 +5,7 @@ use Rattle.fx_type.specs.declared.kind.FxType.TheVariants.{Num, Logical}
 use Rattle.fx_type.specs.declared.spec.TypeSpec.{TypeSpec}
 use Rattle.fx_type.specs.declared.spec.TypeSpec.TheVariants.{Fixed, Internal, SameFirst, Auto}
 use Rattle.fx_type.specs.FullType.{Terms}
-use Rattle.fx_type.specs.FullTypeOf.{is_word, full_sum_of, union_of}
+use Rattle.fx_type.specs.FullTypeOf.{is_word, full_sum_of, full_product_of, union_of}
 use Rattle.fx_type.specs.FxType.{IsType}
 use Rattle.dg_model.specs.declared.diagram.Block.{Block}
 use Rattle.dg_model.specs.KindRow.{FullRule}
@@ -13,6 +13,8 @@ use Rattle.dg_model.specs.Library.{row_of}
 use Rattle.dg_model.specs.Periods.{known_or, known_at}
 use Rattle.dg_model.specs.TypeRounds.{Types, with_known, type_of_next}
 use Rattle.dg_types.specs.declared.linked.Source.{Source}
+use Rattle.dg_types.specs.declared.typed_step.Pairing.{Pairing}
+use Rattle.dg_types.specs.declared.typed_step.Pairing.TheVariants.{Product, Union}
 
 -- the types at the sources of a block's inputs, in order of its ports
 abbrev pub source_types : Types → List Source → Types
@@ -27,6 +29,11 @@ IsKnownValid (Some type) = IsType type
 pub record CanRead (values : Types) (sources : List Source) : Type 0 where
   pub there : All (λ source. source.block < length values) sources
   pub valid : All IsKnownValid values
+
+-- what is made of two types
+abbrev pub paired_of : Pairing → FxType → FxType → Option FxType
+paired_of Product left right = full_product_of left right
+paired_of Union left right = union_of left right
 
 -- ---- the terms of a sum
 
