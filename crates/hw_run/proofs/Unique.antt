@@ -1,8 +1,8 @@
 -- Two functions that are rows of one netlist under the same inputs are one.
-use Rattle.std.proofs.Common.{◌≡◌, ℕ, zero, suc, ◌+◌, ◌-◌, ◌*◌, ◌%◌, ◌<◌, inl, inr, Bool, true, false, length, Option, None, Some, slice_get, slice_index_or, List, All, ℤ, sym, ◌∙◌, subst, arith, refl}
+use Rattle.std.proofs.Common.{◌≡◌, ℕ, zero, suc, ◌+◌, ◌-◌, ◌*◌, ◌%◌, ◌<◌, inl, inr, Bool, length, Option, None, Some, slice_get, slice_index_or, List, All, ℤ, sym, ◌∙◌, subst, arith, refl}
 use Rattle.std.proofs.lemmas.Int.{ints}
 use Rattle.std.proofs.lemmas.Nat.{mul-lt}
-use Rattle.std.proofs.lemmas.Bool.{cases_lt}
+use Rattle.std.proofs.lemmas.Bool.{cases_Bool, cases_lt}
 use Rattle.fx_num.specs.Word.{IsWord, IsWrapped}
 use Rattle.hw_net.proofs.Modular.{one-wrapped}
 use Rattle.hw_net.proofs.Words.{takes-or-not, zero-or-not}
@@ -34,24 +34,16 @@ module _ (n : ℕ) (span : Span) where
   same-enabled : (reset : Bool) (first : ℤ) (enable from wave allow of other : Wave) → IsEnReg n span reset first enable from wave → IsEnReg n span reset first allow of other
       → (c : ℕ) → c < n → ((b : ℕ) → b < c → enable b ≡ allow b) → ((b : ℕ) → b < c → from b ≡ of b) → ((b : ℕ) → b < c → wave b ≡ other b) → wave c ≡ other c
   same-enabled reset first enable from wave allow of other p q zero h gates feeds own = p.begins h ∙ sym (q.begins h)
-  same-enabled true first enable from wave allow of other p q (suc c) h gates feeds own =
+  same-enabled reset first enable from wave allow of other p q (suc c) h gates feeds own =
       let e : suc c ≡ c + 1 = omega arith in
       let below : c + 1 < n = omega arith in
       let gate : enable c ≡ allow c = gates c (omega arith) in
       rw e (elim (takes-or-not span (span.length - 1) c) [
         | inl t ↦ elim (zero-or-not (enable c)) [
-          | inl off ↦ p.resets c below t off refl ∙ sym (q.resets c below t (sym gate ∙ off) refl)
-          | inr on ↦ p.takes c below t on ∙ feeds c (omega arith) ∙ sym (q.takes c below t (λ z. on (gate ∙ z)))
-        ]
-        | inr t ↦ p.keeps c below t ∙ own c (omega arith) ∙ sym (q.keeps c below t)
-      ])
-  same-enabled false first enable from wave allow of other p q (suc c) h gates feeds own =
-      let e : suc c ≡ c + 1 = omega arith in
-      let below : c + 1 < n = omega arith in
-      let gate : enable c ≡ allow c = gates c (omega arith) in
-      rw e (elim (takes-or-not span (span.length - 1) c) [
-        | inl t ↦ elim (zero-or-not (enable c)) [
-          | inl off ↦ p.stays c below t off refl ∙ own c (omega arith) ∙ sym (q.stays c below t (sym gate ∙ off) refl)
+          | inl off ↦ elim (cases_Bool reset) [
+            | inl does ↦ p.resets c below t off does ∙ sym (q.resets c below t (sym gate ∙ off) does)
+            | inr stays ↦ p.stays c below t off stays ∙ own c (omega arith) ∙ sym (q.stays c below t (sym gate ∙ off) stays)
+          ]
           | inr on ↦ p.takes c below t on ∙ feeds c (omega arith) ∙ sym (q.takes c below t (λ z. on (gate ∙ z)))
         ]
         | inr t ↦ p.keeps c below t ∙ own c (omega arith) ∙ sym (q.keeps c below t)
