@@ -2,6 +2,7 @@
 ghost use Rattle.std.specs.Prelude.{◌≡◌, ◌≤◌, [], ◌∷◌, ◌++◌, IfOk, IsTrue, OnOk, length, map, slice_index_or, take};
 ghost use Rattle.std.specs.Fmt.{decimal, signed_decimal};
 ghost use Rattle.std.specs.List.{flat_map};
+ghost use Rattle.dg_model.specs.declared.fault.Shown.TheVariants.{Budget, Latency};
 ghost use Rattle.fx_model.specs.inner.Pieces.{piece_text};
 ghost use Rattle.fx_model.specs.RuleLine.{cycle_text, period_text, place_text, quoted_byte, quoted_path, rule_line, shown_text};
 
@@ -208,28 +209,8 @@ pub fn push_shown(line: &mut Vec<u8>, shown: &Shown, blocks: &[Block]) -> Result
         Shown::Latency {
             blocks: numbers,
             total,
-        } => push_pieces(
-            line,
-            &[
-                Piece::Bytes(b": total "),
-                Piece::Signed(*total),
-                Piece::Bytes(b" cycle"),
-                Piece::Cycle(numbers.as_slice()),
-            ],
-            blocks,
-        ),
-        Shown::Budget { period, need, have } => push_pieces(
-            line,
-            &[
-                Piece::Bytes(b": period "),
-                Piece::Number(u64::from(*period)),
-                Piece::Bytes(b" need "),
-                Piece::Number(*need),
-                Piece::Bytes(b" have "),
-                Piece::Number(*have),
-            ],
-            blocks,
-        ),
+        } => push_latency(line, numbers.as_slice(), *total, blocks),
+        Shown::Budget { period, need, have } => push_budget(line, *period, *need, *have, blocks),
         Shown::Size { storage, latency } => push_pieces(
             line,
             &[
@@ -241,6 +222,53 @@ pub fn push_shown(line: &mut Vec<u8>, shown: &Shown, blocks: &[Block]) -> Result
             blocks,
         ),
     }
+}
+
+/// Adds by how many samples the latencies along a cycle of blocks gain, and the blocks.
+fn push_latency(
+    line: &mut Vec<u8>,
+    numbers: &[u32],
+    total: i64,
+    blocks: &[Block],
+) -> Result<(), OutOfMemory>
+    ensures { OnOk result (line.new.items ≡ line.old.items
+        ++ shown_text (map (λ block. block.path) blocks.now) (Latency numbers.now total)) }
+{
+    push_pieces(
+        line,
+        &[
+            Piece::Bytes(b": total "),
+            Piece::Signed(total),
+            Piece::Bytes(b" cycle"),
+            Piece::Cycle(numbers),
+        ],
+        blocks,
+    )
+}
+
+/// Adds the slots that the operations of a period need, and those that they have.
+fn push_budget(
+    line: &mut Vec<u8>,
+    period: u32,
+    need: u64,
+    have: u64,
+    blocks: &[Block],
+) -> Result<(), OutOfMemory>
+    ensures { OnOk result (line.new.items ≡ line.old.items
+        ++ shown_text (map (λ block. block.path) blocks.now) (Budget period need have)) }
+{
+    push_pieces(
+        line,
+        &[
+            Piece::Bytes(b": period "),
+            Piece::Number(u64::from(period)),
+            Piece::Bytes(b" need "),
+            Piece::Number(need),
+            Piece::Bytes(b" have "),
+            Piece::Number(have),
+        ],
+        blocks,
+    )
 }
 
 /// A piece of a line.
