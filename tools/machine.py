@@ -1,6 +1,9 @@
-"""What of the machine is free."""
+"""What of the machine is free, and what a check takes of it."""
 
 import re
+
+# Bytes: more than one process of a check of any crate takes.
+MOST_TAKEN = 3 * 10**9
 
 
 def number_in(path, pattern):
