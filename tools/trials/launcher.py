@@ -52,6 +52,7 @@ echo "logic=proved functions=1$(cat "$PRETENDED/word") statements=trusted"
 LINK = """#!/bin/sh
 while [ "$1" != -o ]; do shift; done
 [ -f "$3" ] || exit 1
+echo linked
 printf '#!/bin/sh\\necho "$@"\\n' >"$2"
 chmod +x "$2"
 """
