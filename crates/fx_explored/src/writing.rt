@@ -5,26 +5,17 @@ ghost use Rattle.fx_explored.specs.FindingsText.{finding_line, findings_text as 
 use dg_model::Block;
 use fx_io::{OutOfMemory, Text};
 use fx_model::push_shown;
+use fx_text::{push, push_number};
 use hw_explore::{Finding, Findings, Judged};
-use itoa::Buffer;
 use std::alloc::Global;
-
-/// Adds bytes.
-fn push(text: &mut Vec<u8>, bytes: &[u8]) -> Result<(), OutOfMemory>
-    ensures { OnOk result (text.new.items ≡ text.old.items ++ bytes.now) }
-{
-    text.extend_from_slice(bytes)?;
-    Ok(())
-}
 
 /// Adds a number in decimal behind its word.
 #[tactic(auto, unfolding(crate::specs::FindingsText::named))]
 fn push_named(text: &mut Vec<u8>, word: &[u8], number: u64) -> Result<(), OutOfMemory>
     ensures { OnOk result (text.new.items ≡ text.old.items ++ named word.now number) }
 {
-    let mut digits = Buffer::new();
     push(text, word)?;
-    push(text, digits.format(number).as_bytes())
+    push_number(text, number)
 }
 
 /// Adds a plan's clocks and multipliers.

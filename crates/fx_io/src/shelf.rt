@@ -22,9 +22,9 @@ pub enum FetchFault {
 
 impl From<OutOfMemory> for FetchFault {
     ghost use Rattle.std.specs.Prelude.{◌≡◌};
-    ghost use Rattle.fx_io.specs.declared.shelf.FetchFault.TheVariants.{OutOfMemory as WithoutMemory};
+    ghost use Rattle.fx_io.specs.declared.shelf.FetchFault.TheVariants.{OutOfMemory};
 
-    ghost from_gives = { λ _ fault. fault ≡ WithoutMemory };
+    ghost from_gives = { λ _ fault. fault ≡ OutOfMemory };
 
     fn from(_refused: OutOfMemory) -> FetchFault {
         FetchFault::OutOfMemory

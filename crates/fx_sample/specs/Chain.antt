@@ -12,18 +12,20 @@ chosen_kind choice =
 abbrev pub kind_of : ℕ → ℕ → ChainKind
 kind_of place number = if place % 4 == 0 then Delay else chosen_kind (number / 2 ^ 33 % 4)
 
--- its BlockType
-abbrev pub word_of : ChainKind → List ℕ
-word_of Delay = codes "UnitDelay"
-word_of Sum = codes "Sum"
-word_of Gain = codes "Gain"
-word_of Product = codes "Product"
-word_of Switch = codes "Switch"
+-- its BlockType, and how many inputs it has: the first is the block before, and each other the input of the model
+pub record ChainRow : Type 0 where
+  pub word : List ℕ
+  pub inputs : ℕ
 
--- how many inputs it has: the first is the block before, and each other the input of the model
+abbrev pub chain_row : ChainKind → ChainRow
+chain_row Delay = record { word = codes "UnitDelay"; inputs = 1 }
+chain_row Sum = record { word = codes "Sum"; inputs = 2 }
+chain_row Gain = record { word = codes "Gain"; inputs = 1 }
+chain_row Product = record { word = codes "Product"; inputs = 2 }
+chain_row Switch = record { word = codes "Switch"; inputs = 3 }
+
+abbrev pub word_of : ChainKind → List ℕ
+word_of kind = (chain_row kind).word
+
 abbrev pub inputs_of : ChainKind → ℕ
-inputs_of Delay = 1
-inputs_of Sum = 2
-inputs_of Gain = 1
-inputs_of Product = 2
-inputs_of Switch = 3
+inputs_of kind = (chain_row kind).inputs

@@ -27,29 +27,31 @@ impl ChainKind {
         }
     }
 
+    /// Its BlockType, and how many inputs it has.
+    fn row(self) -> (&'static [u8], u64)
+        ensures word { result.0.now ≡ word_of self }
+        ensures inputs { result.1 ≡ inputs_of self }
+    {
+        match self {
+            ChainKind::Delay => (b"UnitDelay", 1),
+            ChainKind::Sum => (b"Sum", 2),
+            ChainKind::Gain => (b"Gain", 1),
+            ChainKind::Product => (b"Product", 2),
+            ChainKind::Switch => (b"Switch", 3),
+        }
+    }
+
     /// Its BlockType.
     pub fn word(self) -> &'static [u8]
         ensures { result.now ≡ word_of self }
     {
-        match self {
-            ChainKind::Delay => b"UnitDelay",
-            ChainKind::Sum => b"Sum",
-            ChainKind::Gain => b"Gain",
-            ChainKind::Product => b"Product",
-            ChainKind::Switch => b"Switch",
-        }
+        self.row().0
     }
 
     /// How many inputs it has.
     pub fn inputs(self) -> u64
         ensures { result ≡ inputs_of self }
     {
-        match self {
-            ChainKind::Delay => 1,
-            ChainKind::Sum => 2,
-            ChainKind::Gain => 1,
-            ChainKind::Product => 2,
-            ChainKind::Switch => 3,
-        }
+        self.row().1
     }
 }

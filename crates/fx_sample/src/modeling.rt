@@ -5,8 +5,9 @@ ghost use Rattle.fx_sample.specs.inner.Parts.{part_at, part_text};
 
 use crate::chain::ChainKind;
 use crate::numbers::number_after;
-use crate::pushing::{push, push_end, push_head, push_line, push_parameter};
+use crate::pushing::{push_end, push_head, push_line, push_parameter};
 use fx_io::{OutOfMemory, Text};
+use fx_text::push;
 use itoa::Buffer;
 use std::alloc::Global;
 
@@ -51,18 +52,20 @@ fn push_parameters(text: &mut Vec<u8>, kind: ChainKind) -> Result<(), OutOfMemor
     }
 }
 
-/// Puts the block of a kind at a place of the chain.
-fn push_block(
-    alloc: Global,
-    text: &mut Vec<u8>,
+/// A block of the chain: its place, from 1, and its kind.
+#[derive(Clone, Copy)]
+struct Link {
     place: u32,
     kind: ChainKind,
-) -> Result<(), OutOfMemory>
-    ensures { OnOk result (text.new.items ≡ text.old.items ++ chain_text place kind) }
+}
+
+/// Puts the block of the chain.
+fn push_block(alloc: Global, text: &mut Vec<u8>, link: Link) -> Result<(), OutOfMemory>
+    ensures { OnOk result (text.new.items ≡ text.old.items ++ chain_text link.place link.kind) }
 {
-    let name = chain_name(alloc, place)?;
-    push_head(text, kind.word(), name.bytes())?;
-    push_parameters(text, kind)?;
+    let name = chain_name(alloc, link.place)?;
+    push_head(text, link.kind.word(), name.bytes())?;
+    push_parameters(text, link.kind)?;
     push_end(text)
 }
 
@@ -78,20 +81,15 @@ fn push_more(text: &mut Vec<u8>, name: &[u8], more: u64) -> Result<(), OutOfMemo
     Ok(())
 }
 
-/// Puts the lines into the block of a kind at a place of the chain.
-fn push_lines_into(
-    alloc: Global,
-    text: &mut Vec<u8>,
-    place: u32,
-    kind: ChainKind,
-) -> Result<(), OutOfMemory>
-    requires { 0 < place }
-    ensures { OnOk result (text.new.items ≡ text.old.items ++ chain_lines place kind) }
+/// Puts the lines into the block of the chain.
+fn push_lines_into(alloc: Global, text: &mut Vec<u8>, link: Link) -> Result<(), OutOfMemory>
+    requires { 0 < link.place }
+    ensures { OnOk result (text.new.items ≡ text.old.items ++ chain_lines link.place link.kind) }
 {
-    let source = chain_name(alloc, place - 1)?;
-    let name = chain_name(alloc, place)?;
+    let source = chain_name(alloc, link.place - 1)?;
+    let name = chain_name(alloc, link.place)?;
     push_line(text, source.bytes(), name.bytes(), 1)?;
-    push_more(text, name.bytes(), kind.inputs() - 1)
+    push_more(text, name.bytes(), link.kind.inputs() - 1)
 }
 
 /// What is put of each block of the chain: itself, or the lines into it.
@@ -101,20 +99,14 @@ enum Part {
     Lines,
 }
 
-/// Puts a part of the block of a kind at a place of the chain.
-fn push_part(
-    alloc: Global,
-    text: &mut Vec<u8>,
-    part: Part,
-    place: u32,
-    kind: ChainKind,
-) -> Result<(), OutOfMemory>
-    requires { 0 < place }
-    ensures { OnOk result (text.new.items ≡ text.old.items ++ part_text part place kind) }
+/// Puts a part of the block of the chain.
+fn push_part(alloc: Global, text: &mut Vec<u8>, part: Part, link: Link) -> Result<(), OutOfMemory>
+    requires { 0 < link.place }
+    ensures { OnOk result (text.new.items ≡ text.old.items ++ part_text part link.place link.kind) }
 {
     match part {
-        Part::Block => push_block(alloc, text, place, kind),
-        Part::Lines => push_lines_into(alloc, text, place, kind),
+        Part::Block => push_block(alloc, text, link),
+        Part::Lines => push_lines_into(alloc, text, link),
     }
 }
 
@@ -127,8 +119,9 @@ fn push_chain(alloc: Global, text: &mut Vec<u8>, part: Part, count: u32) -> Resu
     let mut number = u64::from(count);
     for before in 0..count {
         number = number_after(number);
-        let kind = ChainKind::of(before + 1, number);
-        push_part(alloc, text, part, before + 1, kind)?;
+        let place = before + 1;
+        let kind = ChainKind::of(place, number);
+        push_part(alloc, text, part, Link { place, kind })?;
     }
     Ok(())
 }

@@ -1,26 +1,10 @@
 // Parts of texts, each put at the end.
-ghost use Rattle.std.specs.Prelude.{◌≡◌, ◌++◌, OnOk, decimal};
+ghost use Rattle.std.specs.Prelude.{◌≡◌, ◌++◌, OnOk};
 ghost use Rattle.fx_sample.specs.ModelText.{parameter_text, block_head, section_end, source_text, target_text, line_text};
 ghost use Rattle.fx_sample.specs.Summary.{number_line};
 
 use fx_io::OutOfMemory;
-use itoa::Buffer;
-
-/// Puts bytes.
-pub fn push(text: &mut Vec<u8>, bytes: &[u8]) -> Result<(), OutOfMemory>
-    ensures { OnOk result (text.new.items ≡ text.old.items ++ bytes.now) }
-{
-    text.extend_from_slice(bytes)?;
-    Ok(())
-}
-
-/// Puts a number in base ten.
-pub fn push_number(text: &mut Vec<u8>, number: u64) -> Result<(), OutOfMemory>
-    ensures { OnOk result (text.new.items ≡ text.old.items ++ decimal number) }
-{
-    let mut digits = Buffer::new();
-    push(text, digits.format(number).as_bytes())
-}
+use fx_text::{push, push_number};
 
 /// Puts a line with a number behind its word.
 #[tactic(auto, unfolding(crate::specs::Summary::number_line))]

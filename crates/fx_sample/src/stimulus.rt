@@ -3,8 +3,8 @@ ghost use Rattle.fx_sample.specs.Numbers.{sample_number};
 ghost use Rattle.fx_sample.specs.Stimulus.{sample_plan, sample_stimulus, stimulus_line, stimulus_of as stimulus_of_number};
 
 use crate::numbers::number_after;
-use crate::pushing::push;
 use fx_io::{OutOfMemory, Text};
+use fx_text::push;
 use itoa::Buffer;
 use std::alloc::Global;
 

@@ -1,8 +1,9 @@
 ghost use Rattle.std.specs.Prelude.{◌≡◌, ◌≤◌, ◌++◌, IfOk, OnOk};
 ghost use Rattle.fx_sample.specs.Summary.{equal_line, made_lines, summary_text as summary_text_of};
 
-use crate::pushing::{push, push_number, push_number_line};
+use crate::pushing::push_number_line;
 use fx_io::{OutOfMemory, Text};
+use fx_text::{push, push_number};
 use std::alloc::Global;
 
 /// What a sample's module says of itself.

@@ -21,13 +21,15 @@ pub record AddsOutput (diagram : Diagram) (plan : Resolved) (timing : Timing) (n
   pub text_is : later ≡ earlier ++ output_line diagram plan timing output
 
 -- it is put
-pub record PutsOutput (diagram : Diagram) (plan : Resolved) (timing : Timing) (name : List ℕ) (block : ℕ) {K : Type 0} (taken : K → Option (List ℕ)) (faults : K → ℕ) (old : K) (waited : Pending) (new : K) (waits : Pending) : Type 0 where
+pub record PutsOutput (diagram : Diagram) (plan : Resolved) (timing : Timing) (name : List ℕ) (block : ℕ) {K : Type 0} (taken : K → Option (List ℕ))
+    (faults : K → ℕ) (old : K) (waited : Pending) (new : K) (waits : Pending) : Type 0 where
   pub bytes : List ℕ
   pub line : (earlier : List ℕ) → AddsOutput diagram plan timing name block earlier (earlier ++ bytes)
   pub puts : Adds taken faults old waited new waits bytes
 
 -- those of the first so many are
-pub record PutsOutputs (diagram : Diagram) (plan : Resolved) (timing : Timing) (names : List (List ℕ)) (blocks : List ℕ) (count : ℕ) {K : Type 0} (taken : K → Option (List ℕ)) (faults : K → ℕ) (old : K) (waited : Pending) (new : K) (waits : Pending) : Type 0 where
+pub record PutsOutputs (diagram : Diagram) (plan : Resolved) (timing : Timing) (names : List (List ℕ)) (blocks : List ℕ) (count : ℕ) {K : Type 0}
+    (taken : K → Option (List ℕ)) (faults : K → ℕ) (old : K) (waited : Pending) (new : K) (waits : Pending) : Type 0 where
   pub bytes : List ℕ
   pub lines : (earlier : List ℕ) → AddsOutputs diagram plan timing names blocks count earlier (earlier ++ bytes)
   pub puts : Adds taken faults old waited new waits bytes

@@ -26,4 +26,5 @@ pub record IsWay (arcs : List Arc) (lat : List ℕ) (count : ℕ) (rank : ℕ �
 -- the way back from a block, by the rank that the tight edges of its latencies have
 abbrev pub Follows : Diagram → Resolved → Latencies → ℕ → ℕ → List ℕ → Type 0
 Follows diagram plan latencies end block path =
-    (tight : AreTight (latency_arcs diagram plan latencies.fed) latencies.lat latencies.tight) → IsWay (latency_arcs diagram plan latencies.fed) latencies.lat (length diagram.blocks) tight.rank block end path
+    (tight : AreTight (latency_arcs diagram plan latencies.fed) latencies.lat latencies.tight)
+    → IsWay (latency_arcs diagram plan latencies.fed) latencies.lat (length diagram.blocks) tight.rank block end path
