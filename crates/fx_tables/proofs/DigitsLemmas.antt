@@ -22,45 +22,38 @@ digit_is c is = search (rules, nat_tests)
 abbrev pub with_digit : ℕ → Bool → ℕ → ℕ
 with_digit value is_there digit = if is_there then value * 10 + (digit - 48) else value
 
+-- a run of one to three digits
+few_digits : (text tail : List ℕ) (count value : ℕ) → 0 < count → count ≤ 3 → 4 ≤ length text → list_all is_ascii_digit (take count text) ≡ true → value ≡ digits_value 10 (take count text) → value < 1000
+    → is_blank (get_or text count 0) ≡ true → fields_of tail ≡ fields_of (drop count text) → IsRunOfDigits text value tail
+few_digits text tail count value some most long digits number small blank rest_is = record {
+  count = count;
+  some = some;
+  few = omega (arith, most);
+  within = omega (arith, most, long);
+  digits = digits;
+  number = number;
+  small = omega (arith, small);
+  ends = λ inside. blank;
+  rest = rest_is;
+}
+
 -- one to three digits, of which it is known which are there
 pub run_of_few : (text tail : List ℕ) (second third : Bool) → 4 ≤ length text → is_ascii_digit (get_or text 0 0) ≡ true → (second ≡ true → is_ascii_digit (get_or text 1 0) ≡ true) → (third ≡ true → is_ascii_digit (get_or text 2 0) ≡ true) → is_blank (get_or text (1 + from_bool second + from_bool (second && third)) 0) ≡ true → fields_of tail ≡ fields_of (drop (1 + from_bool second + from_bool (second && third)) text) → IsRunOfDigits text (with_digit (with_digit (get_or text 0 0 - 48) second (get_or text 1 0)) (second && third) (get_or text 2 0)) tail
 run_of_few [] tail second third long first next last blank rest_is = absurd (omega arith)
 run_of_few (a ∷ []) tail second third long first next last blank rest_is = absurd (omega arith)
 run_of_few (a ∷ b ∷ []) tail second third long first next last blank rest_is = absurd (omega arith)
 run_of_few (a ∷ b ∷ c ∷ []) tail second third long first next last blank rest_is = absurd (omega arith)
-run_of_few (a ∷ b ∷ c ∷ d ∷ text) tail false third long first next last blank rest_is = record {
-  count = 1;
-  some = omega arith;
-  few = omega arith;
-  within = omega arith;
-  digits = rw first;
-  number = omega (arith, digit_value_digit a (digit_is a first));
-  small = omega (arith, digit_is a first);
-  ends = λ inside. blank;
-  rest = rest_is;
-}
-run_of_few (a ∷ b ∷ c ∷ d ∷ text) tail true false long first next last blank rest_is = record {
-  count = 2;
-  some = omega arith;
-  few = omega arith;
-  within = omega arith;
-  digits = rw (first, next refl);
-  number = omega (arith, digit_value_digit a (digit_is a first), digit_value_digit b (digit_is b (next refl)));
-  small = omega (arith, digit_is a first, digit_is b (next refl));
-  ends = λ inside. blank;
-  rest = rest_is;
-}
-run_of_few (a ∷ b ∷ c ∷ d ∷ text) tail true true long first next last blank rest_is = record {
-  count = 3;
-  some = omega arith;
-  few = omega arith;
-  within = omega arith;
-  digits = rw (first, next refl, last refl);
-  number = omega (arith, digit_value_digit a (digit_is a first), digit_value_digit b (digit_is b (next refl)), digit_value_digit c (digit_is c (last refl)));
-  small = omega (arith, digit_is a first, digit_is b (next refl), digit_is c (last refl));
-  ends = λ inside. blank;
-  rest = rest_is;
-}
+run_of_few (a ∷ b ∷ c ∷ d ∷ text) tail false third long first next last blank rest_is =
+    few_digits (a ∷ b ∷ c ∷ d ∷ text) tail 1 (a - 48) (omega arith) (omega arith) (omega arith) (rw first)
+    (omega (arith, digit_value_digit a (digit_is a first))) (omega (arith, digit_is a first)) blank rest_is
+run_of_few (a ∷ b ∷ c ∷ d ∷ text) tail true false long first next last blank rest_is =
+    few_digits (a ∷ b ∷ c ∷ d ∷ text) tail 2 ((a - 48) * 10 + (b - 48)) (omega arith) (omega arith) (omega arith) (rw (first, next refl))
+    (omega (arith, digit_value_digit a (digit_is a first), digit_value_digit b (digit_is b (next refl))))
+    (omega (arith, digit_is a first, digit_is b (next refl))) blank rest_is
+run_of_few (a ∷ b ∷ c ∷ d ∷ text) tail true true long first next last blank rest_is =
+    few_digits (a ∷ b ∷ c ∷ d ∷ text) tail 3 (((a - 48) * 10 + (b - 48)) * 10 + (c - 48)) (omega arith) (omega arith) (omega arith) (rw (first, next refl, last refl))
+    (omega (arith, digit_value_digit a (digit_is a first), digit_value_digit b (digit_is b (next refl)), digit_value_digit c (digit_is c (last refl))))
+    (omega (arith, digit_is a first, digit_is b (next refl), digit_is c (last refl))) blank rest_is
 
 -- the number with its sign
 abbrev pub signed : Bool → ℕ → ℤ

@@ -11,3 +11,4 @@ pub mod PlanLemmas
 pub mod StimulusLemmas
 pub mod CellsLemmas
 pub mod ResponseLemmas
+pub mod ResponseLines

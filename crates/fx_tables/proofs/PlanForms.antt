@@ -129,30 +129,24 @@ record Counted (text : List ℕ) (entry : PlanEntry) : Type 0 where
   pub path : List ℕ
   pub next : ℕ
   pub rest : List ℕ
-  pub digits : List ℕ
   pub count : ℕ
   pub read : string_behind text ≡ Some (path, next ∷ rest)
   pub blank_behind : is_blank next ≡ true
-  pub one_field : fields_of (next ∷ rest) ≡ digits ∷ []
-  pub is_count : IsCount 1 64 digits count
+  pub sole : Sole 1 64 (fields_of (next ∷ rest)) count
   pub is : entry ≡ Pipelined (record { path = path; count = count })
 
 pipelined_form : (text path rest : List ℕ) (next : ℕ) (entry : PlanEntry) (sole : Option ℕ) → string_behind text ≡ Some (path, next ∷ rest) → is_blank next ≡ true → sole_number 1 64 (fields_of (next ∷ rest)) ≡ sole → pipelined_entry path sole ≡ Some entry → Counted text entry
 pipelined_form text path rest next entry None read blank number h = cc
-pipelined_form text path rest next entry (Some count) read blank number h =
-    let sole = sole_form 1 64 (fields_of (next ∷ rest)) count number in
-    record {
-      path = path;
-      next = next;
-      rest = rest;
-      digits = sole.digits;
-      count = count;
-      read = read;
-      blank_behind = blank;
-      one_field = sole.is;
-      is_count = sole.is_count;
-      is = cc;
-    }
+pipelined_form text path rest next entry (Some count) read blank number h = record {
+  path = path;
+  next = next;
+  rest = rest;
+  count = count;
+  read = read;
+  blank_behind = blank;
+  sole = sole_form 1 64 (fields_of (next ∷ rest)) count number;
+  is = cc;
+}
 
 counted_form : (text : List ℕ) (entry : PlanEntry) (string : Option (List ℕ × List ℕ)) → string_behind text ≡ string → counted_entry string ≡ Some entry → Counted text entry
 counted_form text entry None read h = cc
@@ -183,15 +177,15 @@ pipeline_form line words entry fields h =
       text = drop 1 quote;
       next = counted.next;
       rest = counted.rest;
-      digits = counted.digits;
+      digits = counted.sole.digits;
       blanks = front.blanks;
       blanks_between = gap.blanks;
       some_between = λ none. quote_behind rest (drop 1 quote) (first.form ∙ ap (λ l. codes "pipeline" ++ l) (behind ∙ ap (λ l. l ++ 34 ∷ drop 1 quote) none)) first.ends;
       form = front.form ∙ ap (λ l. front.before ++ l) (first.form ∙ ap (λ l. codes "pipeline" ++ l) behind);
       is_path = read_form (drop 1 quote) counted.path (counted.next ∷ counted.rest) counted.read;
       blank_behind = counted.blank_behind;
-      one_field = counted.one_field;
-      is_count = counted.is_count;
+      one_field = counted.sole.is;
+      is_count = counted.sole.is_count;
     })
 
 -- a word and a count

@@ -86,14 +86,4 @@ broken earlier number (line ∷ later) fault h = ⊎_elim
 pub fault_said : (text : List ℕ) (fault : TableFault) → plan_fault text ≡ Some fault → IsPlanFault text fault
 fault_said text fault h =
     let first = broken [] 1 (lines text) fault h in
-    record {
-      before = first.before;
-      bad = first.bad;
-      after = first.after;
-      entries = first.entries;
-      whole = first.whole;
-      say = first.say;
-      once = first.once;
-      is_bad = first.is_bad;
-      is = first.is ∙ ap (λ n. Bad n PlanLine) (omega arith);
-    }
+    record { before = first.before; bad = first.bad; after = first.after; entries = first.entries; whole = first.whole; say = first.say; once = first.once; is_bad = first.is_bad; is = first.is ∙ ap (λ n. Bad n PlanLine) (omega arith) }
