@@ -1,14 +1,36 @@
 -- Each mode is the whole number below, with a bias added before. Crates above may cite this file.
-use Rattle.std.proofs.Common.{◌≡◌, ℕ, suc, ◌+◌, ◌-◌, ◌*◌, ◌/◌, ◌%◌, ◌^◌, ◌<◌, ◌≤◌, Bool, true, false, ℤ, pos, negsuc, neg_ℤ, ◌+ℤ◌, ◌-ℤ◌, ◌*ℤ◌, ◌≤ℤ◌, bit_and, to_z, of_z, FitsSigned, cond, int_lt, ap, sym, ◌∙◌, refl, subst, mod-lt, arith, pow_mono, pow_pos}
-use Rattle.std.specs.Int.{w64}
+use Rattle.std.proofs.Common.{◌≡◌, ℕ, suc, ◌+◌, ◌-◌, ◌*◌, ◌/◌, ◌%◌, ◌^◌, ◌<◌, ◌≤◌, Bool, true, false, ℤ, pos, negsuc, neg_ℤ, ◌+ℤ◌, ◌-ℤ◌, ◌*ℤ◌, ◌≤ℤ◌, ◌<ℤ◌, bit_and, to_z, of_z, FitsSigned, cond, int_lt, ap, sym, ◌∙◌, refl, subst, mod-lt, arith, pow_mono, pow_pos}
+use Rattle.std.specs.Int.{w64, int_max, int_min}
 use Rattle.std.specs.Int.Signed.{shr_z}
-use Rattle.std.proofs.lemmas.Int.{ints, by_lt_z}
+use Rattle.std.proofs.lemmas.Int.{ints, clamps, by_lt_z}
 use Rattle.std.proofs.lemmas.Nat.{and_mask, pow-add}
-use Rattle.fx_num.specs.Word.{InWord, IsCongruent, IsWrapped}
+use Rattle.fx_num.specs.Word.{IsWord, InWord, IsCongruent, IsWrapped, word_lowest, word_highest}
 use Rattle.fx_num.proofs.Arithmetic.{next-scaled, mul-scaled, scaled-mono, scaled-neg, unit_apart, IsCongruent-trans, IsCongruent-part}
 use Rattle.fx_num.proofs.Shifted.{shr-divided, shl_exact, bits_congruent, remainder_congruent}
-use Rattle.fx_type.specs.Conversion.{twice, IsEven, BySign, RoundsDown, RoundsUp, RoundsTiesUp, RoundsTiesDown, RoundsTiesEven}
-use Rattle.fx_round.specs.inner.Narrow.{IsTie}
+use Rattle.fx_type.specs.declared.kind.FxType.TheVariants.{Num}
+use Rattle.fx_type.specs.Conversion.{Saturates, twice, IsEven, BySign, RoundsDown, RoundsUp, RoundsTiesUp, RoundsTiesDown, RoundsTiesEven}
+use Rattle.fx_type.proofs.Ranges.{lowest_sign, highest_sign}
+use Rattle.fx_round.specs.inner.Narrow.{IsTie, least_beside}
+
+-- the least number of a word, by the greatest
+pub least_is : (width : ℕ) (signed : Bool) → IsWord width signed → least_beside signed (word_highest width signed) ≡ word_lowest width signed
+least_is width true word = omega (arith, ints, pow_pos (width - 1))
+least_is width false word = refl
+
+-- between the ends of its word a number is what the type stores
+pub clamped : (width : ℕ) (signed : Bool) (frac r low high result : ℤ) → IsWord width signed → high ≡ word_highest width signed → low ≡ least_beside signed high → result ≡ int_max low (int_min r high) → Saturates (Num signed width frac) r result
+clamped width signed frac r low high result word at_high at_low is =
+    let least : low ≡ word_lowest width signed = at_low ∙ ap (least_beside signed) at_high ∙ least_is width signed word in
+    let under : word_lowest width signed ≤ℤ pos 0 = lowest_sign (Num signed width frac) in
+    let over : pos 0 ≤ℤ word_highest width signed = highest_sign (Num signed width frac) in
+    record {
+      inside = λ range.
+          let from : word_lowest width signed ≤ℤ r = range.low in
+          let to : r ≤ℤ word_highest width signed = range.high in
+          omega (arith, ints, clamps, is, least, at_high, from, to);
+      below = λ low. let less : r <ℤ word_lowest width signed = low in omega (arith, ints, clamps, is, least, at_high, under, over, less);
+      above = λ high. let more : word_highest width signed <ℤ r = high in omega (arith, ints, clamps, is, least, at_high, under, over, more);
+    }
 
 -- the last bit
 pub odd_bit-is : (v : ℤ) → FitsSigned w64 v → IsTie v (to_z w64 (bit_and (of_z w64 v) 1))

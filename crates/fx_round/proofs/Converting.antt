@@ -3,9 +3,9 @@ use Rattle.std.proofs.Common.{◌≡◌, ℕ, ◌^◌, ◌<◌, Bool, ℤ, pos, 
 use Rattle.std.specs.Int.{int_gap}
 use Rattle.std.proofs.lemmas.Int.{ints}
 use Rattle.fx_type.specs.declared.kind.FxType.{FxType}
-use Rattle.fx_type.specs.declared.kind.FxType.TheVariants.{Num, Logical}
+use Rattle.fx_type.specs.declared.kind.FxType.TheVariants.{Num}
 use Rattle.fx_type.specs.declared.rounding.Rounding.{Rounding}
-use Rattle.fx_type.specs.FxType.{IsNumber, is_signed, width_of, frac_of}
+use Rattle.fx_type.specs.FxType.{frac_of}
 use Rattle.fx_type.specs.Conversion.{Rounds, Settles, StoresQuotient, Converts}
 use Rattle.fx_round.proofs.Rounding.{whole_rounds}
 
@@ -30,8 +30,3 @@ module _ (v : ℤ) (from : FxType) (s : Bool) (w : ℕ) (f : ℤ) (mode : Roundi
   converts_down down none stores =
       subst₂ (λ (a b : ℕ). StoresQuotient (v *ℤ pos (2 ^ a)) (2 ^ b) (Num s w f) mode saturate r) (sym none) down
       (subst (λ (z : ℤ). StoresQuotient z (2 ^ by) (Num s w f) mode saturate r) (sym (times_one v)) stores)
-
--- a number's type is told by its parts
-pub as_number : (to : FxType) → IsNumber to → (f : ℤ) × (to ≡ Num (is_signed to) (width_of to) f)
-as_number (Num s w f) n = (f, refl)
-as_number Logical n = absurd n

@@ -67,12 +67,6 @@ module _ (w r u by : ℕ) (part : Part) (floor : ℤ) (unit : r < u) (at : floor
   halved_past p = magnitude_is (w * u + r) (w / 2 ^ by) (w % 2 ^ by * u + r) (u * 2 ^ by) part floor (halved_count w r u by) at
       (halved_below (w % 2 ^ by) r u (2 ^ by) (mod-lt w (pow_pos by)) unit) p
 
-pub past_whole : (half low unit rest : ℕ) → 0 < half → 0 < rest → rest < unit → low ≡ 0 → IsPart (unit * (2 * half)) (low * unit + rest) BelowHalf
-past_whole half low unit rest h p q e =
-    let a : unit * 1 ≤ unit * half = mul-le-mul_left unit h in
-    let z : low * unit ≡ 0 * unit = ap (λ (x : ℕ). x * unit) e in
-    (omega arith, omega arith)
-
 -- ---- scales
 pub up_gap : (e : ℤ) (n : ℕ) → pos 0 ≤ℤ e → pos n ≡ e → n ≡ int_gap (pos 0) e
 up_gap (pos b) n h is = omega (arith, ints, is)

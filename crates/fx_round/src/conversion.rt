@@ -4,6 +4,7 @@ ghost use Rattle.fx_num.specs.Word.{IsWord, InWord};
 ghost use Rattle.fx_type.specs.declared.kind.FxType.TheVariants.{Num};
 ghost use Rattle.fx_type.specs.FxType.{IsType, InRange};
 ghost use Rattle.fx_type.specs.Conversion.{Settles, StoresQuotient, Converts};
+ghost use Rattle.fx_round.specs.inner.Narrow.{IsLowering};
 
 use crate::settle::settled_up;
 use crate::{narrow, settle, split};
@@ -87,8 +88,7 @@ fn lowered(
     saturate: bool,
 ) -> i128
     requires number { (from_signed : Bool) × InWord bits from_signed v }
-    requires some { 1 ≤ by }
-    requires word { IsWord width signed }
+    requires lowering { IsLowering by width signed }
     ensures { (frac : ℤ) → StoresQuotient v (2 ^ by) (Num signed width frac) mode saturate result }
 {
     if u16::from(width | bits) | by <= 63 {
@@ -101,8 +101,7 @@ fn lowered(
 
 /// The same in 128 bits.
 fn lowered_far(v: i128, by: u16, width: u8, signed: bool, mode: Rounding, saturate: bool) -> i128
-    requires some { 1 ≤ by }
-    requires word { IsWord width signed }
+    requires { IsLowering by width signed }
     ensures { (frac : ℤ) → StoresQuotient v (2 ^ by) (Num signed width frac) mode saturate result }
 {
     if saturate {
@@ -116,8 +115,7 @@ fn lowered_far(v: i128, by: u16, width: u8, signed: bool, mode: Rounding, satura
 /// way needs few; so does the next.
 #[inline(never)]
 fn saturated_far(v: i128, by: u16, width: u8, signed: bool, mode: Rounding) -> i128
-    requires some { 1 ≤ by }
-    requires word { IsWord width signed }
+    requires { IsLowering by width signed }
     ensures { (frac : ℤ) → StoresQuotient v (2 ^ by) (Num signed width frac) mode true result }
 {
     settle::nearest(split::rounded_down(v, u32::from(by), mode), width, signed)
@@ -126,8 +124,7 @@ fn saturated_far(v: i128, by: u16, width: u8, signed: bool, mode: Rounding) -> i
 /// The same, wrapped.
 #[inline(never)]
 fn wrapped_far(v: i128, by: u16, width: u8, signed: bool, mode: Rounding) -> i128
-    requires some { 1 ≤ by }
-    requires word { IsWord width signed }
+    requires { IsLowering by width signed }
     ensures { (frac : ℤ) → StoresQuotient v (2 ^ by) (Num signed width frac) mode false result }
 {
     settle::wrapped(split::rounded_down(v, u32::from(by), mode), width, signed)

@@ -1,9 +1,9 @@
 //! Rounding and settling in 64 bits, for numbers and types of at most 63 bits.
 ghost use Rattle.std.specs.Prelude.{true, ◌≡◌, ℤ, pos, neg_ℤ, ◌+ℤ◌, ◌*ℤ◌, ◌≤ℤ◌, ◌-◌, ◌^◌, ◌≤◌, cond, int_lt};
-ghost use Rattle.fx_num.specs.Word.{IsWord, InWord, IsWrapped, word_lowest, word_highest};
+ghost use Rattle.fx_num.specs.Word.{IsWord, InWord, IsWrapped, word_highest};
 ghost use Rattle.fx_type.specs.declared.kind.FxType.TheVariants.{Num};
 ghost use Rattle.fx_type.specs.Conversion.{twice, RoundsDown, RoundsUp, Rounds, Settles};
-ghost use Rattle.fx_round.specs.inner.Narrow.{IsTie};
+ghost use Rattle.fx_round.specs.inner.Narrow.{IsTie, least_beside};
 
 use fx_type::Rounding;
 
@@ -94,12 +94,9 @@ fn highest(width: u8, signed: bool) -> i64
 }
 
 /// The least number of the word whose greatest one this is.
-fn lowest(highest: i64, width: u8, signed: bool) -> i64
-    requires word { IsWord width signed }
-    requires highest { highest ≡ word_highest width signed }
-    ensures { result ≡ word_lowest width signed }
+fn lowest(highest: i64, signed: bool) -> i64
+    ensures { result ≡ least_beside signed highest }
 {
-    let _ = width;
     if signed { -1 - highest } else { 0 }
 }
 
@@ -125,7 +122,7 @@ pub fn settled(r: i64, width: u8, signed: bool, saturate: bool) -> i64
 {
     if saturate {
         let highest = highest(width, signed);
-        r.clamp(lowest(highest, width, signed), highest)
+        r.clamp(lowest(highest, signed), highest)
     } else {
         wrapped(r, width, signed)
     }

@@ -1,20 +1,18 @@
 //! Whole numbers put into a type.
 ghost use Rattle.std.specs.Prelude.{◌≡◌, ◌^◌, ◌≤◌, true, ℤ, pos, ◌+ℤ◌, ◌*ℤ◌};
 ghost use Rattle.std.specs.Int.Signed.{shr_z};
-ghost use Rattle.fx_num.specs.Word.{IsWord, IsWrapped, word_lowest, word_highest};
+ghost use Rattle.fx_num.specs.Word.{IsWord, IsWrapped};
 ghost use Rattle.fx_type.specs.declared.kind.FxType.TheVariants.{Num};
 ghost use Rattle.fx_type.specs.FxType.{IsType};
 ghost use Rattle.fx_type.specs.Conversion.{Settles};
+ghost use Rattle.fx_round.specs.inner.Narrow.{least_beside};
 
 use fx_type::FxType;
 
 /// The least number of the word whose greatest one this is.
-fn lowest(highest: i128, width: u8, signed: bool) -> i128
-    requires word { IsWord width signed }
-    requires highest { highest ≡ word_highest width signed }
-    ensures { result ≡ word_lowest width signed }
+fn lowest(highest: i128, signed: bool) -> i128
+    ensures { result ≡ least_beside signed highest }
 {
-    let _ = width;
     if signed { -1 - highest } else { 0 }
 }
 
@@ -24,7 +22,7 @@ pub fn nearest(r: i128, width: u8, signed: bool) -> i128
     ensures { (frac : ℤ) → Settles (Num signed width frac) true r result }
 {
     let highest = fx_num::highest(width, signed);
-    r.clamp(lowest(highest, width, signed), highest)
+    r.clamp(lowest(highest, signed), highest)
 }
 
 /// The lower 64 bits.

@@ -1,5 +1,5 @@
 -- The ends of ranges, of terms and of sums.
-use Rattle.std.proofs.Common.{◌≡◌, ℕ, ◌+◌, ◌^◌, ◌<◌, Bool, true, false, [], ◌∷◌, ◌++◌, take, drop, length, get_or, ℤ, pos, ◌+ℤ◌, ◌≤ℤ◌, ap, sym, ◌∙◌, arith, refl, take-append-drop, MatchResult, Result, IsErr, Ok, Err, true≢false, subst₂}
+use Rattle.std.proofs.Common.{◌≡◌, ℕ, ◌+◌, ◌^◌, ◌<◌, Bool, true, false, not, [], ◌∷◌, ◌++◌, take, drop, length, get_or, ℤ, pos, ◌+ℤ◌, ◌≤ℤ◌, ap, sym, ◌∙◌, arith, refl, take-append-drop, MatchResult, Result, IsErr, Ok, Err, true≢false, subst₂}
 use Rattle.std.specs.Int.{int_gap}
 use Rattle.std.proofs.lemmas.Int.{ints}
 use Rattle.std.proofs.lemmas.List.{take_more}
@@ -35,55 +35,40 @@ term_bounds frac false t v h =
     let d = 2 ^ int_gap (frac_of t) frac in
     (scaled-mono (lowest_of t) v d h.low, scaled-mono v (highest_of t) d h.high)
 
--- the values at the ends of a term
-least_value : Bool → FxType → ℤ
-least_value true t = highest_of t
-least_value false t = lowest_of t
+-- the greatest stored integer, or the least: that at the least end of a term, or at the greatest where the sign is turned
+abbrev end_value : Bool → FxType → ℤ
+end_value true t = highest_of t
+end_value false t = lowest_of t
 
-InRange-least_value : (s : Bool) (t : FxType) → InRange t (least_value s t)
-unfolding least_value
-InRange-least_value true t = InRange-highest t
-InRange-least_value false t = InRange-lowest t
+InRange-end_value : (s : Bool) (t : FxType) → InRange t (end_value s t)
+InRange-end_value true t = InRange-highest t
+InRange-end_value false t = InRange-lowest t
 
-least_term-is : (frac : ℤ) (s : Bool) (t : FxType) → least_term frac (s, t) ≡ negated_if s (aligned frac t (least_value s t))
-unfolding least_value
+least_term-is : (frac : ℤ) (s : Bool) (t : FxType) → least_term frac (s, t) ≡ negated_if s (aligned frac t (end_value s t))
 least_term-is frac true t = scaled-neg (highest_of t) (2 ^ int_gap (frac_of t) frac)
 least_term-is frac false t = refl
 
-greatest_value : Bool → FxType → ℤ
-greatest_value true t = lowest_of t
-greatest_value false t = highest_of t
-
-InRange-greatest_value : (s : Bool) (t : FxType) → InRange t (greatest_value s t)
-unfolding greatest_value
-InRange-greatest_value true t = InRange-lowest t
-InRange-greatest_value false t = InRange-highest t
-
-greatest_term-is : (frac : ℤ) (s : Bool) (t : FxType) → greatest_term frac (s, t) ≡ negated_if s (aligned frac t (greatest_value s t))
-unfolding greatest_value
+greatest_term-is : (frac : ℤ) (s : Bool) (t : FxType) → greatest_term frac (s, t) ≡ negated_if s (aligned frac t (end_value (not s) t))
 greatest_term-is frac true t = scaled-neg (lowest_of t) (2 ^ int_gap (frac_of t) frac)
 greatest_term-is frac false t = refl
 
 -- ---- sums
+module _ (frac : ℤ) (end : Bool → Bool) (term : Bool × FxType → ℤ) (is : (s : Bool) (t : FxType) → term (s, t) ≡ negated_if s (aligned frac t (end_value (end s) t))) where
+  possible : (terms : Terms) → IsPossibleSum frac terms (sum_of term terms)
+  possible [] = refl
+  possible ((s, t) ∷ terms) = record {
+    value = end_value (end s) t;
+    others = sum_of term terms;
+    in_range = InRange-end_value (end s) t;
+    is_rest = possible terms;
+    is_total = ap (λ (z : ℤ). z +ℤ sum_of term terms) (is s t);
+  }
+
 pub least_possible : (frac : ℤ) (terms : Terms) → IsPossibleSum frac terms (sum_of (least_term frac) terms)
-least_possible frac [] = refl
-least_possible frac ((s, t) ∷ terms) = record {
-  value = least_value s t;
-  others = sum_of (least_term frac) terms;
-  in_range = InRange-least_value s t;
-  is_rest = least_possible frac terms;
-  is_total = ap (λ (z : ℤ). z +ℤ sum_of (least_term frac) terms) (least_term-is frac s t);
-}
+least_possible frac = possible frac (λ s. s) (least_term frac) (least_term-is frac)
 
 pub greatest_possible : (frac : ℤ) (terms : Terms) → IsPossibleSum frac terms (sum_of (greatest_term frac) terms)
-greatest_possible frac [] = refl
-greatest_possible frac ((s, t) ∷ terms) = record {
-  value = greatest_value s t;
-  others = sum_of (greatest_term frac) terms;
-  in_range = InRange-greatest_value s t;
-  is_rest = greatest_possible frac terms;
-  is_total = ap (λ (z : ℤ). z +ℤ sum_of (greatest_term frac) terms) (greatest_term-is frac s t);
-}
+greatest_possible frac = possible frac not (greatest_term frac) (greatest_term-is frac)
 
 pub sum_bounds : (frac : ℤ) (terms : Terms) (total : ℤ) → IsPossibleSum frac terms total → (sum_of (least_term frac) terms ≤ℤ total) × (total ≤ℤ sum_of (greatest_term frac) terms)
 sum_bounds frac [] total h = (omega (arith, ints, h), omega (arith, ints, h))

@@ -31,11 +31,6 @@ no_full_sum terms frac g n t full =
     m (InRange-fits t _ full.valid (full.holds _ (least_possible (frac_of t) terms)), InRange-fits t _ full.valid (full.holds _ (greatest_possible (frac_of t) terms)))
 
 module _ (terms : Terms) (span : Span) (type : FxType) (g : IsGreatestFrac terms (frac_of type)) (ends : IsSpan (sum_of (least_term (frac_of type)) terms) (sum_of (greatest_term (frac_of type)) terms) span) (n : IsNarrowest span.low span.high (frac_of type) type) where
-  holds_sums : HoldsSums terms type
-  holds_sums total possible =
-      let b = sum_bounds (frac_of type) terms total possible in
-      InRange-between type span.low span.high total n.low n.high (omega (arith, ints, ends.low, b.0)) (omega (arith, ints, ends.high, b.1))
-
   narrow_sum : (other : FxType) → IsType other → IsNumber other → frac_of other ≡ frac_of type → HoldsSums terms other → width_of type ≤ width_of other
   narrow_sum other valid number e holds =
       let l = subst (λ (f : ℤ). IsPossibleSum f terms (sum_of (least_term (frac_of type)) terms)) (sym e) (least_possible (frac_of type) terms) in
@@ -49,7 +44,9 @@ module _ (terms : Terms) (span : Span) (type : FxType) (g : IsGreatestFrac terms
     valid = n.valid;
     number = n.number;
     frac = g;
-    holds = holds_sums;
+    holds = λ total possible.
+        let b = sum_bounds (frac_of type) terms total possible in
+        InRange-between type span.low span.high total n.low n.high (omega (arith, ints, ends.low, b.0)) (omega (arith, ints, ends.high, b.1));
     narrowest = narrow_sum;
     sign = (
       (λ s total possible. omega (arith, ints, n.sign.0 s, ends.low, (sum_bounds (frac_of type) terms total possible).0)),
@@ -125,21 +122,13 @@ module _ (a b : FxType) (left right : Span) (type : FxType) (low high : ℤ)
     (at_right : IsSpan (least_term (frac_of type) (false, b)) (greatest_term (frac_of type) (false, b)) right)
     (at_low : low ≡ int_min left.low right.low) (at_high : high ≡ int_max left.high right.high)
     (n : IsNarrowest low high (frac_of type) type) where
-  holds_left : HoldsType type a
-  holds_left =
-      let l = least_sign (frac_of type) (false, a) in
-      let h = greatest_sign (frac_of type) (false, a) in
-      holds_other type a
-      (InRange-between type low high _ n.low n.high (omega (arith, ints, clamps, at_left.low)) (omega (arith, ints, clamps, at_left.low, at_left.high, l, h)))
-      (InRange-between type low high _ n.low n.high (omega (arith, ints, clamps, at_left.low, at_left.high, l, h)) (omega (arith, ints, clamps, at_left.high)))
-
-  holds_right : HoldsType type b
-  holds_right =
-      let l = least_sign (frac_of type) (false, b) in
-      let h = greatest_sign (frac_of type) (false, b) in
-      holds_other type b
-      (InRange-between type low high _ n.low n.high (omega (arith, ints, clamps, at_right.low)) (omega (arith, ints, clamps, at_right.low, at_right.high, l, h)))
-      (InRange-between type low high _ n.low n.high (omega (arith, ints, clamps, at_right.low, at_right.high, l, h)) (omega (arith, ints, clamps, at_right.high)))
+  holds_one : (one : FxType) (span : Span) → IsSpan (least_term (frac_of type) (false, one)) (greatest_term (frac_of type) (false, one)) span → low ≤ℤ span.low → span.high ≤ℤ high → HoldsType type one
+  holds_one one span at below above =
+      let l = least_sign (frac_of type) (false, one) in
+      let h = greatest_sign (frac_of type) (false, one) in
+      holds_other type one
+      (InRange-between type low high _ n.low n.high (omega (arith, ints, below, at.low)) (omega (arith, ints, above, at.low, at.high, l, h)))
+      (InRange-between type low high _ n.low n.high (omega (arith, ints, below, at.low, at.high, l, h)) (omega (arith, ints, above, at.high)))
 
   narrow_union : (other : FxType) → IsType other → IsNumber other → frac_of other ≡ frac_of type → HoldsType other a → HoldsType other b → width_of type ≤ width_of other
   narrow_union other valid number e ha hb =
@@ -156,8 +145,8 @@ module _ (a b : FxType) (left right : Span) (type : FxType) (low high : ℤ)
     valid = n.valid;
     number = n.number;
     frac = frac;
-    left = holds_left;
-    right = holds_right;
+    left = holds_one a left at_left (omega (arith, ints, clamps, at_low)) (omega (arith, ints, clamps, at_high));
+    right = holds_one b right at_right (omega (arith, ints, clamps, at_low)) (omega (arith, ints, clamps, at_high));
     narrowest = narrow_union;
     sign = sign_of low left.low right.low (is_signed type) (is_signed a) (is_signed b) at_low n.sign.0 n.sign.1
         (λ e. let k = signed_below a (2 ^ int_gap (frac_of a) (frac_of type)) (pow_pos (int_gap (frac_of a) (frac_of type))) e in omega (arith, ints, at_left.low, k))

@@ -33,18 +33,26 @@ passed_over least greatest s w e p q = true≢false (sym ((Decides-holds_ends le
 
 -- ---- the narrowest type of two ends
 module _ (least greatest frac : ℤ) (low : least ≤ℤ pos 0) (high : pos 0 ≤ℤ greatest) (f_low : negsuc 63 ≤ℤ frac) (f_high : frac ≤ℤ pos 128) where
+  narrowest_is : (signed : Bool) (w : ℕ) → IsWord w signed → InRange (Num signed w frac) least → InRange (Num signed w frac) greatest
+      → ((other : FxType) → IsType other → IsNumber other → InRange other least → InRange other greatest → w ≤ width_of other)
+      → (signed ≡ false) ↔ (pos 0 ≤ℤ least) → IsNarrowest least greatest frac (Num signed w frac)
+  narrowest_is signed w word at_least at_greatest narrow sign = record {
+    valid = (word, f_low, f_high);
+    number = tt;
+    frac = refl;
+    low = at_least;
+    high = at_greatest;
+    narrowest = narrow;
+    sign = sign;
+  }
+
   signed_found : (w : ℕ) → least <ℤ pos 0 → IsFirst (holds_ends least greatest true) 2 127 w → IsNarrowest least greatest frac (Num true w frac)
   signed_found w below f =
       let ends = (Decides-holds_ends least greatest true w).0 f.passes in
-      record {
-        valid = ((f.low, omega (arith, f.high)), f_low, f_high);
-        number = tt;
-        frac = refl;
-        low = record { low = ends.0; high = omega (arith, ints, low, pow_pos (w - 1)) };
-        high = record { low = omega (arith, ints, high); high = ends.1 };
-        narrowest = narrow;
-        sign = ((λ s. absurd (true≢false s)), (λ s. absurd (omega (arith, ints, s, below))));
-      }
+      narrowest_is true w (f.low, omega (arith, f.high))
+      (record { low = ends.0; high = omega (arith, ints, low, pow_pos (w - 1)) })
+      (record { low = omega (arith, ints, high); high = ends.1 })
+      narrow ((λ s. absurd (true≢false s)), (λ s. absurd (omega (arith, ints, s, below))))
     where
       narrow : (other : FxType) → IsType other → IsNumber other → InRange other least → InRange other greatest → w ≤ width_of other
       narrow Logical t n p q = absurd n
@@ -54,15 +62,9 @@ module _ (least greatest frac : ℤ) (low : least ≤ℤ pos 0) (high : pos 0 �
   unsigned_found : (w : ℕ) → pos 0 ≤ℤ least → IsFirst (holds_ends least greatest false) 1 127 w → IsNarrowest least greatest frac (Num false w frac)
   unsigned_found w above f =
       let ends = (Decides-holds_ends least greatest false w).0 f.passes in
-      record {
-        valid = ((f.low, omega (arith, f.high)), f_low, f_high);
-        number = tt;
-        frac = refl;
-        low = record { low = above; high = omega (arith, ints, low) };
-        high = record { low = high; high = ends.1 };
-        narrowest = narrow;
-        sign = ((λ s. above), (λ s. refl));
-      }
+      narrowest_is false w (f.low, omega (arith, f.high))
+      (record { low = above; high = omega (arith, ints, low) }) (record { low = high; high = ends.1 })
+      narrow ((λ s. above), (λ s. refl))
     where
       narrow : (other : FxType) → IsType other → IsNumber other → InRange other least → InRange other greatest → w ≤ width_of other
       narrow Logical t n p q = absurd n

@@ -5,7 +5,7 @@ use Rattle.std.proofs.lemmas.Int.{ints}
 use Rattle.fx_type.specs.declared.kind.FxType.{FxType}
 use Rattle.fx_type.specs.declared.kind.FxType.TheVariants.{Num, Logical}
 use Rattle.fx_type.specs.FxType.{IsType, frac_of, lowest_of, highest_of, InRange, width_of, is_signed}
-use Rattle.fx_num.specs.Word.{IsWord, InWord}
+use Rattle.fx_num.specs.Word.{IsWord, InWord, word_lowest, word_highest}
 use Rattle.std.proofs.Math.Dec.{lit≤}
 
 -- 0 lies in every range
@@ -80,6 +80,14 @@ gap_none (negsuc a) (negsuc b) h = omega (arith, ints, h)
 pub type-word : (type : FxType) → IsType type → IsWord (width_of type) (is_signed type)
 type-word (Num signed width frac) valid = valid.0
 type-word Logical valid = (lit≤ tt, lit≤ tt)
+
+pub type-lowest : (type : FxType) → word_lowest (width_of type) (is_signed type) ≡ lowest_of type
+type-lowest (Num signed width frac) = refl
+type-lowest Logical = refl
+
+pub type-highest : (type : FxType) → word_highest (width_of type) (is_signed type) ≡ highest_of type
+type-highest (Num signed width frac) = refl
+type-highest Logical = refl
 
 pub range-word : (type : FxType) (v : ℤ) → InRange type v → InWord (width_of type) (is_signed type) v
 range-word (Num signed width frac) v range = record { low = range.low; high = range.high }

@@ -35,10 +35,7 @@ impl FxType {
         requires { IsType self }
         ensures { result ≡ lowest_of self }
     {
-        match self {
-            FxType::Num { signed, width, .. } => fx_num::lowest(width, signed),
-            FxType::Logical => 0,
-        }
+        fx_num::lowest(self.width(), self.is_signed())
     }
 
     /// The greatest stored integer. Source: Fixed-Point Designer.
@@ -46,10 +43,7 @@ impl FxType {
         requires { IsType self }
         ensures { result ≡ highest_of self }
     {
-        match self {
-            FxType::Num { signed, width, .. } => fx_num::highest(width, signed),
-            FxType::Logical => 1,
-        }
+        fx_num::highest(self.width(), self.is_signed())
     }
 
     /// Whether stored integers may be negative. Source: Fixed-Point Designer.

@@ -1,5 +1,6 @@
--- The last bit of a number.
-use Rattle.std.specs.Prelude.{◌≡◌, ℤ, pos, ◌+ℤ◌, ◌≤ℤ◌}
+-- The last bit of a number, the ends of a word, and shifts down into one.
+use Rattle.std.specs.Prelude.{◌≡◌, ℕ, ◌≤◌, Bool, true, false, ℤ, pos, negsuc, ◌+ℤ◌, ◌-ℤ◌, ◌≤ℤ◌}
+use Rattle.fx_num.specs.Word.{IsWord}
 use Rattle.fx_type.specs.Conversion.{IsEven}
 
 -- one where the number is odd, and else 0
@@ -8,3 +9,13 @@ pub record IsTie (v tie : ℤ) : Type 0 where
   pub high : tie ≤ℤ pos 1
   pub stays : tie ≡ pos 0 → IsEven v
   pub goes : tie ≡ pos 1 → IsEven (v +ℤ pos 1)
+
+-- the least number of a word whose greatest one this is
+abbrev pub least_beside : Bool → ℤ → ℤ
+least_beside true highest = negsuc 0 -ℤ highest
+least_beside false highest = pos 0
+
+-- at least one place down, into a word
+pub record IsLowering (by width : ℕ) (signed : Bool) : Type 0 where
+  pub some : 1 ≤ by
+  pub word : IsWord width signed

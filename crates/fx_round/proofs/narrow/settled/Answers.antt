@@ -1,0 +1,12 @@
+use Rattle.std.proofs.Common.{◌∙◌}
+use Rattle.std.specs.Int.{w64}
+use Rattle.std.proofs.lemmas.Int.{to_z-of_z}
+use Rattle.fx_round.proofs.Biased.{clamped}
+use Rattle.fx_round.proofs.narrow.settled.Goals as goal
+
+pub returns-then-saturate : goal.returns-then-saturate
+returns-then-saturate c frac =
+    rw (c.if-saturate.true, to_z-of_z w64 c.clamp.result (record { sfits = c.clamp.type_inv })) (clamped c.args.width c.args.signed frac c.args.r _ _ c.clamp.result c.requires.word
+    (to_z-of_z w64 c.highest-highest.result (record { sfits = c.highest-highest.type_inv }) ∙ c.highest-highest.ensures)
+    (to_z-of_z w64 c.lowest.result (record { sfits = c.lowest.type_inv }) ∙ c.lowest.ensures)
+    (rw (to_z-of_z w64 c.args.r c.ranges.r) at c.clamp.ensures.value))
