@@ -1,4 +1,5 @@
--- What each kind of block gives at a hit, from the table's entries of its drivers (Simulink reference, each block's page; HDL Coder guide, rate transitions). The order of the table's computation stands nowhere here.
+-- What each kind of block gives at a hit, from the table's entries of its drivers (Simulink reference, each block's
+-- page; HDL Coder guide, rate transitions). The order of the table's computation stands nowhere here.
 use Rattle.std.specs.Prelude.{◌≡◌, ℕ, suc, ◌+◌, ◌-◌, ◌<◌, ℤ, pos, int_lt, Bool, true, false, MatchBool, List, [], length, map, sum, take, filter, slice_get, slice_index, Option, Some, None, MatchOption}
 use Rattle.std.specs.List.{list_any}
 use Rattle.fx_type.specs.declared.kind.FxType.{FxType}

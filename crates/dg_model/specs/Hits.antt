@@ -37,7 +37,9 @@ hits_since_enabled table enable period zero = []
 hits_since_enabled table enable period (suc t) =
     if is_hit period t then (if is_enabled_at table enable t then t ∷ hits_since_enabled table enable period t else []) else hits_since_enabled table enable period t
 
--- the hits before t at which a Delay of this period moved its values on, the latest first: outside enabled subsystems all its hits, in one with held states the enabled hits, and in one with reset states those since it was last enabled anew (Simulink reference, `StatesWhenEnabling`; what a reset counts is own)
+-- the hits before t at which a Delay of this period moved its values on, the latest first: outside enabled subsystems
+-- all its hits, in one with held states the enabled hits, and in one with reset states those since it was last enabled
+-- anew (Simulink reference, `StatesWhenEnabling`; what a reset counts is own)
 abbrev pub counted_hits : Table → Option ℕ → Bool → Option ℕ → ℕ → List ℕ
 counted_hits table None reset period t = hits_before period t
 counted_hits table (Some enable) false period t = filter (is_enabled_at table enable) (hits_before period t)

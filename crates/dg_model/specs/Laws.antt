@@ -56,11 +56,13 @@ pub record AreRootElements (number_of : Role → Option ℕ) (width_of : ℕ →
 
 -- the list of root inputs of a wired diagram is such
 abbrev pub InputsAreListed : Type 0
-InputsAreListed = (diagram : Diagram) (attributes : Attributes) → IsWired diagram → AreRootElements root_input (λ block. attributes.width_at block 1) diagram attributes (root_inputs diagram attributes)
+InputsAreListed =
+    (diagram : Diagram) (attributes : Attributes) → IsWired diagram → AreRootElements root_input (λ block. attributes.width_at block 1) diagram attributes (root_inputs diagram attributes)
 
 -- so is that of its root outputs
 abbrev pub OutputsAreListed : Type 0
-OutputsAreListed = (diagram : Diagram) (attributes : Attributes) → IsWired diagram → AreRootElements root_output (λ block. width_into diagram attributes block 1) diagram attributes (root_outputs diagram attributes)
+OutputsAreListed =
+    (diagram : Diagram) (attributes : Attributes) → IsWired diagram → AreRootElements root_output (λ block. width_into diagram attributes block 1) diagram attributes (root_outputs diagram attributes)
 
 -- columns of numbers in range make a stimulus
 abbrev pub ColumnsMakeStimulus : Type 0

@@ -1,4 +1,6 @@
--- What an elementwise operation gives (Simulink reference, Sum, Product, Gain, Switch, Relational Operator, Logical Operator, Data Type Conversion). The exact result is computed without loss and then converted once. That Relational compares exact real values is own.
+-- What an elementwise operation gives (Simulink reference, Sum, Product, Gain, Switch, Relational Operator, Logical
+-- Operator, Data Type Conversion). The exact result is computed without loss and then converted once. That Relational
+-- compares exact real values is own.
 use Rattle.std.specs.Prelude.{◌≡◌, ℕ, ◌%◌, ◌<◌, ◌≤◌, ◌==◌, ℤ, pos, ◌+ℤ◌, ◌*ℤ◌, int_lt, int_le, Bool, true, false, not, cond, MatchBool, List, [], ◌∷◌, length, slice_index_or, zip, count_by, All, ⊤}
 use Rattle.std.specs.List.{list_any, list_all}
 use Rattle.std.specs.Int.{int_max}

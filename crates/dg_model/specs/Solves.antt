@@ -14,7 +14,8 @@ use Rattle.dg_model.specs.Equation.{Equation}
 
 -- the stimulus gives each root input element a number in range at each of its hits below n
 pub record IsStimulus (diagram : Diagram) (attributes : Attributes) (stimulus : Stimulus) (n : ℕ) : Type 0 where
-  pub in_range : (block : ℕ) (b : Block) (number element t : ℕ) → slice_get diagram.blocks block ≡ Some b → root_input (row_of b.kind).place.role ≡ Some number → element < attributes.width_at block 1 → t < n → Hits (attributes.period_at block) t
+  pub in_range : (block : ℕ) (b : Block) (number element t : ℕ) → slice_get diagram.blocks block ≡ Some b
+      → root_input (row_of b.kind).place.role ≡ Some number → element < attributes.width_at block 1 → t < n → Hits (attributes.period_at block) t
       → InRange (attributes.type_at block 1) (stimulus number element t)
 
 -- the ports at which a table shows a block of this role: its output ports, and port 1 for a root output port

@@ -76,7 +76,8 @@ inputs_of_own OwnType.Untyped = []
 inputs_of_own (OwnType.Always type) = []
 inputs_of_own OwnType.OfInput = 1 ∷ []
 
--- the type of a block's outputs, from its specification, the types of its inputs and, for a Gain, the type of its coefficients: a type that is written out, that of inner ports and root Outports too, stands before any other is known
+-- the type of a block's outputs, from its specification, the types of its inputs and, for a Gain, the type of its
+-- coefficients: a type that is written out, that of inner ports and root Outports too, stands before any other is known
 abbrev pub IsResultType : Kind → TypeSpec → List FxType → FxType → FxType → Type 0
 IsResultType kind (Fixed type) types param result = result ≡ type
 IsResultType kind Internal types param result = IsFullOf (row_of kind).types.full types param result

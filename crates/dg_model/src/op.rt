@@ -1,3 +1,6 @@
+ghost use Rattle.std.specs.Prelude.{◌≡◌};
+ghost use Rattle.dg_model.specs.Operation.{without_frac as without_frac_of};
+
 use crate::kind::{Criterion, Gate, Relation};
 use fx_type::{FxType, Rounding};
 
@@ -49,4 +52,18 @@ pub struct OpCall<'a> {
     pub rounding: Rounding,
     /// Whether a result out of range goes to the nearest end, and does not wrap.
     pub saturate: bool,
+}
+
+/// The type with the same stored integers and frac 0.
+pub fn without_frac(kind: FxType) -> FxType
+    ensures { result ≡ without_frac_of kind }
+{
+    match kind {
+        FxType::Num { signed, width, .. } => FxType::Num {
+            signed,
+            width,
+            frac: 0,
+        },
+        FxType::Logical => FxType::Logical,
+    }
 }

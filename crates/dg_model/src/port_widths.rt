@@ -38,18 +38,10 @@ fn put_part(starts: &mut Sizes, all: &mut Sizes, part: &[u32]) -> Result<(), Out
     let Ok(start) = u32::try_from(all.as_slice().len()) else {
         return Err(OutOfMemory);
     };
-    append(all, part)?;
-    starts.push(start)?;
-    Ok(())
-}
-
-/// Puts numbers behind the others.
-fn append(all: &mut Sizes, part: &[u32]) -> Result<(), OutOfMemory>
-    ensures { OnOk result (all.new ≡ all.old ++ part.now) }
-{
     for width in part {
         all.push(*width)?;
     }
+    starts.push(start)?;
     Ok(())
 }
 
