@@ -13,7 +13,8 @@ pub record IsSmall (v : ℤ) : Type 0 where
   pub low : neg_ℤ (pos (2 ^ 61)) ≤ℤ v
   pub high : v ≤ℤ pos (2 ^ 61)
 
--- what is added before a shift down by `down` bits, so that the whole number below is the one that the mode takes, `below` where the number is below 0; `even` marks that an odd number below has one more
+-- what is added before a shift down by `down` bits, so that the whole number below is the one that the mode takes,
+-- `below` where the number is below 0; `even` marks that an odd number below has one more
 abbrev pub IsBias : Rounding → ℕ → ℤ → ℤ → Bool → Type 0
 IsBias Floor d bias below even = (bias ≡ pos 0) × (below ≡ pos 0) × (even ≡ false)
 IsBias Ceiling d bias below even = (bias +ℤ pos 1 ≡ pos d) × (below +ℤ pos 1 ≡ pos d) × (even ≡ false)

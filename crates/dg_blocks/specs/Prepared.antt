@@ -38,11 +38,13 @@ abbrev pub IsPrepared : Prepared → Operation → Type 0
 IsPrepared Wide operation = ⊤
 IsPrepared (Converted narrow) operation = (operation.op ≡ Convert false) × IsReady operation narrow (width_of (type_of operation.types 0)) (frac_of (type_of operation.types 0))
 IsPrepared (Times narrow) operation =
-    (operation.op ≡ Product) × IsReady operation narrow (width_of (type_of operation.types 0) + width_of (type_of operation.types 1)) (frac_of (type_of operation.types 0) +ℤ frac_of (type_of operation.types 1))
+    (operation.op ≡ Product) × IsReady operation narrow (width_of (type_of operation.types 0) + width_of (type_of operation.types 1))
+    (frac_of (type_of operation.types 0) +ℤ frac_of (type_of operation.types 1))
 IsPrepared (Scaled coefficient narrow) operation =
     (param : FxType) × (operation.op ≡ Gain coefficient param) × IsReady operation narrow (width_of (type_of operation.types 0) + width_of param) (frac_of (type_of operation.types 0) +ℤ frac_of param)
 IsPrepared (Summed frac narrow) operation =
-    (full : FxType) × (operation.op ≡ Sum) × IsFullSum (zip operation.signs operation.types) full × (frac_of full ≡ frac) × All (IsShort frac) operation.types × IsReady operation narrow (width_of full) frac
+    (full : FxType) × (operation.op ≡ Sum) × IsFullSum (zip operation.signs operation.types) full × (frac_of full ≡ frac)
+    × All (IsShort frac) operation.types × IsReady operation narrow (width_of full) frac
 IsPrepared (Chosen narrow) operation =
     (criterion : Criterion) × (threshold : ℤ) × (operation.op ≡ Switch criterion threshold) × (bits : ℕ) × (width_of (type_of operation.types 0) ≤ bits) × (width_of (type_of operation.types 2) ≤ bits)
     × (frac_of (type_of operation.types 2) ≡ frac_of (type_of operation.types 0)) × IsReady operation narrow bits (frac_of (type_of operation.types 0))

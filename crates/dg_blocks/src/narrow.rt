@@ -49,57 +49,23 @@ pub fn gap(low: i16, high: i16) -> Option<u32>
     Some(gap as u32)
 }
 
-/// What is added before a shift down.
-#[derive(Clone, Copy)]
-struct Bias {
-    /// To a number from 0 on.
-    bias: i64,
-    /// To a number below 0.
-    below: i64,
-    /// Whether an odd number below the result has one more.
-    even: bool,
-}
-
-/// The bias of a mode before a shift down by `down` bits.
-fn bias_of(mode: Rounding, down: u32) -> Bias
+/// What a mode adds before a shift down by `down` bits: to a number from 0 on, to one below 0, and
+/// whether an odd number below the result has one more.
+fn bias_of(mode: Rounding, down: u32) -> (i64, i64, bool)
     requires low { 1 ≤ down }
     requires high { down ≤ 60 }
-    ensures { IsBias mode (2 ^ down) result.bias result.below result.even }
+    ensures { IsBias mode (2 ^ down) result.0 result.1 result.2 }
 {
     let half = half_of(down);
     let less = half - 1;
     let most = half + less;
     match mode {
-        Rounding::Floor => Bias {
-            bias: 0,
-            below: 0,
-            even: false,
-        },
-        Rounding::Ceiling => Bias {
-            bias: most,
-            below: most,
-            even: false,
-        },
-        Rounding::Zero => Bias {
-            bias: 0,
-            below: most,
-            even: false,
-        },
-        Rounding::Nearest => Bias {
-            bias: half,
-            below: half,
-            even: false,
-        },
-        Rounding::Round => Bias {
-            bias: half,
-            below: less,
-            even: false,
-        },
-        Rounding::Convergent => Bias {
-            bias: less,
-            below: less,
-            even: true,
-        },
+        Rounding::Floor => (0, 0, false),
+        Rounding::Ceiling => (most, most, false),
+        Rounding::Zero => (0, most, false),
+        Rounding::Nearest => (half, half, false),
+        Rounding::Round => (half, less, false),
+        Rounding::Convergent => (less, less, true),
     }
 }
 
@@ -191,11 +157,11 @@ impl Narrow {
         if bits > 61 {
             return None;
         }
-        let bias = bias_of(mode, down);
+        let (bias, below, even) = bias_of(mode, down);
         narrow.down = down;
-        narrow.bias = bias.bias;
-        narrow.below = bias.below;
-        narrow.even = bias.even;
+        narrow.bias = bias;
+        narrow.below = below;
+        narrow.even = even;
         Some(narrow)
     }
 

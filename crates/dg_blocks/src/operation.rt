@@ -4,11 +4,11 @@ ghost use Rattle.fx_type.specs.declared.kind.FxType.{FxType};
 ghost use Rattle.fx_type.specs.FxType.{IsType, InRange};
 ghost use Rattle.fx_type.specs.FullType.{IsFullProduct};
 ghost use Rattle.fx_type.specs.Conversion.{Converts};
-ghost use Rattle.dg_model.specs.Operation.{operation_of, without_frac as without_frac_of, IsConverted, CanCarryOut, OpGives};
+ghost use Rattle.dg_model.specs.Operation.{operation_of, without_frac, IsConverted, CanCarryOut, OpGives};
 
 use crate::conditions::{compares_values, gate, meets};
 use crate::exact::{greatest_frac, product, product_frac, settled, signed_sum};
-use dg_model::{Op, OpCall};
+use dg_model::{Op, OpCall, without_frac};
 use fx_type::FxType;
 
 /// What the operation gives of these inputs: the exact sum or product converted to the result type,
@@ -85,23 +85,9 @@ fn stored_converted(call: &OpCall, v: i128, from: FxType) -> i128
     requires from { IsType from }
     requires in_range { InRange from v }
     requires result { IsType call.now.result }
-    ensures { Converts v (without_frac_of from)
-        (without_frac_of call.now.result) call.now.rounding call.now.saturate result }
+    ensures { Converts v (without_frac from)
+        (without_frac call.now.result) call.now.rounding call.now.saturate result }
 {
     let to = without_frac(call.result);
     fx_round::convert(v, without_frac(from), to, call.rounding, call.saturate)
-}
-
-/// The type with the same stored integers and frac 0.
-fn without_frac(kind: FxType) -> FxType
-    ensures { result ≡ without_frac_of kind }
-{
-    match kind {
-        FxType::Num { signed, width, .. } => FxType::Num {
-            signed,
-            width,
-            frac: 0,
-        },
-        FxType::Logical => FxType::Logical,
-    }
 }

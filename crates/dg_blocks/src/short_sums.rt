@@ -1,8 +1,8 @@
 //! Sums in 64 bits.
 ghost use Rattle.std.specs.Prelude.{◌≡◌, ◌^◌, ◌≤◌, pos, negsuc, ◌*ℤ◌, ◌≤ℤ◌, All, true, zip, FitsSigned};
-ghost use Rattle.std.specs.Int.{int_gap, w64};
+ghost use Rattle.std.specs.Int.{w64};
 ghost use Rattle.fx_type.specs.declared.kind.FxType.{FxType};
-ghost use Rattle.fx_type.specs.FxType.{IsType, frac_of, aligned as aligned_of};
+ghost use Rattle.fx_type.specs.FxType.{IsType, frac_of, aligned};
 ghost use Rattle.fx_type.specs.FullType.{negated_if};
 ghost use Rattle.dg_model.specs.Operation.{signed_sum as signed_sum_of};
 ghost use Rattle.dg_blocks.specs.Narrow.{IsSmall};
@@ -49,27 +49,15 @@ fn shifted(v: i64, gap: u32) -> i64
     v * (1 << gap)
 }
 
-/// The stored integer `v` of the type, written with `frac` bits behind the point.
-fn aligned(frac: i16, kind: FxType, v: i64) -> i64
-    requires valid { IsType kind }
-    requires above { frac_of kind ≤ℤ frac }
-    requires high { frac ≤ℤ pos 128 }
-    requires shift { int_gap (frac_of kind) frac ≤ 60 }
-    requires fits { FitsSigned w64 (aligned_of frac kind v) }
-    ensures { result ≡ aligned_of frac kind v }
-{
-    shifted(v, gap_above(frac, kind))
-}
-
 /// A term of a sum: the stored integer with its sign, written with `frac` bits behind the point.
 fn term(negative: bool, frac: i16, kind: FxType, v: i64) -> i64
     requires valid { IsType kind }
     requires high { frac ≤ℤ pos 128 }
     requires short { IsShort frac kind }
-    requires small { IsSmall (aligned_of frac kind v) }
-    ensures { result ≡ negated_if negative (aligned_of frac kind v) }
+    requires small { IsSmall (aligned frac kind v) }
+    ensures { result ≡ negated_if negative (aligned frac kind v) }
 {
-    let value = aligned(frac, kind, v);
+    let value = shifted(v, gap_above(frac, kind));
     if negative { -value } else { value }
 }
 

@@ -34,9 +34,9 @@ returns-clause-is c =
     let t = to_z-of_z w16 c.frac-2.result (record { sfits = c.frac-2.type_inv }) in
     let g = rw (f, t, c.frac-2.ensures) at c.in-Some-gap-2.ensures in
     let some : 1 ≤ c.in-Some-gap-2.down = omega (arith, c.if-down-eq0.false) in
-    let b = bias_within c.args.mode c.in-Some-gap-2.down c.bias_of-bias.result.bias c.bias_of-bias.result.below c.bias_of-bias.result.even some g.0 c.bias_of-bias.ensures in
-    let e : to_z w64 (of_z w64 c.bias_of-bias.result.bias) ≡ c.bias_of-bias.result.bias = omega (arith, ints, b.0.0, b.0.1) in
-    let d : to_z w64 (of_z w64 c.bias_of-bias.result.below) ≡ c.bias_of-bias.result.below = omega (arith, ints, b.1.0, b.1.1) in
+    let b = bias_within c.args.mode c.in-Some-gap-2.down c.bias_of-bias.result.0 c.bias_of-bias.result.1 c.bias_of-bias.result.2 some g.0 c.bias_of-bias.ensures in
+    let e : to_z w64 (of_z w64 c.bias_of-bias.result.0) ≡ c.bias_of-bias.result.0 = omega (arith, ints, b.0.0, b.0.1) in
+    let d : to_z w64 (of_z w64 c.bias_of-bias.result.1) ≡ c.bias_of-bias.result.1 = omega (arith, ints, b.1.0, b.1.1) in
     rw (e, d) (record {
       ends = record { valid = ends.valid; number = ends.number; saturate_is = ends.saturate_is; width_is = ends.width_is; signed_is = ends.signed_is; low_is = ends.low_is; high_is = ends.high_is };
       shifts = record {
