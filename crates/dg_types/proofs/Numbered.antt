@@ -18,7 +18,7 @@ mapped_more f n =
     ap (λ (k : ℕ). map f (numbers_from 0 k)) next ∙ ap (map f) (numbers_push 0 n) ∙ map-append f (numbers_from 0 n) ((0 + n) ∷ []) ∙ ap (λ (k : ℕ). map f (numbers_from 0 n) ++ f k ∷ []) last
 
 -- what is made of the next element stands behind what was made of those before it
-pub made_more : {A B : Type 0} (f : A → B) (xs : List A) (k : ℕ) (x : A) (y : B) (before after : List B) → k < length xs → x ≡ slice_index_or xs k x → y ≡ f x
-    → before ≡ map f (take k xs) → after ≡ before ++ y ∷ [] → after ≡ map f (take (k + 1) xs)
-made_more f xs k x y before after low at made is grown =
-    grown ∙ (λ i. is i ++ made i ∷ []) ∙ ap (λ z. map f (take k xs) ++ f z ∷ []) at ∙ sym (map_more f xs k x low)
+module _ {A B : Type 0} (f : A → B) (xs : List A) {k : ℕ} {x : A} {y : B} {before after : List B} where
+  pub made_more : k < length xs → x ≡ slice_index_or xs k x → y ≡ f x → before ≡ map f (take k xs) → after ≡ before ++ y ∷ [] → after ≡ map f (take (k + 1) xs)
+  made_more low at made is grown =
+      grown ∙ (λ i. is i ++ made i ∷ []) ∙ ap (λ z. map f (take k xs) ++ f z ∷ []) at ∙ sym (map_more f xs k x low)

@@ -1,6 +1,7 @@
 -- The tests of a block tell whether it keeps a part of the rule of types.
-use Rattle.std.proofs.Common.{◌≡◌, ℕ, ◌≤◌, Bool, true, All, Option, sym, subst}
+use Rattle.std.proofs.Common.{◌≡◌, ℕ, ◌≤◌, ◌<◌, Bool, true, List, [], length, get_or, All, Option, sym, subst}
 use Rattle.std.specs.Prelude.{◌↔◌, IsSome}
+use Rattle.std.proofs.lemmas.Option.{slice_get-get_or}
 use Rattle.fx_type.specs.declared.kind.FxType.{FxType}
 use Rattle.dg_model.specs.declared.diagram.Diagram.{Diagram}
 use Rattle.dg_model.specs.declared.diagram.Block.{Block}
@@ -9,9 +10,18 @@ use Rattle.dg_model.specs.Periods.{known_at}
 use Rattle.dg_model.specs.Types.{names_full_type}
 use Rattle.dg_model.specs.TypeRounds.{Types, input_types, full_type, types_of}
 use Rattle.dg_model.specs.TypeRule.{AgreesWith, AgreeInside}
+use Rattle.dg_types.specs.declared.linked.Form.{Form}
+use Rattle.dg_types.specs.declared.linked.Source.{Source}
 use Rattle.dg_types.specs.declared.typed.Part.{Part}
 use Rattle.dg_types.specs.declared.typed.Part.TheVariants.{Narrow, Known, Agree}
-use Rattle.dg_types.specs.inner.TypedScan.{keeps_part}
+use Rattle.dg_types.specs.inner.TypedInputs.{AreReady, is_ready}
+use Rattle.dg_types.specs.inner.TypedScan.{IsTyped, keeps_part}
+
+-- the block that the rounds see at a place can be typed from the sources that they see there
+pub ready_at : {diagram : Diagram} {blocks : List Block} {forms : List Form} {sources : List (List Source)} {types : Types} → IsTyped diagram blocks forms sources types → AreReady blocks sources → (place : ℕ) (none : Block) → place < length diagram.blocks
+    → is_ready (get_or blocks place none) (length (get_or sources place [])) ≡ true
+ready_at {blocks = blocks} typed ready place none there =
+    ready.ready place (get_or blocks place none) (slice_get-get_or blocks place none (subst (λ (bs : List Block). place < length bs) (sym typed.blocks_are) there))
 
 module _ (diagram : Diagram) (place : ℕ) (part : Part) (own block : Block) (here : own ≡ block) (inputs : Types) (e : inputs ≡ input_types diagram (types_of diagram) place) (test : Bool) where
   at_part : (p : Part) → part ≡ p → (test ≡ true) ↔ keeps_part p diagram (types_of diagram) place own → (test ≡ true) ↔ keeps_part part diagram (types_of diagram) place block

@@ -10,3 +10,4 @@ pub mod TypedFit
 pub mod TypedInputs
 pub mod TypedLaws
 pub mod TypedScan
+pub mod TypedWith

@@ -8,6 +8,7 @@ ghost use Rattle.dg_model.specs.Widths.{widths_of};
 ghost use Rattle.dg_model.specs.Wired.{IsWired};
 ghost use Rattle.dg_types.specs.inner.Scanned.{IsScan, KeepAllBelow};
 
+use crate::build::linked;
 use crate::elements::is_bounded;
 use crate::fitting::keeps;
 use crate::scanning::{Scan, scan_of};
@@ -81,10 +82,9 @@ pub fn widths(alloc: Global, diagram: &Diagram) -> Result<PortWidths, CheckFault
     ensures kept { OnOk result (KeepsDimensions diagram.now) }
     ensures refused { IfErr result (IsRefusal (BreaksDimension diagram.now)) }
 {
-    let scan = scan_of(alloc, diagram)?;
-    let widths = widths_in(alloc, diagram, &scan);
-    drop(scan);
-    widths
+    let round = linked(alloc, diagram)?;
+    let scan = scan_of(alloc, diagram, &round)?;
+    widths_in(alloc, diagram, &scan)
 }
 
 /// The widths of a diagram that a scan found, where they keep the rule.

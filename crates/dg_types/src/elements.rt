@@ -21,19 +21,6 @@ fn elements_of(block: &Block, row: &[u32]) -> u64
     if block.outputs == 0 { 0 } else { total(row) }
 }
 
-/// How many elements all output ports have, saturating.
-fn all_outputs(blocks: &[Block], widths: &[Sizes]) -> u64
-    requires { length widths.now ≡ length blocks.now }
-    ensures { result ≡ min (2 ^ 64 - 1) (outputs_from widths.now 0 blocks.now) }
-{
-    let mut total: u64 = 0;
-    for place in 0..blocks.len() {
-        let row = widths[place].as_slice();
-        total = total.saturating_add(elements_of(&blocks[place], row));
-    }
-    total
-}
-
 /// How many elements all input ports have, saturating.
 fn all_inputs(edges: &[Edge], widths: &[Sizes]) -> u64
     requires { All (λ edge. edge.from < length widths.now) edges.now }
@@ -53,17 +40,21 @@ fn delayed(block: &Block, row: &[u32]) -> u64
     u64::from(block.kind.row().delay).saturating_mul(u64::from(first_of(row)))
 }
 
-/// How many samples all Delays keep of all of their elements, saturating.
-fn all_delayed(blocks: &[Block], widths: &[Sizes]) -> u64
+/// How many elements all output ports have, and how many samples all Delays keep of all of their
+/// elements, saturating.
+fn all_kept(blocks: &[Block], widths: &[Sizes]) -> (u64, u64)
     requires { length widths.now ≡ length blocks.now }
-    ensures { result ≡ min (2 ^ 64 - 1) (delays_from widths.now 0 blocks.now) }
+    ensures outputs { result.0 ≡ min (2 ^ 64 - 1) (outputs_from widths.now 0 blocks.now) }
+    ensures delayed { result.1 ≡ min (2 ^ 64 - 1) (delays_from widths.now 0 blocks.now) }
 {
-    let mut total: u64 = 0;
+    let mut outputs: u64 = 0;
+    let mut kept: u64 = 0;
     for place in 0..blocks.len() {
         let row = widths[place].as_slice();
-        total = total.saturating_add(delayed(&blocks[place], row));
+        outputs = outputs.saturating_add(elements_of(&blocks[place], row));
+        kept = kept.saturating_add(delayed(&blocks[place], row));
     }
-    total
+    (outputs, kept)
 }
 
 /// Whether there are few enough elements.
@@ -72,9 +63,7 @@ pub fn is_bounded(diagram: &Diagram, widths: &[Sizes]) -> bool
     requires from { All (λ edge. edge.from < length widths.now) diagram.now.edges }
     ensures { (result ≡ true) ↔ IsBounded diagram.now widths.now }
 {
-    let blocks = diagram.blocks.as_slice();
-    let outputs = all_outputs(blocks, widths);
+    let (outputs, kept) = all_kept(diagram.blocks.as_slice(), widths);
     let inputs = all_inputs(diagram.edges.as_slice(), widths);
-    let delayed = all_delayed(blocks, widths);
-    outputs <= MOST_OUTPUTS && inputs <= MOST_INPUTS && delayed <= MOST_DELAYED
+    outputs <= MOST_OUTPUTS && inputs <= MOST_INPUTS && kept <= MOST_DELAYED
 }

@@ -4,7 +4,6 @@ ghost use Rattle.dg_model.specs.Wired.{IsWired};
 ghost use Rattle.dg_types.specs.inner.Shown.{shape_of, declared_width as declared_width_of, first_held as first_held_of, all_first as all_first_of, Mirrors};
 ghost use Rattle.dg_types.specs.inner.Scanned.{IsScan};
 
-use crate::build::linked;
 use crate::linked::WidthRound;
 use crate::rows::{input_rows, rows_of};
 use dg_model::{Block, Diagram, Kind, Shape};
@@ -47,19 +46,8 @@ pub struct Scan {
     pub inputs: PortSizes,
 }
 
-/// Works out the rounds.
-pub fn scan_of(alloc: Global, diagram: &Diagram) -> Result<Scan, OutOfMemory>
-    requires { IsWired diagram.now }
-    ensures { IfOk result (IsScan diagram.now) }
-{
-    let round = linked(alloc, diagram)?;
-    let scan = scan_by(alloc, diagram, &round);
-    drop(round);
-    scan
-}
-
 /// Works out the rounds of a diagram that is linked so.
-fn scan_by(alloc: Global, diagram: &Diagram, round: &WidthRound) -> Result<Scan, OutOfMemory>
+pub fn scan_of(alloc: Global, diagram: &Diagram, round: &WidthRound) -> Result<Scan, OutOfMemory>
     requires wired { IsWired diagram.now }
     requires size { length round.now.sources ≡ length diagram.now.blocks }
     requires mirrors { Mirrors diagram.now round.now.forms round.now.sources }

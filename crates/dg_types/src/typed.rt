@@ -10,7 +10,8 @@ ghost use Rattle.dg_model.specs.TypeRounds.{types_of};
 ghost use Rattle.dg_model.specs.TypeRule.{KeepsTypes, BreaksType};
 ghost use Rattle.dg_model.specs.Wired.{IsWired};
 ghost use Rattle.dg_types.specs.inner.Shown.{Mirrors};
-ghost use Rattle.dg_types.specs.inner.TypedScan.{IsTyped, keeps_part, word_of as word_of_part, KeepBelow};
+ghost use Rattle.dg_types.specs.inner.TypedScan.{KeepsPart, KeepBelow, word_of};
+ghost use Rattle.dg_types.specs.inner.TypedWith.{AreTyped};
 
 use crate::typed_round::{TypeRound, known_types, round_of};
 use crate::typed_rule::{agrees, has_types, is_narrow};
@@ -41,33 +42,37 @@ pub enum Part {
     Agree,
 }
 
-/// What is told of a part that is broken.
-fn word_of(part: Part) -> &'static [u8]
-    ensures { result.now ≡ word_of_part part }
-{
-    match part {
-        Part::Narrow => b"wide",
-        Part::Known => b"missing",
-        Part::Agree => b"differs",
+impl Part {
+    /// What is told of a part that is broken.
+    fn word(self) -> &'static [u8]
+        ensures { result.now ≡ word_of self }
+    {
+        match self {
+            Part::Narrow => b"wide",
+            Part::Known => b"missing",
+            Part::Agree => b"differs",
+        }
     }
 }
 
+/// A diagram as the rounds of types see it, with the types after them.
+#[derive(Clone, Copy)]
+struct Typed<'a, 'b> {
+    diagram: &'a Diagram,
+    round: &'a TypeRound<'b>,
+    types: &'a [Option<FxType>],
+}
+
 /// Whether the block at a place keeps a part of the rule.
-fn keeps(
-    part: Part,
-    diagram: &Diagram,
-    round: &TypeRound<'_>,
-    types: &[Option<FxType>],
-    place: u32,
-) -> bool
-    requires typed { IsTyped diagram.now round.now.blocks.now round.now.links.forms
-        round.now.links.sources types.now }
-    requires there { place < length diagram.now.blocks }
-    ensures { (block : Block) → slice_get diagram.now.blocks place ≡ Some block →
-        (result ≡ true) ↔ keeps_part part diagram.now (types_of diagram.now) place block }
+fn keeps<'a, 'b>(part: Part, typed: Typed<'a, 'b>, place: u32) -> bool
+    requires typed { AreTyped typed }
+    requires there { place < length typed.diagram.now.blocks }
+    ensures { (block : Block) → slice_get typed.entry.diagram.now.blocks place ≡ Some block →
+        (result ≡ true) ↔ KeepsPart part typed.entry.diagram.now place block }
 {
-    let block = &round.blocks[place as usize];
-    let sources = round.links.sources_of(place);
+    let types = typed.types;
+    let block = &typed.round.blocks[place as usize];
+    let sources = typed.round.links.sources_of(place);
     match part {
         Part::Narrow => is_narrow(block, types, sources),
         Part::Known => has_types(block, types[place as usize], types, sources),
@@ -76,24 +81,19 @@ fn keeps(
 }
 
 /// The first block that breaks a part of the rule, if there is one.
-fn first_broken(
-    part: Part,
-    diagram: &Diagram,
-    round: &TypeRound<'_>,
-    types: &[Option<FxType>],
-) -> Option<usize>
-    requires wired { IsWired diagram.now }
-    requires typed { IsTyped diagram.now round.now.blocks.now round.now.links.forms
-        round.now.links.sources types.now }
-    ensures there { IfSome result (λ place. place < length diagram.now.blocks) }
+fn first_broken<'a, 'b>(part: Part, typed: Typed<'a, 'b>) -> Option<usize>
+    requires wired { IsWired typed.diagram.now }
+    requires typed { AreTyped typed }
+    ensures there { IfSome result (λ place. place < length typed.entry.diagram.now.blocks) }
     ensures broken { IfSome result (λ place. (block : Block) →
-        slice_get diagram.now.blocks place ≡ Some block →
-        ¬ keeps_part part diagram.now (types_of diagram.now) place block) }
-    ensures before { IfSome result (KeepBelow part diagram.now) }
-    ensures none { result ≡ None → KeepBelow part diagram.now (length diagram.now.blocks) }
+        slice_get typed.entry.diagram.now.blocks place ≡ Some block →
+        ¬ KeepsPart part typed.entry.diagram.now place block) }
+    ensures before { IfSome result (KeepBelow part typed.entry.diagram.now) }
+    ensures none { result ≡ None →
+        KeepBelow part typed.entry.diagram.now (length typed.entry.diagram.now.blocks) }
 {
-    for place in 0..diagram.blocks.as_slice().len() {
-        if !keeps(part, diagram, round, types, place as u32) {
+    for place in 0..typed.diagram.blocks.as_slice().len() {
+        if !keeps(part, typed, place as u32) {
             return Some(place);
         }
     }
@@ -103,36 +103,28 @@ fn first_broken(
 /// The fault of a path and a part.
 fn fault_at(alloc: Global, path: &Path, part: Part) -> Result<RuleFault, OutOfMemory>
     ensures { IfOk result (λ fault. fault
-        ≡ fault_of Rule.Type path.now (Word (word_of_part part))) }
+        ≡ fault_of Rule.Type path.now (Word (word_of part))) }
 {
     Ok(RuleFault {
         rule: Rule::Type,
         place: path.text(alloc)?,
-        shown: Shown::Word(Text::copy(alloc, word_of(part))?),
+        shown: Shown::Word(Text::copy(alloc, part.word())?),
     })
 }
 
 /// Refuses a diagram of which a block breaks a part of the rule.
-fn check(
-    alloc: Global,
-    part: Part,
-    diagram: &Diagram,
-    round: &TypeRound<'_>,
-    types: &[Option<FxType>],
-) -> Result<(), CheckFault>
-    requires wired { IsWired diagram.now }
-    requires typed { IsTyped diagram.now round.now.blocks.now round.now.links.forms
-        round.now.links.sources types.now }
+fn check<'a, 'b>(alloc: Global, part: Part, typed: Typed<'a, 'b>) -> Result<(), CheckFault>
+    requires wired { IsWired typed.diagram.now }
+    requires typed { AreTyped typed }
     ensures kept { OnOk result
-        (AllKeep diagram.now (keeps_part part diagram.now (types_of diagram.now))) }
-    ensures refused { IfErr result (IsRefusal (BreaksAt diagram.now Rule.Type
-        (keeps_part part diagram.now (types_of diagram.now))
-        (λ place block. Word (word_of_part part)))) }
+        (AllKeep typed.entry.diagram.now (KeepsPart part typed.entry.diagram.now)) }
+    ensures refused { IfErr result (IsRefusal (BreaksAt typed.entry.diagram.now Rule.Type
+        (KeepsPart part typed.entry.diagram.now) (λ place block. Word (word_of part)))) }
 {
-    let Some(place) = first_broken(part, diagram, round, types) else {
+    let Some(place) = first_broken(part, typed) else {
         return Ok(());
     };
-    let fault = fault_at(alloc, &diagram.blocks.as_slice()[place].path, part)?;
+    let fault = fault_at(alloc, &typed.diagram.blocks.as_slice()[place].path, part)?;
     Err(CheckFault::Broken(fault))
 }
 
@@ -158,36 +150,26 @@ fn kind_or_logical(kind: Option<FxType>) -> FxType
 }
 
 /// The type of the coefficients of the block at a place, and Logical where it has none.
-fn param_at(
-    diagram: &Diagram,
-    round: &TypeRound<'_>,
-    types: &[Option<FxType>],
-    place: u32,
-) -> FxType
-    requires typed { IsTyped diagram.now round.now.blocks.now round.now.links.forms
-        round.now.links.sources types.now }
-    requires there { place < length diagram.now.blocks }
-    ensures { result ≡ or_logical (param_type_at diagram.now (types_of diagram.now) place) }
+fn param_at<'a, 'b>(typed: Typed<'a, 'b>, place: u32) -> FxType
+    requires typed { AreTyped typed }
+    requires there { place < length typed.diagram.now.blocks }
+    ensures { result ≡ or_logical (param_type_at typed.entry.diagram.now
+        (types_of typed.entry.diagram.now) place) }
 {
-    let block = &round.blocks[place as usize];
-    kind_or_logical(coefficient_type(&block.kind, types, round.links.sources_of(place)))
+    let block = &typed.round.blocks[place as usize];
+    let sources = typed.round.links.sources_of(place);
+    kind_or_logical(coefficient_type(&block.kind, typed.types, sources))
 }
 
 /// The types of the coefficients of all blocks.
-fn all_params(
-    alloc: Global,
-    diagram: &Diagram,
-    round: &TypeRound<'_>,
-    types: &[Option<FxType>],
-) -> Result<FxTypes, OutOfMemory>
-    requires wired { IsWired diagram.now }
-    requires typed { IsTyped diagram.now round.now.blocks.now round.now.links.forms
-        round.now.links.sources types.now }
-    ensures { IfOk result (λ params. params ≡ params_of diagram.now) }
+fn all_params<'a, 'b>(alloc: Global, typed: Typed<'a, 'b>) -> Result<FxTypes, OutOfMemory>
+    requires wired { IsWired typed.diagram.now }
+    requires typed { AreTyped typed }
+    ensures { IfOk result (λ params. params ≡ params_of typed.entry.diagram.now) }
 {
     let mut params = FxTypes::new(alloc);
-    for place in 0..diagram.blocks.as_slice().len() {
-        params.push(param_at(diagram, round, types, place as u32))?;
+    for place in 0..typed.diagram.blocks.as_slice().len() {
+        params.push(param_at(typed, place as u32))?;
     }
     Ok(params)
 }
@@ -209,11 +191,16 @@ fn types_by(
 {
     let known = known_types(alloc, diagram, round)?;
     let types = known.as_slice();
-    check(alloc, Part::Narrow, diagram, round, types)?;
-    check(alloc, Part::Known, diagram, round, types)?;
-    check(alloc, Part::Agree, diagram, round, types)?;
+    let typed = Typed {
+        diagram,
+        round,
+        types,
+    };
+    check(alloc, Part::Narrow, typed)?;
+    check(alloc, Part::Known, typed)?;
+    check(alloc, Part::Agree, typed)?;
     let results = results_of(alloc, types)?;
-    let params = all_params(alloc, diagram, round, types)?;
+    let params = all_params(alloc, typed)?;
     Ok(BlockTypes { results, params })
 }
 
@@ -241,7 +228,5 @@ pub fn types(
     ensures refused { IfErr result (IsRefusal (BreaksType diagram.now)) }
 {
     let round = round_of(alloc, diagram)?;
-    let types = types_by(alloc, diagram, &round);
-    drop(round);
-    types
+    types_by(alloc, diagram, &round)
 }

@@ -11,7 +11,8 @@ use Rattle.dg_waves.specs.inner.Waves.{is_in}
 same_held : (old new : List ℕ) (block : ℕ) → slice_get old block ≡ slice_get new block → get_or old block 0 ≡ get_or new block 0
 same_held old new block same = sym (unwrap_or-slice_get old block 0) ∙ ap (λ (o : Option ℕ). unwrap_or o 0) same ∙ unwrap_or-slice_get new block 0
 
-same_sources : (old new : List ℕ) (sources : List Source) → ((k : ℕ) (source : Source) → slice_get sources k ≡ Some source → slice_get old source.block ≡ slice_get new source.block) → source_widths old sources ≡ source_widths new sources
+same_sources : (old new : List ℕ) (sources : List Source)
+    → ((k : ℕ) (source : Source) → slice_get sources k ≡ Some source → slice_get old source.block ≡ slice_get new source.block) → source_widths old sources ≡ source_widths new sources
 same_sources old new [] same = refl
 same_sources old new (x ∷ xs) same =
     let head : width_through x.share (get_or old x.block 0) ≡ width_through x.share (get_or new x.block 0) = ap (width_through x.share) (same_held old new x.block (same 0 x refl)) in

@@ -36,14 +36,16 @@ first_types blocks = map (λ block. explicit_type block.result) blocks
 same_type : (old new : Types) (block : ℕ) → slice_get old block ≡ slice_get new block → known_at old block ≡ known_at new block
 same_type old new block same = sym (unwrap_or-slice_get old block None) ∙ ap (λ (o : Option (Option FxType)). unwrap_or o None) same ∙ unwrap_or-slice_get new block None
 
-same_types : (old new : Types) (sources : List Source) → ((k : ℕ) (source : Source) → slice_get sources k ≡ Some source → slice_get old source.block ≡ slice_get new source.block) → source_types old sources ≡ source_types new sources
+same_types : (old new : Types) (sources : List Source)
+    → ((k : ℕ) (source : Source) → slice_get sources k ≡ Some source → slice_get old source.block ≡ slice_get new source.block) → source_types old sources ≡ source_types new sources
 same_types old new [] same = refl
 same_types old new (x ∷ xs) same =
     let head : known_at old x.block ≡ known_at new x.block = same_type old new x.block (same 0 x refl) in
     let tail : source_types old xs ≡ source_types new xs = same_types old new xs (λ k source at. same (suc k) source at) in
     cc
 
-pub typed_is_local : (blocks : List Block) (forms : List Form) (sources : List (List Source)) (readers : List (List ℕ)) (old new : Types) (block : ℕ) → AreLinked forms sources readers → block < length sources →
+pub typed_is_local : (blocks : List Block) (forms : List Form) (sources : List (List Source)) (readers : List (List ℕ)) (old new : Types) (block : ℕ)
+    → AreLinked forms sources readers → block < length sources →
     ((source : ℕ) → is_in block (get_or readers source []) ≡ true → slice_get old source ≡ slice_get new source) → next_typed blocks sources old block ≡ next_typed blocks sources new block
 typed_is_local blocks forms sources readers old new block linked inside same =
     let own = same_type old new block (same block (linked.own block inside)) in
@@ -167,13 +169,15 @@ own_valid OwnType.Untyped types is valid = tt
 own_valid (OwnType.Always type) types is valid = is
 own_valid OwnType.OfInput types is valid = known_valid types valid 0
 
-by_spec : (spec : TypeSpec) (internal first own : Option FxType) → IsKnownValid (explicit_type spec) → IsKnownValid internal → IsKnownValid first → IsKnownValid own → IsKnownValid (specified_type spec internal first own)
+by_spec : (spec : TypeSpec) (internal first own : Option FxType) → IsKnownValid (explicit_type spec) → IsKnownValid internal → IsKnownValid first
+    → IsKnownValid own → IsKnownValid (specified_type spec internal first own)
 by_spec (Fixed type) internal first own e i f o = e
 by_spec Internal internal first own e i f o = i
 by_spec SameFirst internal first own e i f o = f
 by_spec Auto internal first own e i f o = o
 
-next_valid : FullTypesAreValid → (o : Option Block) (types : Types) → ((block : Block) → o ≡ Some block → is_valid_spec block.result ≡ true) → All IsKnownValid types → IsKnownValid (type_of_next o types)
+next_valid : FullTypesAreValid → (o : Option Block) (types : Types) → ((block : Block) → o ≡ Some block → is_valid_spec block.result ≡ true)
+    → All IsKnownValid types → IsKnownValid (type_of_next o types)
 next_valid full None types ready valid = tt
 next_valid full (Some block) types ready valid =
     by_spec block.result (full_type (row_of block.kind).types.full types) (known_at types 0) (own_type (row_of block.kind).types.own types)
@@ -184,7 +188,8 @@ or_valid : (own other : Option FxType) → IsKnownValid own → IsKnownValid oth
 or_valid None other o t = t
 or_valid (Some type) other o t = o
 
-pub typed_stays : (blocks : List Block) (sources : List (List Source)) (values : Types) (block : ℕ) → AreReady blocks sources → FullTypesAreValid → All IsKnownValid values → IsKnownValid (next_typed blocks sources values block)
+pub typed_stays : (blocks : List Block) (sources : List (List Source)) (values : Types) (block : ℕ) → AreReady blocks sources → FullTypesAreValid
+    → All IsKnownValid values → IsKnownValid (next_typed blocks sources values block)
 typed_stays blocks sources values block ready full valid =
     or_valid (known_at values block) (type_of_next (slice_get blocks block) (source_types values (get_or sources block []))) (known_valid values valid block)
     (next_valid full (slice_get blocks block) (source_types values (get_or sources block []))

@@ -26,6 +26,9 @@ keeps_part Narrow diagram types place block = IsNotWide diagram types place bloc
 keeps_part Known diagram types place block = HasTypes diagram types place block
 keeps_part Agree diagram types place block = HasAgreeing diagram types place block
 
+abbrev pub KeepsPart : Part → Diagram → ℕ → Block → Type 0
+KeepsPart part diagram = keeps_part part diagram (types_of diagram)
+
 -- what is told of a part that is broken
 abbrev pub word_of : Part → List ℕ
 word_of Narrow = codes "wide"
@@ -34,4 +37,4 @@ word_of Agree = codes "differs"
 
 -- each block before a place keeps a part of the rule
 abbrev pub KeepBelow : Part → Diagram → ℕ → Type 0
-KeepBelow part diagram place = (other : ℕ) (block : Block) → other < place → slice_get diagram.blocks other ≡ Some block → keeps_part part diagram (types_of diagram) other block
+KeepBelow part diagram place = (other : ℕ) (block : Block) → other < place → slice_get diagram.blocks other ≡ Some block → KeepsPart part diagram other block

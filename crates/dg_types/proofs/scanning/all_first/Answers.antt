@@ -1,8 +1,7 @@
 use Rattle.std.proofs.Common.{Some, sym, ap, ◌∙◌}
 use Rattle.std.proofs.lemmas.List.{take_all}
 use Rattle.std.proofs.lemmas.Option.{slice_get-get_or}
-use Rattle.dg_model.specs.declared.diagram.Block.{Block}
-use Rattle.dg_types.specs.inner.Shown.{shape_of, declared_width, first_held, all_first}
+use Rattle.dg_types.specs.inner.Shown.{all_first}
 use Rattle.dg_types.proofs.Numbered.{made_more}
 use Rattle.dg_types.proofs.scanning.all_first.Goals as goal
 
@@ -12,9 +11,7 @@ first_held-requires c =
     c.requires c.loop-block.block-index block (slice_get-get_or c.args.blocks.now c.loop-block.block-index block c.loop-block-test.true ∙ ap Some (sym c.block-item.is))
 
 pub loop-block-preserved : goal.loop-block-preserved
-loop-block-preserved c =
-    made_more (λ (block : Block). first_held (shape_of block.kind) (declared_width block.kind)) c.args.blocks.now c.loop-block.block-index c.block-item.result c.first_held.result _ _
-    c.loop-block-test.true c.block-item.is c.first_held.ensures c.loop-block.invariant c.in_ok-push.ensures.items
+loop-block-preserved c = made_more _ c.args.blocks.now c.loop-block-test.true c.block-item.is c.first_held.ensures c.loop-block.invariant c.in_ok-push.ensures.items
 
 pub returns : goal.returns
 returns c = c.loop-block.invariant ∙ ap all_first (take_all c.loop-block.block-index c.args.blocks.now c.loop-block-test.false)

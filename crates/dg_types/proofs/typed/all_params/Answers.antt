@@ -8,7 +8,7 @@ use Rattle.dg_types.proofs.typed.all_params.Goals as goal
 
 pub loop-place-preserved : goal.loop-place-preserved
 loop-place-preserved c =
-    let diagram = c.args.diagram.now in
+    let diagram = c.args.typed.diagram.now in
     let f : ℕ → FxType = λ place. or_logical (param_type_at diagram (types_of diagram) place) in
     c.in_ok-push.ensures.appended
     ∙ ap (λ (xs : List FxType). xs ++ c.param_at.result ∷ []) c.loop-place.invariant

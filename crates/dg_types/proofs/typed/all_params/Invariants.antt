@@ -5,4 +5,4 @@ use Rattle.dg_model.specs.TypeRounds.{types_of}
 use Rattle.dg_types.proofs.typed.all_params.Given as goal
 
 abbrev pub invariant-loop-place : goal.invariant-loop-place
-invariant-loop-place l = l.params ≡ map (λ place. or_logical (param_type_at l.diagram (types_of l.diagram) place)) (numbers_from 0 l.place)
+invariant-loop-place l = l.params ≡ map (λ place. or_logical (param_type_at l.typed.diagram.now (types_of l.typed.diagram.now) place)) (numbers_from 0 l.place)

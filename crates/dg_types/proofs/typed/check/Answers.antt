@@ -13,7 +13,7 @@ returns-in_default-clause-kept c = λ place block at. c.first_broken.ensures.non
 
 pub returns-clause-refused : goal.returns-clause-refused
 returns-clause-refused c =
-    let diagram = c.args.diagram.now in
+    let diagram = c.args.typed.diagram.now in
     let place = c.in-Some.place in
     let block = c.index-as_slice-place.result in
     let at : slice_get diagram.blocks place ≡ Some block = slice_get-get_or diagram.blocks place block c.in-Some.ensures.there ∙ ap Some (sym (rw c.as_slice.ensures at c.index-as_slice-place.is)) in

@@ -1,6 +1,6 @@
-use Rattle.std.proofs.Common.{◌≡◌, ℕ, ◌<◌, List, Some, [], length, get_or, sym, subst, ap, ◌∙◌}
+use Rattle.std.proofs.Common.{◌≡◌, ℕ, ◌<◌, List, Some, [], length, get_or, sym, ap, ◌∙◌}
 use Rattle.std.specs.Prelude.{slice_get}
-use Rattle.std.proofs.lemmas.Option.{get_or_from_slice_get, slice_get-get_or}
+use Rattle.std.proofs.lemmas.Option.{get_or_from_slice_get}
 use Rattle.dg_model.specs.declared.diagram.Block.{Block}
 use Rattle.dg_model.specs.declared.diagram.Diagram.{Diagram}
 use Rattle.dg_model.specs.Periods.{known_at}
@@ -9,7 +9,7 @@ use Rattle.dg_types.specs.declared.linked.Form.{Form}
 use Rattle.dg_types.specs.declared.linked.Source.{Source}
 use Rattle.dg_types.specs.inner.TypedInputs.{source_types}
 use Rattle.dg_types.specs.inner.TypedScan.{IsTyped}
-use Rattle.dg_types.proofs.TypedParts.{is_narrow_part, is_known_part, is_agree_part}
+use Rattle.dg_types.proofs.TypedParts.{ready_at, is_narrow_part, is_known_part, is_agree_part}
 use Rattle.dg_types.proofs.TypedWired.{inputs_are_typed}
 use Rattle.dg_types.proofs.typed.keeps.Goals as goal
 
@@ -31,11 +31,7 @@ pub is_narrow-requires-clause-read : goal.is_narrow-requires-clause-read
 is_narrow-requires-clause-read c = record { there = rw (c.requires.typed.types_size ∙ sym c.requires.typed.size) c.sources_of-sources.ensures.there; valid = c.requires.typed.valid }
 
 pub is_narrow-requires-clause-ready : goal.is_narrow-requires-clause-ready
-is_narrow-requires-clause-ready c =
-    let place = c.args.place in
-    let round = c.args.round.now in
-    let inside : place < length round.blocks.now = subst (λ (bs : List Block). place < length bs) (sym c.requires.typed.blocks_are) c.requires.there in
-    rw c.sources_of-sources.ensures.value (round.ready.ready place _ (slice_get-get_or round.blocks.now place _ inside))
+is_narrow-requires-clause-ready c = rw c.sources_of-sources.ensures.value (ready_at c.requires.typed c.args.typed.round.now.ready c.args.place _ c.requires.there)
 
 pub has_types-requires : goal.has_types-requires
 has_types-requires c = record { there = rw (c.requires.typed.types_size ∙ sym c.requires.typed.size) c.sources_of-sources.ensures.there; valid = c.requires.typed.valid }
@@ -45,18 +41,18 @@ agrees-requires c = record { there = rw (c.requires.typed.types_size ∙ sym c.r
 
 pub returns-in-Narrow : goal.returns-in-Narrow
 returns-in-Narrow c block at =
-    let links = c.args.round.now.links in
-    let is = read c.args.diagram.now c.args.round.now.blocks.now links.forms links.sources c.args.types.now c.args.place c.index-round-place.result block c.sources_of-sources.result.now c.requires.typed c.requires.there at c.sources_of-sources.ensures.value in
-    is_narrow_part c.args.diagram.now c.args.place c.args.part _ block is.here _ is.inputs_are c.is_narrow.result c.in-Narrow.is c.is_narrow.ensures
+    let links = c.args.typed.round.now.links in
+    let is = read c.args.typed.diagram.now c.args.typed.round.now.blocks.now links.forms links.sources c.args.typed.types.now c.args.place c.index-typed-place.result block c.sources_of-sources.result.now c.requires.typed c.requires.there at c.sources_of-sources.ensures.value in
+    is_narrow_part c.args.typed.diagram.now c.args.place c.args.part _ block is.here _ is.inputs_are c.is_narrow.result c.in-Narrow.is c.is_narrow.ensures
 
 pub returns-in-Known : goal.returns-in-Known
 returns-in-Known c block at =
-    let links = c.args.round.now.links in
-    let is = read c.args.diagram.now c.args.round.now.blocks.now links.forms links.sources c.args.types.now c.args.place c.index-round-place.result block c.sources_of-sources.result.now c.requires.typed c.requires.there at c.sources_of-sources.ensures.value in
-    is_known_part c.args.diagram.now c.args.place c.args.part _ block is.here _ is.inputs_are c.has_types.result (known_at c.args.types.now c.args.place) (ap (λ (ts : Types). known_at ts c.args.place) c.requires.typed.types_are) c.in-Known.is c.has_types.ensures
+    let links = c.args.typed.round.now.links in
+    let is = read c.args.typed.diagram.now c.args.typed.round.now.blocks.now links.forms links.sources c.args.typed.types.now c.args.place c.index-typed-place.result block c.sources_of-sources.result.now c.requires.typed c.requires.there at c.sources_of-sources.ensures.value in
+    is_known_part c.args.typed.diagram.now c.args.place c.args.part _ block is.here _ is.inputs_are c.has_types.result (known_at c.args.typed.types.now c.args.place) (ap (λ (ts : Types). known_at ts c.args.place) c.requires.typed.types_are) c.in-Known.is c.has_types.ensures
 
 pub returns-in-Agree : goal.returns-in-Agree
 returns-in-Agree c block at =
-    let links = c.args.round.now.links in
-    let is = read c.args.diagram.now c.args.round.now.blocks.now links.forms links.sources c.args.types.now c.args.place c.index-round-place.result block c.sources_of-sources.result.now c.requires.typed c.requires.there at c.sources_of-sources.ensures.value in
-    is_agree_part c.args.diagram.now c.args.place c.args.part _ block is.here _ is.inputs_are c.agrees.result c.in-Agree.is c.agrees.ensures
+    let links = c.args.typed.round.now.links in
+    let is = read c.args.typed.diagram.now c.args.typed.round.now.blocks.now links.forms links.sources c.args.typed.types.now c.args.place c.index-typed-place.result block c.sources_of-sources.result.now c.requires.typed c.requires.there at c.sources_of-sources.ensures.value in
+    is_agree_part c.args.typed.diagram.now c.args.place c.args.part _ block is.here _ is.inputs_are c.agrees.result c.in-Agree.is c.agrees.ensures

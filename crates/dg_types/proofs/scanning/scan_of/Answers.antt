@@ -8,8 +8,8 @@ use Rattle.dg_types.specs.inner.Shown.{shown, all_first}
 use Rattle.dg_types.proofs.FromWired.{have_rows, is_laid}
 use Rattle.dg_types.proofs.Shown.{first_fits, length_first, length_shown}
 use Rattle.dg_types.proofs.ScanFacts.{ends_there, is_scan}
-use Rattle.dg_types.proofs.scanning.scan_by.Goals as goal
-use Rattle.dg_types.proofs.scanning.scan_by.Goals.{After-as_slice, After-as_slice-4}
+use Rattle.dg_types.proofs.scanning.scan_of.Goals as goal
+use Rattle.dg_types.proofs.scanning.scan_of.Goals.{After-as_slice, After-as_slice-4}
 
 pub after_rounds-requires-clause-fit : goal.after_rounds-requires-clause-fit
 after_rounds-requires-clause-fit c =
