@@ -7,14 +7,17 @@ use Rattle.dg_model.specs.declared.kind.Kind.TheVariants.{Inport, Outport, Sum, 
 use Rattle.dg_model.specs.declared.nested.NestedBlock.{NestedBlock}
 use Rattle.dg_model.specs.declared.nested.NestedLine.{NestedLine}
 use Rattle.dg_model.specs.declared.nested.Part.TheVariants.{Plain, In, Out, SubSystem, Enable}
-use Rattle.dg_model.specs.declared.nested.Target.{Target}
 use Rattle.dg_model.specs.declared.nested.Target.TheVariants.{Port, Enable as ToEnable}
 use Rattle.dg_model.specs.declared.diagram.Edge.{Edge}
 use Rattle.dg_flat.specs.Flat.{flat_blocks, edge_of}
 use Rattle.dg_flat.proofs.Subsystems.{plain, within, flat}
 
-abbrev line : ℕ → ℕ → ℕ → Target → NestedLine
-line from from_port to target = record { from = from; from_port = from_port; to = to; target = target }
+-- a line into an input port, and one into the port of the control
+abbrev line : ℕ → ℕ → ℕ → ℕ → NestedLine
+line from from_port to port = record { from = from; from_port = from_port; to = to; target = Port port }
+
+abbrev enabling : ℕ → ℕ → ℕ → NestedLine
+enabling from from_port to = record { from = from; from_port = from_port; to = to; target = ToEnable }
 
 abbrev edge : ℕ → ℕ → ℕ → ℕ → Option Edge
 edge from from_port to to_port = Some (record { from = from; from_port = from_port; to = to; to_port = to_port })
@@ -36,7 +39,7 @@ added_blocks : flat_blocks added ≡
     ∷ []
 added_blocks = refl
 
-added_edges : map (edge_of added) (line 0 1 1 (Port 1) ∷ line 2 1 1 (Port 2) ∷ line 1 1 3 (Port 1) ∷ line 1 1 2 (Port 1) ∷ [])
+added_edges : map (edge_of added) (line 0 1 1 1 ∷ line 2 1 1 2 ∷ line 1 1 3 1 ∷ line 1 1 2 1 ∷ [])
     ≡ edge 0 1 1 1 ∷ edge 2 1 1 2 ∷ edge 1 1 3 1 ∷ edge 1 1 2 1 ∷ []
 added_edges = refl
 
@@ -74,12 +77,8 @@ crossed_blocks : flat_blocks crossed ≡
 crossed_blocks = refl
 
 crossed_edges : map (edge_of crossed)
-    (line 0 1 2 (Port 1) ∷ line 1 1 2 (Port 2) ∷ line 2 1 12 (Port 1) ∷ line 2 2 13 (Port 1)
-    ∷ line 3 1 5 (Port 1) ∷ line 4 1 5 (Port 2) ∷ line 5 1 10 (Port 1) ∷ line 5 2 11 (Port 1)
-    ∷ line 6 1 8 (Port 1) ∷ line 7 1 9 (Port 1) ∷ [])
-    ≡ edge 0 1 3 1 ∷ edge 1 1 2 1 ∷ edge 8 1 10 1 ∷ edge 9 1 11 1
-    ∷ edge 2 1 4 1 ∷ edge 3 1 5 1 ∷ edge 7 1 8 1 ∷ edge 6 1 9 1
-    ∷ edge 4 1 6 1 ∷ edge 5 1 7 1 ∷ []
+    (line 0 1 2 1 ∷ line 1 1 2 2 ∷ line 2 1 12 1 ∷ line 2 2 13 1 ∷ line 3 1 5 1 ∷ line 4 1 5 2 ∷ line 5 1 10 1 ∷ line 5 2 11 1 ∷ line 6 1 8 1 ∷ line 7 1 9 1 ∷ [])
+    ≡ edge 0 1 3 1 ∷ edge 1 1 2 1 ∷ edge 8 1 10 1 ∷ edge 9 1 11 1 ∷ edge 2 1 4 1 ∷ edge 3 1 5 1 ∷ edge 7 1 8 1 ∷ edge 6 1 9 1 ∷ edge 4 1 6 1 ∷ edge 5 1 7 1 ∷ []
 crossed_edges = refl
 
 -- ---- an enabled subsystem with a Delay, a Gain and a subsystem with a Delay; a Delay behind it
@@ -116,10 +115,6 @@ enabled_blocks : flat_blocks enabled ≡
 enabled_blocks = refl
 
 enabled_edges : map (edge_of enabled)
-    (line 0 1 1 (Port 1) ∷ line 0 1 1 ToEnable ∷ line 1 1 11 (Port 1) ∷ line 11 1 12 (Port 1)
-    ∷ line 3 1 4 (Port 1) ∷ line 4 1 5 (Port 1) ∷ line 5 1 6 (Port 1) ∷ line 6 1 10 (Port 1)
-    ∷ line 7 1 8 (Port 1) ∷ line 8 1 9 (Port 1) ∷ [])
-    ≡ edge 0 1 2 1 ∷ edge 0 1 1 1 ∷ edge 8 1 9 1 ∷ edge 9 1 10 1
-    ∷ edge 2 1 3 1 ∷ edge 3 1 4 1 ∷ edge 4 1 5 1 ∷ edge 7 1 8 1
-    ∷ edge 5 1 6 1 ∷ edge 6 1 7 1 ∷ []
+    (line 0 1 1 1 ∷ enabling 0 1 1 ∷ line 1 1 11 1 ∷ line 11 1 12 1 ∷ line 3 1 4 1 ∷ line 4 1 5 1 ∷ line 5 1 6 1 ∷ line 6 1 10 1 ∷ line 7 1 8 1 ∷ line 8 1 9 1 ∷ [])
+    ≡ edge 0 1 2 1 ∷ edge 0 1 1 1 ∷ edge 8 1 9 1 ∷ edge 9 1 10 1 ∷ edge 2 1 3 1 ∷ edge 3 1 4 1 ∷ edge 4 1 5 1 ∷ edge 7 1 8 1 ∷ edge 5 1 6 1 ∷ edge 6 1 7 1 ∷ []
 enabled_edges = refl

@@ -54,11 +54,8 @@ abbrev pub resets : Option NestedBlock → Bool
 resets None = false
 resets (Some block) = of_part block.part where
   of_part : Part → Bool
-  of_part (Plain block) = false
-  of_part (In block number) = false
-  of_part (Out block number) = false
-  of_part SubSystem = false
   of_part (Enable reset) = reset
+  of_part _ = false
 
 abbrev pub resets_under : List NestedBlock → Option ℕ → Bool
 resets_under blocks None = false
@@ -66,17 +63,7 @@ resets_under blocks (Some control) = resets (slice_get blocks control)
 
 -- a block with this path, and this enable
 abbrev pub placed_as : List ℕ → Bool → Option ℕ → Block → Block
-placed_as path resets enable block = record {
-  path = path;
-  kind = resetting resets block.kind;
-  inputs = block.inputs;
-  outputs = block.outputs;
-  result = block.result;
-  rounding = block.rounding;
-  saturate = block.saturate;
-  period = block.period;
-  enable = enable;
-}
+placed_as path resets enable block = record block { path = path; kind = resetting resets block.kind; enable = enable }
 
 -- a block with its path, in the enabled subsystem of this EnablePort
 abbrev pub placed : List NestedBlock → ℕ → Option ℕ → Block → Block
@@ -85,17 +72,7 @@ placed blocks place control =
 
 -- the control of an enabled subsystem with this path
 abbrev pub control_as : List ℕ → Block
-control_as path = record {
-  path = path;
-  kind = EnableTest;
-  inputs = 1;
-  outputs = 1;
-  result = Auto;
-  rounding = Floor;
-  saturate = false;
-  period = Inherit;
-  enable = None;
-}
+control_as path = record { path = path; kind = EnableTest; inputs = 1; outputs = 1; result = Auto; rounding = Floor; saturate = false; period = Inherit; enable = None }
 
 -- the control of an enabled subsystem
 abbrev pub control_block : List NestedBlock → ℕ → Block

@@ -36,33 +36,21 @@ same_system None (Some other) = false
 same_system (Some system) None = false
 
 abbrev pub is_subsystem : Part → Bool
-is_subsystem (Plain block) = false
-is_subsystem (In block number) = false
-is_subsystem (Out block number) = false
 is_subsystem SubSystem = true
-is_subsystem (Enable reset) = false
+is_subsystem _ = false
 
 abbrev pub is_enable_port : Part → Bool
-is_enable_port (Plain block) = false
-is_enable_port (In block number) = false
-is_enable_port (Out block number) = false
-is_enable_port SubSystem = false
 is_enable_port (Enable reset) = true
+is_enable_port _ = false
 
 -- the number of an Inport, and of an Outport
 abbrev pub in_number : Part → Option ℕ
-in_number (Plain block) = None
 in_number (In block number) = Some number
-in_number (Out block number) = None
-in_number SubSystem = None
-in_number (Enable reset) = None
+in_number _ = None
 
 abbrev pub out_number : Part → Option ℕ
-out_number (Plain block) = None
-out_number (In block number) = None
 out_number (Out block number) = Some number
-out_number SubSystem = None
-out_number (Enable reset) = None
+out_number _ = None
 
 abbrev pub is_number : ℕ → Option ℕ → Bool
 is_number number None = false
@@ -78,20 +66,19 @@ first_in blocks system is_such = position (λ block. same_system block.parent sy
 
 -- ---- ports
 
--- how many output and input ports the block at a place has: a subsystem has one for each Outport and Inport in it
-abbrev pub outputs_of : List NestedBlock → ℕ → Part → ℕ
-outputs_of blocks place (Plain block) = block.outputs
-outputs_of blocks place (In block number) = 1
-outputs_of blocks place (Out block number) = 0
-outputs_of blocks place SubSystem = count_in blocks (Some place) (λ part. is_some (out_number part))
-outputs_of blocks place (Enable reset) = 0
+-- how many input and output ports the block at a place has: a subsystem has one for each Inport and Outport in it
+abbrev pub ports_of : List NestedBlock → ℕ → Part → ℕ × ℕ
+ports_of blocks place (Plain block) = (block.inputs, block.outputs)
+ports_of blocks place (In block number) = (0, 1)
+ports_of blocks place (Out block number) = (1, 0)
+ports_of blocks place SubSystem = (count_in blocks (Some place) (λ part. is_some (in_number part)), count_in blocks (Some place) (λ part. is_some (out_number part)))
+ports_of blocks place (Enable reset) = (0, 0)
 
 abbrev pub inputs_of : List NestedBlock → ℕ → Part → ℕ
-inputs_of blocks place (Plain block) = block.inputs
-inputs_of blocks place (In block number) = 0
-inputs_of blocks place (Out block number) = 1
-inputs_of blocks place SubSystem = count_in blocks (Some place) (λ part. is_some (in_number part))
-inputs_of blocks place (Enable reset) = 0
+inputs_of blocks place part = (ports_of blocks place part).0
+
+abbrev pub outputs_of : List NestedBlock → ℕ → Part → ℕ
+outputs_of blocks place part = (ports_of blocks place part).1
 
 -- the EnablePort of a System
 abbrev pub enable_port : List NestedBlock → Option ℕ → Option ℕ

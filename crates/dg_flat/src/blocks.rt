@@ -1,8 +1,7 @@
 ghost use Rattle.std.specs.Prelude.{◌≡◌, ℕ, ◌<◌, ◌≤◌, List, length, slice_get, option_map, MatchOption, IfOk, Some, ⊤};
 ghost use Rattle.dg_model.specs.declared.nested.NestedBlock.{NestedBlock};
-ghost use Rattle.dg_flat.specs.Flat.{flat_place, flat_block as flat_block_of, flat_blocks as flat_blocks_of, resets_under as resets_under_of};
+ghost use Rattle.dg_flat.specs.Flat.{flat_place, flat_block as flat_block_of, flat_blocks as flat_blocks_of, resets, resets_under, placed_as, control_as};
 ghost use Rattle.dg_flat.specs.Parts.{control_of};
-ghost use Rattle.dg_flat.specs.Flat.{placed_as, control_as};
 ghost use Rattle.dg_flat.specs.inner.Paths.{ArePaths};
 ghost use Rattle.dg_flat.specs.inner.Slots.{slot_of, HaveParents};
 ghost use Rattle.dg_flat.specs.inner.Systems.{AreSystems};
@@ -33,29 +32,15 @@ pub fn flat_places(alloc: Global, blocks: &[NestedBlock]) -> Result<Vec<u32>, Ou
     Ok(places)
 }
 
-/// Whether the states in the enabled subsystem of an EnablePort begin anew when it is enabled.
-fn resets_under(blocks: &[NestedBlock], control: Option<u32>) -> bool
-    ensures { result ≡ resets_under_of blocks.now control }
+/// Whether the states in the enabled subsystem of the EnablePort at a place begin anew when it is
+/// enabled.
+fn resets_at(blocks: &[NestedBlock], control: u32) -> bool
+    requires { control < length blocks.now }
+    ensures { result ≡ resets (slice_get blocks.now control) }
 {
-    let Some(place) = control else { return false };
-    let Some(block) = blocks.get(place as usize) else {
-        return false
-    };
-    match block.part {
+    match blocks[control as usize].part {
         Part::Enable { reset } => reset,
         Part::Plain(_) | Part::In(_, _) | Part::Out(_, _) | Part::SubSystem => false,
-    }
-}
-
-/// The EnableTest that an EnablePort becomes.
-fn enable_of(places: &[u32], control: Option<u32>) -> Option<u32>
-    requires { MatchOption control ⊤ (λ place. place < length places.now) }
-    ensures { (blocks : List NestedBlock) → IsTable (length blocks) (flat_place blocks) places.now →
-        result ≡ option_map (flat_place blocks) control }
-{
-    match control {
-        None => None,
-        Some(place) => Some(places[place as usize]),
     }
 }
 
@@ -111,11 +96,16 @@ fn placed_under(
 ) -> Result<Block, OutOfMemory>
     requires places { IsTable (length blocks.now) (flat_place blocks.now) places.now }
     requires inside { MatchOption control ⊤ (λ place. place < length blocks.now) }
-    ensures { IfOk result (λ flat. flat ≡ placed_as path (resets_under_of blocks.now control)
+    ensures { IfOk result (λ flat. flat ≡ placed_as path (resets_under blocks.now control)
         (option_map (flat_place blocks.now) control) block.now) }
 {
-    let enable = enable_of(places, control);
-    placed(alloc, block, path, resets_under(blocks, control), enable)
+    match control {
+        None => placed(alloc, block, path, false, None),
+        Some(control) => {
+            let resets = resets_at(blocks, control);
+            placed(alloc, block, path, resets, Some(places[control as usize]))
+        }
+    }
 }
 
 /// The block that a part becomes; a subsystem becomes none.
