@@ -1,4 +1,5 @@
--- Which cycle a fault of the rule of loops tells, where that is to be one: a shortest through the least block on any, and of these the one whose edges, followed back from that block, stand first (own).
+-- Which cycle a fault of the rule of loops tells, where that is to be one: a shortest through the least block on any,
+-- and of these the one whose edges, followed back from that block, stand first (own).
 use Rattle.std.specs.Prelude.{◌≡◌, ℕ, ◌<◌, ◌≤◌, ◌==◌, ◌&&◌, ◌⊎◌, Bool, List, [], ◌∷◌, length, reverse, ⊤}
 use Rattle.std.specs.List.{position_or_len}
 use Rattle.dg_model.specs.declared.diagram.Diagram.{Diagram}

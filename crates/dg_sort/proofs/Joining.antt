@@ -126,10 +126,7 @@ module _ (rows : List (List ℕ)) (marks : List Mark) (held : List ℕ) (groups 
   read_joined : (low edge other : ℕ) → IsRead rows held groups low edge other → IsRead rows held joined low edge other
   read_joined low edge other read = record {
     place = read.place;
-    block = read.block;
-    at = read.at;
-    reads = read.reads;
-    from = read.from;
+    reader = read.reader;
     before = λ k group there below. ⊎_elim
         (λ old. read.before k group old.1 below)
         (λ new. subst (λ (g : Group). read.place < g.start) new.1 (read.before join.last join.group join.there (subst (λ (g : Group). edge < g.edges) (sym new.1) below)))
@@ -211,14 +208,8 @@ joins groups cut last place group other shape inside is also low above =
     let same : other ≡ group = also ∙ ap (λ gs. get_or gs last other) shape ∙ get_or-take (last + 1) groups last other (omega arith) ∙ get_or_from_slice_get groups last group other at in
     let size = length-take-le last groups (omega arith) in
     let whole = take_more groups last group inside in
-    record {
-      last = last;
-      group = group;
-      there = at;
-      low = low;
-      above = above;
-      are =
-          ap (λ gs. set gs last (record { start = other.start; edges = other.edges; is_cycle = true })) (shape ∙ whole)
-          ∙ set_at (take last groups) (get_or groups last group) [] (record { start = other.start; edges = other.edges; is_cycle = true }) last size
-          ∙ ap (λ (g : Group). take last groups ++ on_cycle g ∷ []) same;
-    }
+    let are : set cut last (record { start = other.start; edges = other.edges; is_cycle = true }) ≡ take last groups ++ on_cycle group ∷ [] =
+    ap (λ gs. set gs last (record { start = other.start; edges = other.edges; is_cycle = true })) (shape ∙ whole)
+    ∙ set_at (take last groups) (get_or groups last group) [] (record { start = other.start; edges = other.edges; is_cycle = true }) last size
+    ∙ ap (λ (g : Group). take last groups ++ on_cycle g ∷ []) same in
+    record { last = last; group = group; there = at; low = low; above = above; are = are }

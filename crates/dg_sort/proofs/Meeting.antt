@@ -206,13 +206,10 @@ module _ (rows : List (List ℕ)) (held : List ℕ) (groups : List Group) (edges
     left_before : (low edge source : ℕ) → slice_get front edge ≡ Some source → IsRead rows held groups low edge source → IsRead rows (held ++ block ∷ []) (groups ++ new_group held front ∷ []) low edge source
     left_before low edge source at read = record {
       place = read.place;
-      block = read.block;
-      at = get_left held (block ∷ []) read.place read.block read.at;
-      reads = read.reads;
-      from = read.from;
+      reader = record { block = read.reader.block; at = get_left held (block ∷ []) read.place read.reader.block read.reader.at; reads = read.reader.reads; from = read.reader.from };
       before = λ k group there below. ⊎_elim
           (λ (old : slice_get groups k ≡ Some group). read.before k group old below)
-          (λ new. subst (λ (g : Group). read.place < g.start) new.1 (slice_get_within held read.place read.block read.at))
+          (λ new. subst (λ (g : Group). read.place < g.start) new.1 (slice_get_within held read.place read.reader.block read.reader.at))
           (push_cases groups (new_group held front) k group there);
     }
 
@@ -220,10 +217,7 @@ module _ (rows : List (List ℕ)) (held : List ℕ) (groups : List Group) (edges
     left_new : (low edge source : ℕ) → low ≤ length held → length front ≤ edge → slice_get (row_at rows block) (edge - length front) ≡ Some source → IsRead rows (held ++ block ∷ []) (groups ++ new_group held front ∷ []) low edge source
     left_new low edge source from above at = record {
       place = length held;
-      block = block;
-      at = last_at held block;
-      reads = record { place = edge - length front; at = at };
-      from = from;
+      reader = record { block = block; at = last_at held block; reads = record { place = edge - length front; at = at }; from = from };
       before = λ k group there below. ⊎_elim
           (λ (old : slice_get groups k ≡ Some group). let few = popped.room k group old in absurd (omega (arith, few, below, above)))
           (λ new. let high = subst (λ (g : Group). edge < g.edges) (sym new.1) below in absurd (omega (arith, high, above)))

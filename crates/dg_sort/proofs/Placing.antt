@@ -352,12 +352,11 @@ module _ (rows : List (List ℕ)) (marks : List Mark) (held order : List ℕ) (f
   left' k edge source other at from here =
       let read = reads.left k edge source other (low_group k other at).0 from here in
       let inside = slice_get_within edges edge source here in
+      let reader = read.reader in
+      let at = get_taken group.start held read.place reader.block (read.before (length groups - 1) group last (omega (arith, inside, spent))) reader.at in
       record {
         place = read.place;
-        block = read.block;
-        at = get_taken group.start held read.place read.block (read.before (length groups - 1) group last (omega (arith, inside, spent))) read.at;
-        reads = read.reads;
-        from = read.from;
+        reader = record { block = reader.block; at = at; reads = reader.reads; from = reader.from };
         before = λ j another there below. read.before j another (low_group j another there).0 below;
       }
 

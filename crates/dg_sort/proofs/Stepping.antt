@@ -125,12 +125,12 @@ taken rows walk group front source next =
     record {
       popped = one_popped walk.groups walk.held walk.edges front source group state.groups last shape room;
       top = read.place;
-      reader = read.block;
-      at = read.at;
-      reads = read.reads;
+      reader = read.reader.block;
+      at = read.reader.at;
+      reads = read.reader.reads;
       highest = λ k other at.
           let high = (last_highest walk.groups walk.held walk.edges k other group state.groups last at).0 in
-          let from = read.from in
+          let from = read.reader.from in
           omega (arith, high, from);
       shorter = omega (arith, size);
     }

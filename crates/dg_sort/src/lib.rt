@@ -11,9 +11,11 @@
 #![tactic(auto)]
 
 mod cycle;
+mod instant;
 mod ordering;
 mod rows;
 mod search;
 
+pub use instant::{control_now, reads_now};
 pub use ordering::order;
-pub use rows::{control_now, reads_now, rows_of};
+pub use rows::rows_of;

@@ -1,26 +1,13 @@
 ghost use Rattle.std.specs.Prelude.{◌≡◌, ◌<◌, IfOk, length};
-ghost use Rattle.dg_model.specs.Instant.{is_now};
-ghost use Rattle.dg_model.specs.Library.{row_of};
 ghost use Rattle.dg_model.specs.Periods.{periods_of};
 ghost use Rattle.dg_model.specs.Wired.{IsWired};
-ghost use Rattle.dg_sort.specs.Control.{control_now as control_now_of};
 ghost use Rattle.dg_sort.specs.Rows.{AreRows};
 ghost use Rattle.dg_sort.specs.inner.Rows.{is_line_instant};
 
-use dg_model::{Asking, Block, Diagram, Edge, Kind, Reading, is_slow_to_fast};
+use crate::instant::{control_now, reads_now};
+use dg_model::{Block, Diagram, Edge, is_slow_to_fast};
 use fx_io::{OutOfMemory, Sizes, empty_rows, push_at};
 use std::alloc::Global;
-
-/// Whether a block of this kind reads its inputs in its own sample, by whether its input is slower.
-pub fn reads_now(kind: &Kind, slower: bool) -> bool
-    ensures { result ≡ is_now (row_of kind.now).timing.reads slower }
-{
-    match kind.row().reads {
-        Reading::Now => true,
-        Reading::Before => false,
-        Reading::BeforeIfSlower => !slower,
-    }
-}
 
 /// Whether an edge's end is read in the sample of its source.
 fn is_instant(blocks: &[Block], periods: &[Option<u32>], edge: Edge) -> bool
@@ -31,16 +18,6 @@ fn is_instant(blocks: &[Block], periods: &[Option<u32>], edge: Edge) -> bool
 {
     let slower = is_slow_to_fast(periods[edge.from as usize], periods[edge.to as usize]);
     reads_now(&blocks[edge.to as usize].kind, slower)
-}
-
-/// The control that a block asks in its own sample, where it asks one.
-pub fn control_now(block: &Block) -> Option<u32>
-    ensures { result ≡ control_now_of block.now }
-{
-    match block.kind.row().asks {
-        Asking::Now => block.enable,
-        Asking::Never | Asking::Before => None,
-    }
 }
 
 /// By block, the blocks that it reads in its own sample: its drivers by port, and the control that

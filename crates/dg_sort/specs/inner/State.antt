@@ -52,13 +52,17 @@ pub record IsLeft (edges : List ℕ) (low block : ℕ) : Type 0 where
 abbrev pub IsLooked : List Mark → List ℕ → Group → ℕ → Type 0
 IsLooked marks edges group source = IsPlaced marks source ⊎ (IsHeldFrom marks (floor_of group.is_cycle group.start) source ⊎ IsLeft edges group.edges source)
 
--- what is left to be looked at is read by a block of its group
-pub record IsRead (rows : List (List ℕ)) (held : List ℕ) (groups : List Group) (low edge source : ℕ) : Type 0 where
-  pub place : ℕ
+-- the block that is held at a place, which is not below another, reads a block
+pub record IsReader (rows : List (List ℕ)) (held : List ℕ) (low place source : ℕ) : Type 0 where
   pub block : ℕ
   pub at : slice_get held place ≡ Some block
   pub reads : Reads rows block source
   pub from : low ≤ place
+
+-- what is left to be looked at is read by a block of its group
+pub record IsRead (rows : List (List ℕ)) (held : List ℕ) (groups : List Group) (low edge source : ℕ) : Type 0 where
+  pub place : ℕ
+  pub reader : IsReader rows held low place source
   pub before : (k : ℕ) (group : Group) → slice_get groups k ≡ Some group → edge < group.edges → place < group.start
 
 -- each group that begins no later than one place begins no later than another
@@ -94,10 +98,12 @@ pub record AreGroups (groups : List Group) (held edges : List ℕ) : Type 0 wher
 
 -- what they read
 pub record AreLooked (rows : List (List ℕ)) (marks : List Mark) (held : List ℕ) (groups : List Group) (edges : List ℕ) : Type 0 where
-  pub looked : (k place block source : ℕ) (group : Group) → slice_get groups k ≡ Some group → group.start ≤ place → slice_get held place ≡ Some block → Reads rows block source → IsLooked marks edges group source
+  pub looked : (k place block source : ℕ) (group : Group) → slice_get groups k ≡ Some group → group.start ≤ place → slice_get held place ≡ Some block
+      → Reads rows block source → IsLooked marks edges group source
   pub left : (k edge source : ℕ) (group : Group) → slice_get groups k ≡ Some group → group.edges ≤ edge → slice_get edges edge ≡ Some source → IsRead rows held groups group.start edge source
   pub leads : (place later block source : ℕ) → slice_get held place ≡ Some block → slice_get held later ≡ Some source → NoneBetween groups place later → LeadsBack rows block source
-  pub cycles : (k place block : ℕ) (group : Group) → slice_get groups k ≡ Some group → group.is_cycle ≡ true → group.start ≤ place → slice_get held place ≡ Some block → NoneBetween groups place group.start → IsOnCycle rows block
+  pub cycles : (k place block : ℕ) (group : Group) → slice_get groups k ≡ Some group → group.is_cycle ≡ true → group.start ≤ place
+      → slice_get held place ≡ Some block → NoneBetween groups place group.start → IsOnCycle rows block
 
 -- between two steps
 pub record IsState (rows : List (List ℕ)) (walk : Walk) : Type 0 where
