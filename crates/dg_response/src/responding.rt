@@ -1,7 +1,7 @@
 ghost use Rattle.std.specs.Prelude.{◌≡◌, ◌<◌, ◌+◌, ◌^◌, IfOk, length};
-ghost use Rattle.fx_tables.specs.Stimulus.{FitsColumns};
 ghost use Rattle.dg_response.specs.Responding.{IsBefore, IsRowAt, row_of};
 ghost use Rattle.dg_response.specs.Response.{input_columns, output_columns};
+ghost use Rattle.fx_tables.specs.Stimulus.{FitsColumns};
 
 use dg_model::Checked;
 use dg_sim::Sim;

@@ -27,23 +27,6 @@ module _ (diagram : Diagram) (attributes : Attributes) (place : Place) (b : Bloc
   pub ground_always : b.kind ≡ Ground → IsAlways diagram attributes place (pos 0)
   ground_always is stimulus table t = of_kind Ground is stimulus table t (pos 0) refl
 
-  -- an operation that hands its input on
-  passes : b.inputs ≡ 1 → IsOpOf b.kind place.element (attributes.param_at place.block) (type_into diagram attributes place.block 2) OpPass
-      → (stimulus : Stimulus) (table : Table) (t : ℕ) → ElementEquation diagram attributes stimulus table b place.block place.element t (value_into diagram attributes table place.block 1 place.element t)
-  passes one is_op stimulus table t =
-      let some : 0 < b.inputs = omega (arith, one) in
-      (OpPass, is_op, sym (get_mapped (λ port. value_into diagram attributes table place.block port place.element t) (pos 0) 1 b.inputs 0 some))
-
-  pub outport_hands : (number : ℕ) → b.kind ≡ Outport number → b.inputs ≡ 1 → HandsOn diagram attributes place 1 place.element
-  outport_hands number is one stimulus table t =
-      of_kind (Outport number) is stimulus table t (value_into diagram attributes table place.block 1 place.element t)
-      (passes one (subst (λ (kind : Kind). IsOpOf kind place.element (attributes.param_at place.block) (type_into diagram attributes place.block 2) OpPass) (sym is) refl) stimulus table t)
-
-  pub pass_hands : (width : ℕ) → b.kind ≡ Pass width → b.inputs ≡ 1 → HandsOn diagram attributes place 1 place.element
-  pass_hands width is one stimulus table t =
-      of_kind (Pass width) is stimulus table t (value_into diagram attributes table place.block 1 place.element t)
-      (passes one (subst (λ (kind : Kind). IsOpOf kind place.element (attributes.param_at place.block) (type_into diagram attributes place.block 2) OpPass) (sym is) refl) stimulus table t)
-
   -- a block with an operation works element by element
   by_op : (kind : Kind) (op : Op) → IsOpOf kind place.element (attributes.param_at place.block) (type_into diagram attributes place.block 2) op
       → (stimulus : Stimulus) (table : Table) (t : ℕ) (v : ℤ) → ElementEquation diagram attributes stimulus table b place.block place.element t v → KindEquation diagram attributes stimulus table kind b place.block place.port place.element t v
@@ -60,3 +43,13 @@ module _ (diagram : Diagram) (attributes : Attributes) (place : Place) (b : Bloc
 
   pub op_elementwise : (op : Op) → IsOpOf b.kind place.element (attributes.param_at place.block) (type_into diagram attributes place.block 2) op → IsElementwise diagram attributes b place
   op_elementwise op is stimulus table t v h = of_kind b.kind refl stimulus table t v (by_op b.kind op is stimulus table t v h)
+
+  -- and one whose operation hands its input on
+  passes : b.inputs ≡ 1 → IsOpOf b.kind place.element (attributes.param_at place.block) (type_into diagram attributes place.block 2) OpPass
+      → (stimulus : Stimulus) (table : Table) (t : ℕ) → ElementEquation diagram attributes stimulus table b place.block place.element t (value_into diagram attributes table place.block 1 place.element t)
+  passes one is_op stimulus table t =
+      let some : 0 < b.inputs = omega (arith, one) in
+      (OpPass, is_op, sym (get_mapped (λ port. value_into diagram attributes table place.block port place.element t) (pos 0) 1 b.inputs 0 some))
+
+  pub op_hands : b.inputs ≡ 1 → IsOpOf b.kind place.element (attributes.param_at place.block) (type_into diagram attributes place.block 2) OpPass → HandsOn diagram attributes place 1 place.element
+  op_hands one is_op stimulus table t = op_elementwise OpPass is_op stimulus table t (value_into diagram attributes table place.block 1 place.element t) (passes one is_op stimulus table t)

@@ -5,8 +5,8 @@
 //! program simulates a diagram and what it means that a simulator stands at a sample of a table.
 //! The entries, where values come from and the root elements are those of `dg_tables`. The steps that
 //! make the program are `rules` (with `columns`, `handing`, `joining`, `working` and `enabling`),
-//! `memories` and `building`, and `turn` has the entry that they are at; `readying` prepares the
-//! operations; the steps of a sample are `giving` and `sweeping`.
+//! `memories` and `building`, `turn` has the entry that they are at, and `values` the stored entries of
+//! list parameters; `readying` prepares the operations; the steps of a sample are `giving` and `sweeping`.
 #![tactic(auto)]
 
 mod building;
@@ -24,6 +24,7 @@ mod rules;
 mod sim;
 mod sweeping;
 mod turn;
+mod values;
 mod working;
 
 pub use past::Past;

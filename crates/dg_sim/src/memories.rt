@@ -12,8 +12,8 @@ ghost use Rattle.dg_sim.specs.inner.Turns.{IsMadeFor, IsTurnOf};
 ghost use Rattle.dg_tables.specs.Entries.{place_at};
 
 use crate::program::{Memory, Program, Rule};
-use crate::rules::own_stored;
 use crate::turn::{Turn, offered};
+use crate::values::own_stored;
 use dg_tables::{Place, kept_moves, look_up};
 use fx_io::OutOfMemory;
 use fx_type::Decimal;

@@ -1,14 +1,9 @@
 //! The rules of cells, kind by kind.
 ghost use Rattle.std.specs.Prelude.{◌≡◌, ℕ, Some, length, slice_get, IfOk};
-ghost use Rattle.fx_type.specs.FxType.{IsType};
-ghost use Rattle.fx_type.specs.declared.kind.FxType.{FxType};
-ghost use Rattle.fx_type.specs.declared.decimal.Decimal.{Decimal};
 ghost use Rattle.dg_model.specs.Attributes.{attributes_of};
-ghost use Rattle.dg_model.specs.Equation.{StoresEntry};
-ghost use Rattle.dg_model.specs.Wires.{repeated};
 ghost use Rattle.dg_tables.specs.Entries.{AreEntries};
 ghost use Rattle.dg_sim.specs.inner.Cursors.{AreCursors};
-ghost use Rattle.dg_sim.specs.inner.Turns.{HasEntry, IsMadeFor, IsTurnOf};
+ghost use Rattle.dg_sim.specs.inner.Turns.{IsMadeFor, IsTurnOf};
 ghost use Rattle.dg_tables.specs.Roots.{roots_of};
 ghost use Rattle.dg_model.specs.RootElements.{root_inputs};
 ghost use Rattle.dg_model.specs.declared.kind.Kind.{Kind};
@@ -20,45 +15,12 @@ use crate::joining::{Cursors, spread};
 use crate::memories::{delayed, gated};
 use crate::program::{Program, Rule};
 use crate::turn::Turn;
+use crate::values::own_stored;
 use crate::working::works;
 use dg_model::Kind;
 use dg_tables::{Root, operations_prepare};
 use fx_io::OutOfMemory;
-use fx_type::{Decimal, FxType};
-
-/// Where an element stands in a signal or list of this width.
-fn place_in(width: usize, element: u32) -> usize
-    ensures { result ≡ repeated width element }
-{
-    if width == 1 { 0 } else { element as usize }
-}
-
-/// The entry of a list parameter for an element, stored in a type.
-pub fn stored(list: &[Decimal], element: u32, kind: FxType) -> i128
-    requires kind { IsType kind }
-    requires entry { HasEntry list.now element }
-    ensures { StoresEntry list.now element kind result }
-{
-    let at = place_in(list.len(), element);
-    fx_round::to_stored(list[at], kind)
-}
-
-/// The entry of a list parameter of the turn's block for its element, stored in the block's type.
-pub fn own_stored<'a>(turn: Turn<'a>, list: &[Decimal]) -> i128
-    requires there { slice_get turn.checked.now.diagram.blocks turn.place.block
-        ≡ Some turn.block.now }
-    requires entry { HasEntry list.now turn.place.element }
-    ensures { StoresEntry list.now turn.entry.place.element
-        ((attributes_of turn.entry.checked.now.diagram).type_at turn.entry.place.block 1) result }
-{
-    operations_prepare();
-    turn.checked.keeps_rules();
-    stored(
-        list,
-        turn.place.element,
-        turn.checked.result(turn.place.block),
-    )
-}
+use fx_type::Decimal;
 
 /// The rule of a Constant.
 fn constant<'a>(program: &Program, turn: Turn<'a>, value: &[Decimal]) -> Rule

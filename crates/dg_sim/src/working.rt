@@ -10,8 +10,8 @@ ghost use Rattle.dg_tables.specs.Finding.{AreLines, IsRead};
 ghost use Rattle.dg_sim.specs.inner.Turns.{CanOffer, IsMadeFor, IsTurnOf};
 
 use crate::program::{Program, Rule, Work};
-use crate::rules::stored;
 use crate::turn::{Turn, offered};
+use crate::values::stored;
 use dg_model::{FxTypes, Kind, Op};
 use dg_tables::{Places, operations_prepare, type_of_input};
 use fx_io::{Flags, OutOfMemory, Sizes};

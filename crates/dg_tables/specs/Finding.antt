@@ -34,7 +34,8 @@ pub record Finds (checked : CheckedDiagram) (starts : Starts) (places : List Pla
   pub lines : AreLines checked.diagram starts.lines.items
   pub few : length places < 2 ^ 32
   pub entries : (place : Place) → IsEntry checked.diagram (attributes_of checked.diagram) place → IsNumbered starts.ports.items starts.entries.items places place
-  pub ranked : (j k : ℕ) (source target : Place) → slice_get places j ≡ Some source → slice_get places k ≡ Some target → LeadsNow checked.diagram (attributes_of checked.diagram) source.block target.block → j < k
+  pub ranked : (j k : ℕ) (source target : Place) → slice_get places j ≡ Some source → slice_get places k ≡ Some target
+      → LeadsNow checked.diagram (attributes_of checked.diagram) source.block target.block → j < k
 
 -- an input port offers an element that its driver has
 abbrev pub IsRead : Diagram → Attributes → ℕ → ℕ → ℕ → Type 0
@@ -46,7 +47,9 @@ source_of attributes edge element = record { block = edge.from; port = edge.from
 
 -- the entry at k is one of a block that reads its inputs in the same sample
 abbrev pub ReadsNow : CheckedDiagram → List Place → ℕ → ℕ → Type 0
-ReadsNow checked places k block = (place : Place) × (b : Block) × (slice_get places k ≡ Some place) × (place.block ≡ block) × (slice_get checked.diagram.blocks block ≡ Some b) × (reads_now checked.diagram (attributes_of checked.diagram) block b.kind ≡ true)
+ReadsNow checked places k block =
+    (place : Place) × (b : Block) × (slice_get places k ≡ Some place) × (place.block ≡ block) × (slice_get checked.diagram.blocks block ≡ Some b)
+    × (reads_now checked.diagram (attributes_of checked.diagram) block b.kind ≡ true)
 
 -- an entry stands before those of a block that reads it so
 abbrev pub IsBeforeReader : CheckedDiagram → List Place → ℕ → ℕ → Type 0

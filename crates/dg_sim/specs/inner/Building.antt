@@ -1,10 +1,10 @@
 -- What the steps that build a program keep (own).
-use Rattle.std.specs.Prelude.{◌≡◌, ℕ, suc, ◌<◌, ◌++◌, ℤ, Bool, true, false, List, [], length, Option, Some, slice_get}
+use Rattle.std.specs.Prelude.{◌≡◌, ℕ, suc, ◌<◌, ◌++◌, ℤ, Bool, List, [], length, Option, Some, slice_get}
 use Rattle.fx_type.specs.declared.kind.FxType.{FxType}
 use Rattle.dg_model.specs.declared.diagram.Diagram.{Diagram}
 use Rattle.dg_model.specs.declared.diagram.Block.{Block}
 use Rattle.dg_model.specs.declared.kind.Kind.{Kind}
-use Rattle.dg_model.specs.declared.kind.Kind.TheVariants.{Inport, Outport, Constant, Ground, Sum, Gain, Product, Switch, Relational, Logic, Convert, Delay, Mux, Demux, RateTransition, Pass, EnableTest, EnOut, Terminator}
+use Rattle.dg_model.specs.Library.{row_of}
 use Rattle.dg_model.specs.Signals.{Attributes, Stimulus, Table}
 use Rattle.dg_model.specs.Hits.{Hits, is_hit}
 use Rattle.dg_model.specs.Wires.{value_into}
@@ -26,7 +26,8 @@ use Rattle.dg_sim.specs.Sim.{Agrees, Keep, IsRowOf, IsMemory, IsCell}
 pub record IsRule (diagram : Diagram) (attributes : Attributes) (program : Program) (k : ℕ) (place : Place) (rule : Rule) : Type 0 where
   pub within : IsWithin program rule
   pub serves : (stimulus : Stimulus) (table : Table) (t : ℕ) (look : ℕ → ℤ) (kept : ℕ → List ℤ) (row : List ℤ) (v : ℤ)
-      → Agrees diagram attributes program.places k look table t → Keep diagram attributes program.memories kept table t → IsRowOf diagram attributes stimulus t row → Hits (attributes.period_at place.block) t
+      → Agrees diagram attributes program.places k look table t → Keep diagram attributes program.memories kept table t
+      → IsRowOf diagram attributes stimulus t row → Hits (attributes.period_at place.block) t
       → Gives program look kept row t rule v → Equation diagram attributes stimulus table place.block place.port place.element t v
   pub can : (table : Table) (t : ℕ) (look : ℕ → ℤ) → Agrees diagram attributes program.places k look table t → EntriesAreInRange diagram attributes table (suc t) → CanGive program look rule
 
@@ -114,24 +115,6 @@ abbrev pub AreElements : Diagram → Attributes → List Place → ℕ → ℕ �
 AreElements diagram attributes places block k numbers =
     (i j : ℕ) → slice_get numbers i ≡ Some j → (j < k) × Reads diagram attributes places block 1 i j
 
--- a kind whose rule is an operation
+-- a kind whose rule is an operation: those behind which registers may stand
 abbrev pub is_worked : Kind → Bool
-is_worked (Inport number width) = false
-is_worked (Outport number) = false
-is_worked (Constant value) = false
-is_worked Ground = false
-is_worked (Sum negative) = true
-is_worked (Gain value param) = true
-is_worked Product = true
-is_worked (Switch criterion threshold) = true
-is_worked (Relational operator) = true
-is_worked (Logic operator) = true
-is_worked (Convert stored) = true
-is_worked (Delay length initial reset) = false
-is_worked (Mux sizes) = false
-is_worked (Demux sizes) = false
-is_worked (RateTransition period initial) = false
-is_worked (Pass width) = false
-is_worked EnableTest = false
-is_worked (EnOut reset initial) = false
-is_worked Terminator = false
+is_worked kind = (row_of kind).hardware.pipelines

@@ -37,5 +37,7 @@ pub record AreLaid (checked : CheckedDiagram) (count : ℕ) (starts : Starts) (p
   pub size : length starts.ports.items ≡ length checked.diagram.blocks
   pub entries : (k : ℕ) (place : Place) → k < count → slice_get checked.order k ≡ Some place.block → IsEntry checked.diagram (attributes_of checked.diagram) place
       → IsNumbered starts.ports.items starts.entries.items places place
-  pub known : (j : ℕ) (place : Place) → slice_get places j ≡ Some place → IsEntry checked.diagram (attributes_of checked.diagram) place × (k : ℕ) × (k < count) × (slice_get checked.order k ≡ Some place.block)
-  pub ranked : (j k a b : ℕ) (source target : Place) → slice_get places j ≡ Some source → slice_get places k ≡ Some target → slice_get checked.order a ≡ Some source.block → slice_get checked.order b ≡ Some target.block → a < b → j < k
+  pub known : (j : ℕ) (place : Place) → slice_get places j ≡ Some place
+      → IsEntry checked.diagram (attributes_of checked.diagram) place × (k : ℕ) × (k < count) × (slice_get checked.order k ≡ Some place.block)
+  pub ranked : (j k a b : ℕ) (source target : Place) → slice_get places j ≡ Some source → slice_get places k ≡ Some target
+      → slice_get checked.order a ≡ Some source.block → slice_get checked.order b ≡ Some target.block → a < b → j < k

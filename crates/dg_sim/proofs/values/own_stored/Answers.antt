@@ -5,7 +5,7 @@ use Rattle.std.proofs.lemmas.Option.{slice_get_within}
 use Rattle.fx_type.specs.FxType.{IsType}
 use Rattle.fx_type.specs.declared.kind.FxType.{FxType}
 use Rattle.dg_model.specs.Equation.{StoresEntry}
-use Rattle.dg_sim.proofs.rules.own_stored.Goals as goal
+use Rattle.dg_sim.proofs.values.own_stored.Goals as goal
 
 pub stored-requires-clause-kind : goal.stored-requires-clause-kind
 stored-requires-clause-kind c =
