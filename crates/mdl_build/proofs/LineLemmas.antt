@@ -12,9 +12,9 @@ use Rattle.mdl_text.specs.declared.tree.Item.{Item}
 use Rattle.mdl_build.specs.declared.lines.Source.{Source}
 use Rattle.mdl_build.specs.declared.roles.Role.{Role}
 use Rattle.mdl_build.specs.declared.roles.Role.TheVariants.{Other, Model, System, Block, SubSystem, Branch, Defaults, TypeDefaults}
-use Rattle.mdl_build.specs.Lines.{source_of, keeps_line, line_at}
+use Rattle.mdl_build.specs.Lines.{branch_of, source_of, keeps_line, line_at}
 use Rattle.mdl_build.specs.Roles.{role_of}
-use Rattle.mdl_build.specs.inner.Lines.{branch_of, source_if, sources_before, are_joined_before, lines_before, line_list}
+use Rattle.mdl_build.specs.inner.Lines.{source_if, sources_before, are_joined_before, lines_before, line_list}
 use Rattle.mdl_build.proofs.Ranges.{range_next}
 use Rattle.fx_io.proofs.Tests.{and_false}
 

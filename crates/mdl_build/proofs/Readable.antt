@@ -26,11 +26,10 @@ readable_Constant items place standing settings h =
 
 pub readable_Sum : (items : List Item) (place : ℕ) (standing : Standing) (settings : Settings) → HasSettings items Sum place settings → HasReadable (part_of standing Sum settings)
 readable_Sum items place standing settings h =
-    let p0 = h.1 in
     let r2 = choice_of _ _ _ _ h.2.2.1 in
     let p5 = h.2.2.2.2.2.1 in
-    rw (h.2.2.2.2.2.2, p0.2, h.2.1.1, r2.3, h.2.2.2.1.2, h.2.2.2.2.1.2, p5.2)
-    (record { ports = (refl, refl); parameters = signs_size _ p0.0 p0.1; types = r2.2; result = r2.1; rounding = tt; period = may_declare _ p5.0 p5.1 })
+    rw (h.2.2.2.2.2.2, h.1.2, h.2.1.1, r2.3, h.2.2.2.1.2, h.2.2.2.2.1.2, p5.2)
+    (record { ports = (refl, refl); parameters = signs_size _ h.1.0 h.1.1; types = r2.2; result = r2.1; rounding = tt; period = may_declare _ p5.0 p5.1 })
 
 pub readable_Gain : (items : List Item) (place : ℕ) (standing : Standing) (settings : Settings) → HasSettings items Gain place settings → HasReadable (part_of standing Gain settings)
 readable_Gain items place standing settings h =

@@ -20,6 +20,10 @@ row_of parameter = record { name = parameter.0.now; default = parameter.1.now; r
 abbrev pub row : List ℕ → List ℕ → Reader → ParameterRow
 row name default reader = record { name = name; default = default; reader = reader }
 
+-- one that has its default alone
+abbrev pub fixed : List ℕ → List ℕ → ParameterRow
+fixed name default = row name default Reader.Default
+
 -- ---- parameters of several block types
 
 -- a type, which need not be said
@@ -38,155 +42,135 @@ truth = row (codes "OutDataTypeStr") (codes "boolean") Reader.Truth
 abbrev pub initial_condition : ParameterRow
 initial_condition = row (codes "InitialCondition") (codes "0") Reader.List
 
--- how a result is rounded
-abbrev pub rounding : ParameterRow
-rounding = row (codes "RndMeth") (codes "Floor") Reader.Rounding
-
--- whether a result that is too large is held at the end of its type
-abbrev pub saturation : ParameterRow
-saturation = row (codes "SaturateOnIntegerOverflow") (codes "off") Reader.Saturation
-
 -- a period, or an inherited one
 abbrev pub sample_time : ParameterRow
 sample_time = row (codes "SampleTime") (codes "-1") Reader.SampleTime
 
+-- how a result is rounded, whether one that is too large is held at the end of its type, and a period
+abbrev pub settling : List ParameterRow
+settling =
+    row (codes "RndMeth") (codes "Floor") Reader.Rounding ∷
+    row (codes "SaturateOnIntegerOverflow") (codes "off") Reader.Saturation ∷
+    sample_time ∷
+    []
+
 -- ---- block types
 
--- the parameters of a block type, in the order in which they are tried
-abbrev pub parameters_of : BlockType → List ParameterRow
-parameters_of Inport =
+-- a block type: its place among all of them, its name, and its parameters in the order in which they are tried
+pub record TypeRow : Type 0 where
+  pub number : ℕ
+  pub name : List ℕ
+  pub parameters : List ParameterRow
+
+abbrev pub type_as : ℕ → List ℕ → List ParameterRow → TypeRow
+type_as number name parameters = record { number = number; name = name; parameters = parameters }
+
+-- the table
+abbrev pub type_row : BlockType → TypeRow
+type_row Inport = type_as 0 (codes "Inport") (
     row (codes "Port") (codes "1") Reader.Port ∷
     type_or_auto ∷ sample_time ∷
     row (codes "PortDimensions") (codes "-1") Reader.Width ∷
     []
-parameters_of Outport =
+    )
+type_row Outport = type_as 1 (codes "Outport") (
     row (codes "Port") (codes "1") Reader.Port ∷
     type_or_auto ∷ sample_time ∷
     row (codes "OutputWhenDisabled") (codes "held") Reader.Reset ∷
     row (codes "InitialOutput") (codes "[]") Reader.ListOrEmpty ∷
     []
-parameters_of Constant =
+    )
+type_row Constant = type_as 2 (codes "Constant") (
     row (codes "Value") (codes "1") Reader.List ∷
     row (codes "OutDataTypeStr") (codes "Inherit: Inherit from 'Constant value'") Reader.TypeOrAuto ∷
     row (codes "SampleTime") (codes "inf") Reader.ConstantTime ∷
     []
-parameters_of Ground = []
-parameters_of Terminator = []
-parameters_of Sum =
+    )
+type_row Ground = type_as 3 (codes "Ground") []
+type_row Terminator = type_as 4 (codes "Terminator") []
+type_row Sum = type_as 5 (codes "Sum") (
     row (codes "Inputs") (codes "++") Reader.Signs ∷
-    row (codes "AccumDataTypeStr") (codes "Inherit: Inherit via internal rule") Reader.Default ∷
-    type_or_first ∷ rounding ∷ saturation ∷ sample_time ∷
-    []
-parameters_of Gain =
+    fixed (codes "AccumDataTypeStr") (codes "Inherit: Inherit via internal rule") ∷
+    type_or_first ∷ settling
+    )
+type_row Gain = type_as 6 (codes "Gain") (
     row (codes "Gain") (codes "1") Reader.List ∷
     row (codes "ParamDataTypeStr") (codes "Inherit: Inherit via internal rule") Reader.CoefficientType ∷
-    row (codes "Multiplication") (codes "Element-wise(K.*u)") Reader.Default ∷
+    fixed (codes "Multiplication") (codes "Element-wise(K.*u)") ∷
     row (codes "OutDataTypeStr") (codes "Inherit: Inherit via internal rule") Reader.TypeOrInput ∷
-    rounding ∷ saturation ∷ sample_time ∷
-    []
-parameters_of Product =
+    settling
+    )
+type_row Product = type_as 7 (codes "Product") (
     row (codes "Inputs") (codes "2") Reader.Factors ∷
-    row (codes "Multiplication") (codes "Element-wise(.*)") Reader.Default ∷
-    type_or_first ∷ rounding ∷ saturation ∷ sample_time ∷
-    []
-parameters_of UnitDelay =
-    initial_condition ∷ sample_time ∷
-    []
-parameters_of Delay =
+    fixed (codes "Multiplication") (codes "Element-wise(.*)") ∷
+    type_or_first ∷ settling
+    )
+type_row UnitDelay = type_as 8 (codes "UnitDelay") (initial_condition ∷ sample_time ∷ [])
+type_row Delay = type_as 9 (codes "Delay") (
     row (codes "DelayLength") (codes "2") Reader.Length ∷
     initial_condition ∷ sample_time ∷
-    row (codes "DelayLengthSource") (codes "Dialog") Reader.Default ∷
-    row (codes "InitialConditionSource") (codes "Dialog") Reader.Default ∷
-    row (codes "ExternalReset") (codes "None") Reader.Default ∷
-    row (codes "ShowEnablePort") (codes "off") Reader.Default ∷
+    fixed (codes "DelayLengthSource") (codes "Dialog") ∷
+    fixed (codes "InitialConditionSource") (codes "Dialog") ∷
+    fixed (codes "ExternalReset") (codes "None") ∷
+    fixed (codes "ShowEnablePort") (codes "off") ∷
     []
-parameters_of Switch =
+    )
+type_row Switch = type_as 10 (codes "Switch") (
     row (codes "Criteria") (codes "u2 >= Threshold") Reader.Criterion ∷
     row (codes "Threshold") (codes "0") Reader.List ∷
-    type_or_first ∷ rounding ∷ saturation ∷ sample_time ∷
-    []
-parameters_of RelationalOperator =
+    type_or_first ∷ settling
+    )
+type_row RelationalOperator = type_as 11 (codes "RelationalOperator") (
     row (codes "Operator") (codes "<=") Reader.Relation ∷
     truth ∷ sample_time ∷
     []
-parameters_of Logic =
+    )
+type_row Logic = type_as 12 (codes "Logic") (
     row (codes "Operator") (codes "AND") Reader.Gate ∷
     row (codes "Inputs") (codes "2") Reader.Operands ∷
     truth ∷ sample_time ∷
     []
-parameters_of DataTypeConversion =
+    )
+type_row DataTypeConversion = type_as 13 (codes "DataTypeConversion") (
     row (codes "OutDataTypeStr") (codes "Inherit: Inherit via back propagation") Reader.Type ∷
     row (codes "ConvertRealWorld") (codes "Real World Value (RWV)") Reader.Conversion ∷
-    rounding ∷ saturation ∷ sample_time ∷
-    []
-parameters_of Mux =
-    row (codes "Inputs") (codes "4") Reader.Parts ∷
-    []
-parameters_of Demux =
+    settling
+    )
+type_row Mux = type_as 14 (codes "Mux") (row (codes "Inputs") (codes "4") Reader.Parts ∷ [])
+type_row Demux = type_as 15 (codes "Demux") (
     row (codes "Outputs") (codes "4") Reader.Parts ∷
-    row (codes "BusSelectionMode") (codes "off") Reader.Default ∷
+    fixed (codes "BusSelectionMode") (codes "off") ∷
     []
-parameters_of RateTransition =
+    )
+type_row RateTransition = type_as 16 (codes "RateTransition") (
     row (codes "OutPortSampleTime") (codes "-1") Reader.Period ∷
-    row (codes "OutPortSampleTimeOpt") (codes "Specify") Reader.Default ∷
-    row (codes "Deterministic") (codes "on") Reader.Default ∷
+    fixed (codes "OutPortSampleTimeOpt") (codes "Specify") ∷
+    fixed (codes "Deterministic") (codes "on") ∷
     initial_condition ∷
     []
-parameters_of SubSystem =
-    row (codes "SystemSampleTime") (codes "-1") Reader.Default ∷
-    []
-parameters_of EnablePort =
+    )
+type_row SubSystem = type_as 17 (codes "SubSystem") (fixed (codes "SystemSampleTime") (codes "-1") ∷ [])
+type_row EnablePort = type_as 18 (codes "EnablePort") (
     row (codes "StatesWhenEnabling") (codes "held") Reader.Reset ∷
-    row (codes "ShowOutputPort") (codes "off") Reader.Default ∷
+    fixed (codes "ShowOutputPort") (codes "off") ∷
     []
+    )
 
--- the name of a block type
-abbrev pub type_name : BlockType → List ℕ
-type_name Inport = codes "Inport"
-type_name Outport = codes "Outport"
-type_name Constant = codes "Constant"
-type_name Ground = codes "Ground"
-type_name Terminator = codes "Terminator"
-type_name Sum = codes "Sum"
-type_name Gain = codes "Gain"
-type_name Product = codes "Product"
-type_name UnitDelay = codes "UnitDelay"
-type_name Delay = codes "Delay"
-type_name Switch = codes "Switch"
-type_name RelationalOperator = codes "RelationalOperator"
-type_name Logic = codes "Logic"
-type_name DataTypeConversion = codes "DataTypeConversion"
-type_name Mux = codes "Mux"
-type_name Demux = codes "Demux"
-type_name RateTransition = codes "RateTransition"
-type_name SubSystem = codes "SubSystem"
-type_name EnablePort = codes "EnablePort"
-
--- its place among all of them
+-- its columns
 abbrev pub number_of : BlockType → ℕ
-number_of Inport = 0
-number_of Outport = 1
-number_of Constant = 2
-number_of Ground = 3
-number_of Terminator = 4
-number_of Sum = 5
-number_of Gain = 6
-number_of Product = 7
-number_of UnitDelay = 8
-number_of Delay = 9
-number_of Switch = 10
-number_of RelationalOperator = 11
-number_of Logic = 12
-number_of DataTypeConversion = 13
-number_of Mux = 14
-number_of Demux = 15
-number_of RateTransition = 16
-number_of SubSystem = 17
-number_of EnablePort = 18
+number_of block_type = (type_row block_type).number
+
+abbrev pub type_name : BlockType → List ℕ
+type_name block_type = (type_row block_type).name
+
+abbrev pub parameters_of : BlockType → List ParameterRow
+parameters_of block_type = (type_row block_type).parameters
 
 -- all of them
 abbrev pub block_types : List BlockType
-block_types = Inport ∷ Outport ∷ Constant ∷ Ground ∷ Terminator ∷ Sum ∷ Gain ∷ Product ∷ UnitDelay ∷ Delay ∷ Switch ∷ RelationalOperator ∷ Logic ∷ DataTypeConversion ∷ Mux ∷ Demux ∷ RateTransition ∷ SubSystem ∷ EnablePort ∷ []
+block_types =
+    Inport ∷ Outport ∷ Constant ∷ Ground ∷ Terminator ∷ Sum ∷ Gain ∷ Product ∷ UnitDelay ∷ Delay ∷ Switch ∷ RelationalOperator ∷ Logic ∷
+    DataTypeConversion ∷ Mux ∷ Demux ∷ RateTransition ∷ SubSystem ∷ EnablePort ∷ []
 
 -- the block type of a name
 abbrev pub type_of_name : List ℕ → Option BlockType

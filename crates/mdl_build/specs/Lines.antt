@@ -9,7 +9,7 @@ use Rattle.mdl_text.specs.declared.tree.Item.{Item}
 use Rattle.mdl_build.specs.declared.lines.Goal.{Goal}
 use Rattle.mdl_build.specs.declared.lines.Source.{Source}
 use Rattle.mdl_build.specs.declared.roles.Role.{Role}
-use Rattle.mdl_build.specs.declared.roles.Role.TheVariants.{Other, Model, System, Block, SubSystem, Branch, Defaults, TypeDefaults}
+use Rattle.mdl_build.specs.declared.roles.Role.TheVariants.{Branch}
 use Rattle.mdl_build.specs.Blocks.{at, number_of}
 use Rattle.mdl_build.specs.Roles.{role_of}
 use Rattle.mdl_build.specs.Sections.{places_of, holder_of, value_of}
@@ -76,27 +76,18 @@ line_from (Some source) Goal.Nowhere = None
 line_from (Some source) (Goal.To to target) = Some (record { from = source.from; from_port = source.port; to = to; target = target })
 line_from (Some source) Goal.Wrong = None
 
+-- the line that an item is a branch of
+abbrev pub branch_of : Role → Option ℕ
+branch_of (Branch line) = Some line
+branch_of _ = None
+
 -- the item at a place, if it is a branch of a line, is well formed
 abbrev pub keeps_line : List Item → ℕ → Role → Bool
-keeps_line items place Other = true
-keeps_line items place Model = true
-keeps_line items place (System level) = true
-keeps_line items place (Block level) = true
-keeps_line items place (SubSystem level) = true
-keeps_line items place (Branch line) = is_joined (source_of items line) (goal_of items line place)
-keeps_line items place Defaults = true
-keeps_line items place (TypeDefaults section) = true
+keeps_line items place role = at true (λ line. is_joined (source_of items line) (goal_of items line place)) (branch_of role)
 
 -- the line to its end
 abbrev pub line_at : List Item → ℕ → Role → Option NestedLine
-line_at items place Other = None
-line_at items place Model = None
-line_at items place (System level) = None
-line_at items place (Block level) = None
-line_at items place (SubSystem level) = None
-line_at items place (Branch line) = line_from (source_of items line) (goal_of items line place)
-line_at items place Defaults = None
-line_at items place (TypeDefaults section) = None
+line_at items place role = at None (λ line. line_from (source_of items line) (goal_of items line place)) (branch_of role)
 
 -- the lines in the order of their ends
 abbrev pub lines_of : List Item → List NestedLine

@@ -5,7 +5,7 @@ use Rattle.std.specs.Option.{unwrap_or}
 use Rattle.mdl_text.specs.declared.tree.Item.{Item}
 use Rattle.mdl_build.specs.declared.library.BlockType.{BlockType}
 use Rattle.mdl_build.specs.declared.roles.Role.{Role}
-use Rattle.mdl_build.specs.declared.roles.Role.TheVariants.{Other, Model, System, Block, SubSystem, Branch, Defaults, TypeDefaults}
+use Rattle.mdl_build.specs.declared.roles.Role.TheVariants.{Defaults, TypeDefaults}
 use Rattle.mdl_build.specs.Library.{ParameterRow, type_name}
 use Rattle.mdl_build.specs.Roles.{role_of, roles_of, says}
 use Rattle.mdl_build.specs.Sections.{places_of, first_of, value_of}
@@ -13,13 +13,7 @@ use Rattle.mdl_build.specs.Sections.{places_of, first_of, value_of}
 -- a section of defaults
 abbrev pub is_defaults : Role → Bool
 is_defaults Defaults = true
-is_defaults Other = false
-is_defaults Model = false
-is_defaults (System level) = false
-is_defaults (Block level) = false
-is_defaults (SubSystem level) = false
-is_defaults (Branch line) = false
-is_defaults (TypeDefaults section) = false
+is_defaults _ = false
 
 -- the first of them
 abbrev pub first_defaults : List Item → Option ℕ
@@ -27,15 +21,8 @@ first_defaults items = position is_defaults (roles_of items)
 
 -- the defaults of one type in the section of all of them
 abbrev pub is_in : Option ℕ → Role → Bool
-is_in None role = false
-is_in (Some section) Other = false
-is_in (Some section) Model = false
-is_in (Some section) (System level) = false
-is_in (Some section) (Block level) = false
-is_in (Some section) (SubSystem level) = false
-is_in (Some section) (Branch line) = false
-is_in (Some section) Defaults = false
 is_in (Some section) (TypeDefaults holder) = holder == section
+is_in _ _ = false
 
 -- the item at a place has the defaults of this type, in the section of all of them
 abbrev pub has_defaults : List Item → BlockType → ℕ → Bool

@@ -72,14 +72,9 @@ roles_of items = map (role_of items) (places_of items)
 
 -- a block
 abbrev pub is_block : Role → Bool
-is_block Other = false
-is_block Model = false
-is_block (System level) = false
 is_block (Block level) = true
 is_block (SubSystem level) = true
-is_block (Branch line) = false
-is_block Defaults = false
-is_block (TypeDefaults section) = false
+is_block _ = false
 
 -- the places of the blocks in file order
 abbrev pub blocks_of : List Item → List ℕ

@@ -10,7 +10,7 @@ use Rattle.mdl_text.specs.declared.tree.Item.{Item}
 use Rattle.mdl_text.specs.declared.tree.Tree.{Tree}
 use Rattle.mdl_build.specs.declared.library.BlockType.{BlockType}
 use Rattle.mdl_build.specs.declared.roles.Role.{Role}
-use Rattle.mdl_build.specs.declared.roles.Role.TheVariants.{Other, Model, System, Block, SubSystem, Branch, Defaults, TypeDefaults}
+use Rattle.mdl_build.specs.declared.roles.Role.TheVariants.{Model, System, SubSystem}
 use Rattle.mdl_build.specs.Blocks.{at, number_of, number_at, path_of, IsReadable}
 use Rattle.mdl_build.specs.Library.{ParameterRow, parameters_of, type_of_name}
 use Rattle.mdl_build.specs.Lines.{keeps_line}
@@ -21,24 +21,12 @@ use Rattle.mdl_build.specs.Sections.{places_of, holder_of, value_of}
 
 abbrev pub is_model : Role → Bool
 is_model Model = true
-is_model Other = false
-is_model (System level) = false
-is_model (Block level) = false
-is_model (SubSystem level) = false
-is_model (Branch line) = false
-is_model Defaults = false
-is_model (TypeDefaults section) = false
+is_model _ = false
 
 -- a System whose level has this property
 abbrev pub is_system : (ℕ → Bool) → Role → Bool
 is_system P (System level) = P level
-is_system P Other = false
-is_system P Model = false
-is_system P (Block level) = false
-is_system P (SubSystem level) = false
-is_system P (Branch line) = false
-is_system P Defaults = false
-is_system P (TypeDefaults section) = false
+is_system P _ = false
 
 -- one Model, and one System directly in it, which is of the first level
 abbrev pub has_root : List Role → Bool
@@ -63,13 +51,7 @@ is_system_in items holder place = is_system (λ level. true) (role_of items plac
 -- a subsystem has one System
 abbrev pub has_one_system : List Item → ℕ → Role → Bool
 has_one_system items place (SubSystem level) = count_by (is_system_in items place) (places_of items) == 1
-has_one_system items place Other = true
-has_one_system items place Model = true
-has_one_system items place (System level) = true
-has_one_system items place (Block level) = true
-has_one_system items place (Branch line) = true
-has_one_system items place Defaults = true
-has_one_system items place (TypeDefaults section) = true
+has_one_system items place _ = true
 
 -- a number that is there is this one
 abbrev pub is_number : ℕ → Option ℕ → Bool

@@ -4,8 +4,7 @@ ghost use Rattle.mdl_values.specs.Reads.{Finds};
 ghost use Rattle.mdl_build.specs.Blocks.{is_single};
 ghost use Rattle.mdl_build.specs.Library.{row_of};
 ghost use Rattle.mdl_build.specs.Lookup.{value_under};
-ghost use Rattle.mdl_build.specs.Settings.{ReadsAs};
-ghost use Rattle.mdl_build.specs.inner.Readings.{IsReading};
+ghost use Rattle.mdl_build.specs.inner.Readings.{IsReadAs, IsReading};
 ghost use Rattle.mdl_build.specs.inner.Texts.{contents_of, fallbacks_of};
 
 use crate::layout::Layout;
@@ -61,8 +60,7 @@ fn read_parameter<'a>(
     other: &'a [u8],
 ) -> Result<Option<Setting>, OutOfMemory>
     requires { place < length layout.now.items.now }
-    ensures { IfOk result (λ found. Finds
-        (ReadsAs single (row_of parameter).reader (row_of parameter).default
+    ensures { IfOk result (λ found. Finds (IsReadAs single parameter
         (unwrap_or (value_under layout.now.items.now place (row_of parameter).name) other.now))
         found) }
 {

@@ -1,9 +1,9 @@
 //! The lines of a tree.
 ghost use Rattle.std.specs.Prelude.{◌≡◌, ◌<◌, ◌++◌, false, true, length, IfOk, IfSome, MatchOption};
 ghost use Rattle.std.specs.Option.{option_copied};
-ghost use Rattle.mdl_build.specs.Lines.{port_of, target_of, named_by, source_of, goal_of, is_joined, line_from, keeps_line, line_at, lines_of};
+ghost use Rattle.mdl_build.specs.Lines.{port_of, target_of, named_by, source_of, goal_of, is_joined, line_from, branch_of, keeps_line, line_at, lines_of};
 ghost use Rattle.mdl_build.specs.Roles.{role_of, roles_of};
-ghost use Rattle.mdl_build.specs.inner.Lines.{branch_of, source_if, sources_before, are_joined_before, line_list};
+ghost use Rattle.mdl_build.specs.inner.Lines.{source_if, sources_before, are_joined_before, line_list};
 ghost use Rattle.mdl_build.specs.inner.Names.{AreBlocks};
 
 use crate::layout::Layout;

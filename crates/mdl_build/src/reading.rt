@@ -1,8 +1,7 @@
 //! How the value of each parameter is read.
 ghost use Rattle.std.specs.Prelude.{IfOk};
 ghost use Rattle.mdl_values.specs.Reads.{Finds};
-ghost use Rattle.mdl_build.specs.Library.{row_of};
-ghost use Rattle.mdl_build.specs.Settings.{ReadsAs};
+ghost use Rattle.mdl_build.specs.inner.Readings.{IsReadAs};
 
 use crate::library::{Parameter, Reader};
 use crate::list_readers::{list, list_or_empty, parts, signs};
@@ -27,8 +26,7 @@ pub fn read_setting(
     single: bool,
     text: &[u8],
 ) -> Result<Option<Setting>, OutOfMemory>
-    ensures { IfOk result (λ found. Finds
-        (ReadsAs single (row_of parameter).reader (row_of parameter).default text.now) found) }
+    ensures { IfOk result (λ found. Finds (IsReadAs single parameter text.now) found) }
 {
     let default = parameter.default().as_bytes();
     match parameter.reader() {

@@ -7,7 +7,7 @@ ghost use Rattle.mdl_build.specs.Roles.{role_of, roles_of, blocks_of};
 ghost use Rattle.mdl_build.specs.Rules.{has_root, is_model, is_system, are_shallow, is_system_in, has_own_name, has_one_system, keeps_structure, type_at};
 ghost use Rattle.mdl_build.specs.Sections.{places_of};
 ghost use Rattle.mdl_build.specs.inner.Names.{AreBlocks};
-ghost use Rattle.mdl_build.specs.inner.Structure.{AreCounts};
+ghost use Rattle.mdl_build.specs.inner.Structure.{AreCounts, IsFoundBlock};
 
 use crate::layout::Layout;
 use crate::library::{BlockType, type_of_name};
@@ -157,12 +157,8 @@ fn keeps_structure<'a>(
     role: Role,
     systems: usize,
 ) -> bool
-    requires within { place < length layout.now.items.now }
     requires known { AreBlocks layout.now.items.now blocks.now }
-    requires number { number_at layout.now.items.now place ≡ number }
-    requires role { role_of layout.now.items.now place ≡ role }
-    requires systems { systems
-        ≡ count_by (is_system_in layout.now.items.now place) (places_of layout.now.items.now) }
+    requires block { IsFoundBlock layout.now.items.now number place role systems }
     ensures { result ≡ keeps_structure layout.now.items.now place }
 {
     layout.value(place, b"BlockType").is_some()

@@ -4,21 +4,8 @@ use Rattle.std.specs.List.{list_all, range_with_len}
 use Rattle.dg_model.specs.declared.nested.NestedLine.{NestedLine}
 use Rattle.mdl_text.specs.declared.tree.Item.{Item}
 use Rattle.mdl_build.specs.declared.lines.Source.{Source}
-use Rattle.mdl_build.specs.declared.roles.Role.{Role}
-use Rattle.mdl_build.specs.declared.roles.Role.TheVariants.{Other, Model, System, Block, SubSystem, Branch, Defaults, TypeDefaults}
-use Rattle.mdl_build.specs.Lines.{source_of, keeps_line, line_at}
+use Rattle.mdl_build.specs.Lines.{branch_of, source_of, keeps_line, line_at}
 use Rattle.mdl_build.specs.Roles.{role_of}
-
--- the line that an item is a branch of
-abbrev pub branch_of : Role → Option ℕ
-branch_of Other = None
-branch_of Model = None
-branch_of (System level) = None
-branch_of (Block level) = None
-branch_of (SubSystem level) = None
-branch_of (Branch line) = Some line
-branch_of Defaults = None
-branch_of (TypeDefaults section) = None
 
 -- the source of a line; other items have none
 abbrev pub source_if : List Item → ℕ → Option ℕ → Option Source

@@ -1,7 +1,8 @@
 use Rattle.std.proofs.Common.{◌≡◌, ◌++◌, ◌∷◌, [], List, length, Option, sym, ap, ◌∙◌, arith}
 use Rattle.mdl_build.specs.declared.lines.Source.{Source}
 use Rattle.mdl_build.specs.declared.roles.Role.TheVariants.{Other}
-use Rattle.mdl_build.specs.inner.Lines.{branch_of, source_if, sources_before}
+use Rattle.mdl_build.specs.Lines.{branch_of}
+use Rattle.mdl_build.specs.inner.Lines.{source_if, sources_before}
 use Rattle.mdl_build.proofs.LineLemmas.{sources_next}
 use Rattle.mdl_build.proofs.RoleLemmas.{roles_long, role_listed}
 use Rattle.mdl_build.proofs.lines.sources.Goals as goal

@@ -27,27 +27,18 @@ index-requires c =
     let h = block_here items c.places-place-items.result.now c.loop-number.number 0 (c.places-place-items.ensures ∙ c.requires.known.places) c.loop-number-test.true in
     omega (arith, h.within, c.in_ok-counts.counts.ok.0, c.in_ok-counts.ensures.long)
 
-pub keeps_structure-requires-clause-within : goal.keeps_structure-requires-clause-within
-keeps_structure-requires-clause-within c =
-    (block_here c.args.layout.now.items.now c.places-place-items.result.now c.loop-number.number 0 (c.places-place-items.ensures ∙ c.requires.known.places) c.loop-number-test.true).within
-
-pub keeps_structure-requires-clause-number : goal.keeps_structure-requires-clause-number
-keeps_structure-requires-clause-number c =
-    (block_here c.args.layout.now.items.now c.places-place-items.result.now c.loop-number.number 0 (c.places-place-items.ensures ∙ c.requires.known.places) c.loop-number-test.true).number_is
-
-pub keeps_structure-requires-clause-role : goal.keeps_structure-requires-clause-role
-keeps_structure-requires-clause-role c =
+pub keeps_structure-requires-clause-block : goal.keeps_structure-requires-clause-block
+keeps_structure-requires-clause-block c =
     let items = c.args.layout.now.items.now in
-    let h = block_here items c.places-place-items.result.now c.loop-number.number 0 (c.places-place-items.ensures ∙ c.requires.known.places) c.loop-number-test.true in
-    role_here items c.args.roles.now (get_or c.places-place-items.result.now c.loop-number.number 0) Other c.requires.roles h.within
-
-pub keeps_structure-requires-clause-systems : goal.keeps_structure-requires-clause-systems
-keeps_structure-requires-clause-systems c =
-    let items = c.args.layout.now.items.now in
-    let h = block_here items c.places-place-items.result.now c.loop-number.number 0 (c.places-place-items.ensures ∙ c.requires.known.places) c.loop-number-test.true in
     let place = get_or c.places-place-items.result.now c.loop-number.number 0 in
+    let h = block_here items c.places-place-items.result.now c.loop-number.number 0 (c.places-place-items.ensures ∙ c.requires.known.places) c.loop-number-test.true in
     let inside : place < length c.in_ok-counts.counts.items = omega (arith, h.within, c.in_ok-counts.ensures.long) in
-    c.index.ensures ∙ get_or_default c.in_ok-counts.counts.items place c.index.result.now 0 inside ∙ c.in_ok-counts.ensures.each place h.within
+    record {
+      within = h.within;
+      number_is = h.number_is;
+      role_is = role_here items c.args.roles.now place Other c.requires.roles h.within;
+      systems_are = c.index.ensures ∙ get_or_default c.in_ok-counts.counts.items place c.index.result.now 0 inside ∙ c.in_ok-counts.ensures.each place h.within;
+    }
 
 pub systems_in-requires : goal.systems_in-requires
 systems_in-requires c = c.requires.roles
