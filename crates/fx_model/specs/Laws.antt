@@ -19,7 +19,8 @@ VerdictIsOne = (bytes : List ℕ) (one other : Verdict) → IsVerdict bytes one 
 
 -- and where the rule of loops isn't broken first, one fault with all that is shown
 abbrev pub BrokenIsOne : Type 0
-BrokenIsOne = (bytes : List ℕ) (one other : RuleFault) (paths others : List (List ℕ)) → IsBrokenModel bytes one paths → IsBrokenModel bytes other others → one.rule ≢ Rule.Loop → (one ≡ other) × (paths ≡ others)
+BrokenIsOne =
+    (bytes : List ℕ) (one other : RuleFault) (paths others : List (List ℕ)) → IsBrokenModel bytes one paths → IsBrokenModel bytes other others → one.rule ≢ Rule.Loop → (one ≡ other) × (paths ≡ others)
 
 -- so the line that tells it is one
 abbrev pub LineIsOne : Type 0
@@ -27,4 +28,5 @@ LineIsOne = (bytes one other : List ℕ) → (tells : TellsRule bytes one) → T
 
 -- a text that stands for a tree isn't the model of no diagram if it breaks no rule
 abbrev pub ModelIsThere : Type 0
-ModelIsThere = (bytes : List ℕ) (tree : Tree) → Stands bytes tree → ((diagram : Diagram) → ¬ IsModelOf bytes diagram) → ((fault : RuleFault) (paths : List (List ℕ)) → ¬ IsBrokenModel bytes fault paths) → ⊥
+ModelIsThere =
+    (bytes : List ℕ) (tree : Tree) → Stands bytes tree → ((diagram : Diagram) → ¬ IsModelOf bytes diagram) → ((fault : RuleFault) (paths : List (List ℕ)) → ¬ IsBrokenModel bytes fault paths) → ⊥

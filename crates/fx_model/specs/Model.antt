@@ -1,4 +1,5 @@
--- The diagram that a model's text describes, and the first of the rules of models that the text breaks (own; the rules are those of the Simulink reference, model files, signal attributes, sample times and algebraic loops).
+-- The diagram that a model's text describes, and the first of the rules of models that the text breaks (own; the rules
+-- are those of the Simulink reference, model files, signal attributes, sample times and algebraic loops).
 use Rattle.std.specs.Prelude.{◌≡◌, ℕ, ◌⊎◌, List, [], map}
 use Rattle.mdl_text.specs.declared.tree.Tree.{Tree}
 use Rattle.mdl_text.specs.Stands.{Stands}

@@ -1,6 +1,6 @@
 //! The line that tells a broken rule.
 ghost use Rattle.std.specs.Prelude.{◌≡◌, ◌≤◌, [], ◌∷◌, ◌++◌, IfOk, IsTrue, OnOk, length, map, slice_index_or, take};
-ghost use Rattle.std.specs.Fmt.{decimal, signed_decimal};
+ghost use Rattle.std.specs.Fmt.{signed_decimal};
 ghost use Rattle.std.specs.List.{flat_map};
 ghost use Rattle.dg_model.specs.declared.fault.Shown.TheVariants.{Budget, Latency};
 ghost use Rattle.fx_model.specs.inner.Pieces.{piece_text};
@@ -8,6 +8,7 @@ ghost use Rattle.fx_model.specs.RuleLine.{cycle_text, period_text, place_text, q
 
 use dg_model::{Block, Path, RuleFault, Shown};
 use fx_io::{OutOfMemory, Text};
+use fx_text::{push, push_number};
 use itoa::Buffer;
 use std::alloc::Global;
 
@@ -32,22 +33,6 @@ pub fn rule_text(alloc: Global, fault: &RuleFault, blocks: &[Block]) -> Result<T
     push_shown(&mut line, &fault.shown, blocks)?;
     push(&mut line, b"\n")?;
     Text::from_vec(alloc, line)
-}
-
-/// Adds bytes.
-fn push(line: &mut Vec<u8>, bytes: &[u8]) -> Result<(), OutOfMemory>
-    ensures { OnOk result (line.new.items ≡ line.old.items ++ bytes.now) }
-{
-    line.extend_from_slice(bytes)?;
-    Ok(())
-}
-
-/// Adds a number in decimal.
-fn push_number(line: &mut Vec<u8>, number: u64) -> Result<(), OutOfMemory>
-    ensures { OnOk result (line.new.items ≡ line.old.items ++ decimal number) }
-{
-    let mut digits = Buffer::new();
-    push(line, digits.format(number).as_bytes())
 }
 
 /// Adds a number in decimal, with a minus where it is below 0.

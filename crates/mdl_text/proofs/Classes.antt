@@ -1,9 +1,11 @@
 -- Facts about single bytes, and cases on tests. Crates above may cite this file.
-use Rattle.std.proofs.Common.{◌≡◌, ◌≢◌, ◌<◌, ℕ, Bool, true, false, cond, ◌⊎◌, inl, inr, List, map, nat_eq, slice_index_or, refl, sym, ◌∙◌, ap, subst, ⊎_elim, eqb-true, arith}
+use Rattle.std.proofs.Common.{◌≡◌, ◌≢◌, ◌<◌, ℕ, Bool, true, false, cond, not, ◌⊎◌, inl, inr, List, map, nat_eq, slice_index_or, refl, sym, ◌∙◌, ap, subst, ⊎_elim, eqb-true, arith}
 use Rattle.std.specs.List.{range_with_len}
 use Rattle.std.proofs.lemmas.List.FromFn.{get_or-map-range_with_len}
 use Rattle.std.specs.Prelude.{◌||◌, ◌==◌}
-use Rattle.std.proofs.lemmas.Bool.{or_cases, true≢false}
+use Rattle.std.proofs.lemmas.Bool.{and_from, or_cases, true≢false}
+use Rattle.fx_text.specs.Strings.{is_char}
+use Rattle.fx_text.specs.Strings.Char.{Plain}
 use Rattle.mdl_text.specs.Bytes.{is_blank, is_name_byte}
 
 -- which of three cases two tests take
@@ -11,6 +13,18 @@ pub two_tests : {X : Type 0} (s t : Bool) (x y z : X) → ((s ≡ true) × (cond
 two_tests true t x y z = inl (refl, refl)
 two_tests false true x y z = inr (inl (refl, refl))
 two_tests false false x y z = inr (inr (refl, refl, refl))
+
+-- a byte in a string ends it, begins an escape, or is a character
+pub in_string : {X : Type 0} (b : ℕ) (end escape character : X) → ((b ≡ 34) × (cond (b == 34) end (cond (b == 92) escape character) ≡ end))
+    ⊎ (((b ≡ 92) × (cond (b == 34) end (cond (b == 92) escape character) ≡ escape)) ⊎ ((is_char (Plain b) ≡ true) × (cond (b == 34) end (cond (b == 92) escape character) ≡ character)))
+in_string b end escape character =
+    ⊎_elim
+    (λ quote. inl (eqb-true b 34 quote.0, quote.1))
+    (λ more. inr (⊎_elim
+    (λ back. inl (eqb-true b 92 back.0, back.1))
+    (λ other. inr (and_from (not (b == 34)) (not (b == 92)) (ap not other.0) (ap not other.1), other.2))
+    more))
+    (two_tests (b == 34) (b == 92) end escape character)
 
 -- a blank is a space, a tab or a carriage return
 pub blank_cases : (P : ℕ → Type 0) (b : ℕ) → is_blank b ≡ true → P 32 → P 9 → P 13 → P b

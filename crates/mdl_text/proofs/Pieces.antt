@@ -15,7 +15,7 @@ use Rattle.fx_text.specs.Strings.{Char, is_char, char_bytes, quoted}
 use Rattle.fx_text.specs.Strings.Char.{Plain, Escape}
 use Rattle.mdl_text.specs.Bytes.Piece.{Opening, Closing, String, Other}
 use Rattle.mdl_text.specs.inner.Plain.{spot_at, spot_step, list_end, or_else_closed}
-use Rattle.mdl_text.proofs.Classes.{two_tests}
+use Rattle.mdl_text.proofs.Classes.{in_string}
 
 -- what follows one byte
 abbrev after_spot : ℕ → List ℕ → Option Spot → ListEnd
@@ -54,14 +54,7 @@ outside_step n b =
 
 inside_step : (n b : ℕ) → ((b ≡ 34) × (spot_step (spot_at Inside n) b ≡ Some (spot_at Outside n))) ⊎ (((b ≡ 92) × (spot_step (spot_at Inside n) b ≡ Some (spot_at Escaped n))) ⊎ ((is_char (Plain b) ≡ true) × (spot_step (spot_at Inside n) b ≡ Some (spot_at Inside n))))
 unfolding spot_step
-inside_step n b =
-    ⊎_elim
-    (λ q. inl (eqb-true b 34 q.0, q.1))
-    (λ more. inr (⊎_elim
-    (λ e. inl (eqb-true b 92 e.0, e.1))
-    (λ u. inr (and_from (not (b == 34)) (not (b == 92)) (ap not u.0) (ap not u.1), u.2))
-    more))
-    (two_tests (b == 34) (b == 92) (Some (spot_at Outside n)) (Some (spot_at Escaped n)) (Some (spot_at Inside n)))
+inside_step n b = in_string b (Some (spot_at Outside n)) (Some (spot_at Escaped n)) (Some (spot_at Inside n))
 
 quote_step : (n : ℕ) → spot_step (spot_at Outside n) 34 ≡ Some (spot_at Inside n)
 unfolding spot_step

@@ -9,7 +9,7 @@ use Rattle.mdl_text.specs.Bytes.{is_blank, AreBlanks, Quote, IsQuote, quote_byte
 use Rattle.fx_text.specs.Strings.{Char, is_char, char_bytes, escaped, char_value, quoted}
 use Rattle.fx_text.specs.Strings.Char.{Plain, Escape}
 use Rattle.mdl_text.specs.inner.Plain.{string_step, strings}
-use Rattle.mdl_text.proofs.Classes.{no_byte, quote_no_blank, two_tests}
+use Rattle.mdl_text.proofs.Classes.{in_string, no_byte, quote_no_blank, two_tests}
 
 -- what follows one byte
 abbrev pub after_step : List ℕ → Option (Place × List ℕ) → Option (List ℕ)
@@ -121,17 +121,7 @@ outside_cases said b =
 
 inside_cases : (said : List ℕ) (b : ℕ) → ((b ≡ 34) × (string_step Inside said b ≡ Some (Outside, said))) ⊎ (((b ≡ 92) × (string_step Inside said b ≡ Some (Escaped, said))) ⊎ ((is_char (Plain b) ≡ true) × (string_step Inside said b ≡ Some (Inside, said ++ b ∷ []))))
 unfolding string_step
-inside_cases said b =
-    let outside : Option (Place × List ℕ) = Some (Outside, said) in
-    let escape : Option (Place × List ℕ) = Some (Escaped, said) in
-    let inside : Option (Place × List ℕ) = Some (Inside, said ++ b ∷ []) in
-    ⊎_elim
-    (λ quote. inl (eqb-true b 34 quote.0, quote.1))
-    (λ more. inr (⊎_elim
-    (λ back. inl (eqb-true b 92 back.0, back.1))
-    (λ other. inr (and_from (not (b == 34)) (not (b == 92)) (ap not other.0) (ap not other.1), other.2))
-    more))
-    (two_tests (b == 34) (b == 92) outside escape inside)
+inside_cases said b = in_string {X = Option (Place × List ℕ)} b (Some (Outside, said)) (Some (Escaped, said)) (Some (Inside, said ++ b ∷ []))
 
 -- what is read as strings has their form
 pub strings_sound : (place : Place) (bytes said value : List ℕ) → strings place said bytes ≡ Some value → StringForm place said bytes value

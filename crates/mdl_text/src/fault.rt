@@ -1,6 +1,3 @@
-ghost use Rattle.std.specs.Prelude.{◌≡◌};
-ghost use Rattle.mdl_text.specs.declared.fault.MdlFault.TheVariants.{OutOfMemory as MemoryFault};
-
 use fx_io::OutOfMemory;
 use thiserror::Error;
 
@@ -17,7 +14,10 @@ pub enum MdlFault {
 }
 
 impl From<OutOfMemory> for MdlFault {
-    ghost from_gives = { λ _ fault. fault ≡ MemoryFault };
+    ghost use Rattle.std.specs.Prelude.{◌≡◌};
+    ghost use Rattle.mdl_text.specs.declared.fault.MdlFault.TheVariants.{OutOfMemory};
+
+    ghost from_gives = { λ _ fault. fault ≡ OutOfMemory };
 
     fn from(_refused: OutOfMemory) -> MdlFault {
         MdlFault::OutOfMemory

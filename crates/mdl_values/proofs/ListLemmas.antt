@@ -1,30 +1,30 @@
 -- Lists of values that were read.
-use Rattle.std.proofs.Common.{◌≡◌, ℕ, zero, suc, ◌<◌, ◌≤◌, List, [], ◌∷◌, ◌++◌, length, get_or, drop, subst, sym, ◌∙◌, ap, arith, append-nil, Option, None, Some, Result, Ok, Err}
+use Rattle.std.proofs.Common.{◌≡◌, ℕ, zero, suc, ◌<◌, ◌≤◌, List, [], ◌∷◌, ◌++◌, length, get_or, drop, subst, sym, ◌∙◌, arith, append-nil, Option, None, Some, Result, Ok, Err}
 use Rattle.std.specs.Prelude.{IfOk}
 use Rattle.std.specs.List.{AllZip}
 use Rattle.mdl_values.specs.Reads.{Finds}
 use Rattle.mdl_values.specs.Lists.{IsListOf}
+use Rattle.mdl_values.specs.inner.Sized.{AreSized}
 use Rattle.mdl_values.proofs.ZipLemmas.{zip_at, zip_length}
 
 pub some_same : (xs ys : List (List ℕ)) → Some xs ≡ Some ys → xs ≡ ys
 some_same xs ys e = cc
 
--- nor with too few or too many
-pub no_size : {A : Type 0} (R : List ℕ → A → Type 0) (elements : Option (List (List ℕ))) (texts : List (List ℕ)) (list : List A) → elements ≡ Some texts → ((1 ≤ length texts) → (length texts ≤ 1024) → ⊥) → ¬ IsListOf elements R list
-no_size R elements texts list are bad is =
-    let same = some_same is.texts texts (sym is.are_elements ∙ are) in
-    let long : length texts ≡ length list = ap length (sym same) ∙ zip_length R is.texts list is.read in
-    bad (omega (arith, is.size.0)) (omega (arith, is.size.1))
+-- elements of which there are too few or too many make no list
+pub no_size : {A : Type 0} (R : List ℕ → A → Type 0) (elements : Option (List (List ℕ))) (list : List A) → ((texts : List (List ℕ)) → ¬ AreSized elements 1 1024 texts) → ¬ IsListOf elements R list
+no_size R elements list none is =
+    let long = zip_length R is.texts list is.read in
+    none is.texts (record { are = is.are_elements; size = (omega (arith, long, is.size.0), omega (arith, long, is.size.1)) })
 
 -- else the values of the elements are the list
-pub list_found : {A E : Type 0} (R : List ℕ → A → Type 0) (elements : Option (List (List ℕ))) (texts : List (List ℕ)) (r : Result (Option (List A)) E) → elements ≡ Some texts → 1 ≤ length texts → length texts ≤ 1024
+pub list_found : {A E : Type 0} (R : List ℕ → A → Type 0) (elements : Option (List (List ℕ))) (texts : List (List ℕ)) (r : Result (Option (List A)) E) → AreSized elements 1 1024 texts
     → IfOk r (λ found. Finds (λ list. AllZip R texts list) found) → IfOk r (λ found. Finds (λ list. IsListOf elements R list) found)
-list_found {A} R elements texts (Ok None) are low high none =
-    λ list is. none list (subst (λ (ts : List (List ℕ)). AllZip R ts list) (some_same is.texts texts (sym is.are_elements ∙ are)) is.read)
-list_found R elements texts (Ok (Some list)) are low high read =
+list_found {A} R elements texts (Ok None) sized none =
+    λ list is. none list (subst (λ (ts : List (List ℕ)). AllZip R ts list) (some_same is.texts texts (sym is.are_elements ∙ sized.are)) is.read)
+list_found R elements texts (Ok (Some list)) sized read =
     let long = zip_length R texts list read in
-    record { texts = texts; are_elements = are; read = read; size = (omega (arith, long), omega (arith, long)) }
-list_found R elements texts (Err e) are low high h = h
+    record { texts = texts; are_elements = sized.are; read = read; size = (omega (arith, long, sized.size.0), omega (arith, long, sized.size.1)) }
+list_found R elements texts (Err e) sized h = h
 
 -- all were read
 pub all_read : {A : Type 0} (R : List ℕ → A → Type 0) (texts elements : List (List ℕ)) (list : List A) (i : ℕ) → texts ≡ elements → length texts ≤ i
@@ -40,8 +40,8 @@ all_read {A} R texts elements list i same whole here =
     none_left R (t ∷ ts) (suc i) h = none_left R ts i (omega arith)
 
 -- an element that has no value leaves none
-pub one_unread : {A : Type 0} (R : List ℕ → A → Type 0) (texts elements : List (List ℕ)) (i : ℕ) (text : List ℕ) → texts ≡ elements → i < length texts → ((value : A) → ¬ R (get_or texts i text) value)
+pub one_unread : {A : Type 0} (R : List ℕ → A → Type 0) (texts elements : List (List ℕ)) (i : ℕ) (text : List ℕ) → texts ≡ elements → i < length texts → get_or texts i [] ≡ text → ((value : A) → ¬ R text value)
     → (list : List A) → ¬ AllZip R elements list
-one_unread {A} R texts elements i text same inside none list all =
-    let found = zip_at R texts list i text inside (subst (λ (ts : List (List ℕ)). AllZip R ts list) (sym same) all) in
-    none found.0 found.1
+one_unread {A} R texts elements i text same inside is none list all =
+    let found = zip_at R texts list i [] inside (subst (λ (ts : List (List ℕ)). AllZip R ts list) (sym same) all) in
+    none found.0 (subst (λ (t : List ℕ). R t found.0) is found.1)

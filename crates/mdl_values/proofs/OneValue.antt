@@ -1,10 +1,10 @@
 -- A text has at most one value of each kind.
-use Rattle.std.proofs.Common.{◌≡◌, ℕ, inl, inr, Bool, true, false, List, [], ◌∷◌, get_or, Option, None, Some, refl, sym, ◌∙◌, ap, subst, arith, true≢false}
+use Rattle.std.proofs.Common.{◌≡◌, ◌≢◌, ℕ, inl, inr, Bool, true, false, List, [], ◌∷◌, get_or, Option, None, Some, refl, sym, ◌∙◌, ap, subst, arith, true≢false}
 use Rattle.std.specs.Prelude.{◌==◌, codes, pos, replicate, MatchBool, bytes_eq, ◌⊎◌}
 use Rattle.std.specs.Char.{is_ascii_digit}
 use Rattle.std.proofs.lemmas.Bool.Decides.{nat_tests}
 use Rattle.fx_type.specs.declared.decimal.Decimal.{Decimal}
-use Rattle.fx_round.specs.DecimalText.{IsDecimal, IsNumeral}
+use Rattle.fx_round.specs.DecimalText.{IsDecimal, IsDecimalOf, IsNumeral}
 use Rattle.dg_model.specs.declared.diagram.PeriodSpec.{PeriodSpec}
 use Rattle.dg_model.specs.declared.diagram.PeriodSpec.TheVariants.{Inherit, Constant, Every}
 use Rattle.mdl_text.specs.Bytes.{is_blank}
@@ -71,26 +71,24 @@ minus_one = record {
 first_byte : (a b : List ℕ) → a ≡ b → get_or a 0 0 ≡ get_or b 0 0
 first_byte a b e = ap (λ (t : List ℕ). get_or t 0 0) e
 
+-- a decimal that begins otherwise than `true` and `false` is a number
+as_number : (text : List ℕ) (d : Decimal) → get_or text 0 0 ≢ 116 → get_or text 0 0 ≢ 102 → IsDecimal text d → IsDecimalOf text d
+as_number text d no_true no_false (inl (e, w)) = absurd (no_true (first_byte text (codes "true") e))
+as_number text d no_true no_false (inr (inl (e, w))) = absurd (no_false (first_byte text (codes "false") e))
+as_number text d no_true no_false (inr (inr w)) = w
+
 -- -1 isn't above 0
 minus_below : (period : Decimal) → IsAboveZero (codes "-1") period → ⊥
-minus_below period is = by is.read
-  where
-    by : IsDecimal (codes "-1") period → ⊥
-    by (inl (e, w)) = let h : ◌≡◌ {A = ℕ} 45 116 = first_byte (codes "-1") (codes "true") e in absurd (omega (arith, h))
-    by (inr (inl (e, w))) = let h : ◌≡◌ {A = ℕ} 45 102 = first_byte (codes "-1") (codes "false") e in absurd (omega (arith, h))
-    by (inr (inr w)) =
-        let same = one_numeral (codes "-1") minus_one w.numeral in
-        let negative : period.negative ≡ true = w.negative ∙ sym same.negative in
-        true≢false (sym negative ∙ is.above.sign)
+minus_below period is =
+    let number = as_number (codes "-1") period (λ e. omega (arith, e)) (λ e. omega (arith, e)) is.read in
+    let same = one_numeral (codes "-1") minus_one number.numeral in
+    true≢false (sym (number.negative ∙ sym same.negative) ∙ is.above.sign)
 
 -- `inf` is no decimal
 inf_none : (period : Decimal) → IsAboveZero (codes "inf") period → ⊥
-inf_none period is = by is.read
-  where
-    by : IsDecimal (codes "inf") period → ⊥
-    by (inl (e, w)) = let h : ◌≡◌ {A = ℕ} 105 116 = first_byte (codes "inf") (codes "true") e in absurd (omega (arith, h))
-    by (inr (inl (e, w))) = let h : ◌≡◌ {A = ℕ} 105 102 = first_byte (codes "inf") (codes "false") e in absurd (omega (arith, h))
-    by (inr (inr w)) = word_is_none 105 (codes "nf") refl refl refl (codes "inf") refl w.numeral
+inf_none period is =
+    let number = as_number (codes "inf") period (λ e. omega (arith, e)) (λ e. omega (arith, e)) is.read in
+    word_is_none 105 (codes "nf") refl refl refl (codes "inf") refl number.numeral
 
 one_sample : (text : List ℕ) (one other : PeriodSpec) → IsSampleTime text one → IsSampleTime text other → one ≡ other
 one_sample text Inherit Inherit is too = refl

@@ -8,6 +8,7 @@ use Rattle.mdl_values.specs.Reads.{Finds}
 use Rattle.mdl_values.specs.Pieces.{bracket_elements}
 use Rattle.mdl_values.specs.Numbers.{IsNumberText}
 use Rattle.mdl_values.specs.Periods.{IsZeroText, IsAboveZero, IsWithOffset, IsBracketedNumber}
+use Rattle.mdl_values.specs.inner.Sized.{AreSized}
 use Rattle.mdl_values.proofs.DecimalLemmas.{one_decimal}
 use Rattle.mdl_values.proofs.OneValue.{first_same}
 use Rattle.mdl_values.proofs.TypeLemmas.{only_same}
@@ -33,31 +34,35 @@ not_above text d read small period above =
 some_same : (xs ys : List (List ℕ)) → Some xs ≡ Some ys → xs ≡ ys
 some_same xs ys e = cc
 
+-- how many elements there are
+pub count_of : {elements : Option (List (List ℕ))} {count : ℕ} {texts : List (List ℕ)} → AreSized elements count count texts → length texts ≡ count
+count_of sized = omega (arith, sized.size)
+
 -- a period with its offset, by the two elements
-pub offset_found : (text : List ℕ) (texts : List (List ℕ)) (first second : List ℕ) (found : Option Decimal) → bracket_elements text ≡ Some texts → length texts ≡ 2
+pub offset_found : (text : List ℕ) (texts : List (List ℕ)) (first second : List ℕ) (found : Option Decimal) → AreSized (bracket_elements text) 2 2 texts
     → get_or texts 0 [] ≡ first → get_or texts 1 [] ≡ second → IsZeroText second → Finds (IsAboveZero first) found → Finds (IsWithOffset text) found
-offset_found text [] first second found are long f s zero read = absurd (omega arith)
-offset_found text (a ∷ []) first second found are long f s zero read = absurd (omega arith)
-offset_found text (a ∷ b ∷ c ∷ more) first second found are long f s zero read = absurd (omega arith)
-offset_found text (a ∷ b ∷ []) first second None are long f s zero none = λ period is.
-    none period (subst (λ (t : List ℕ). IsAboveZero t period) (sym (first_same a b is.first is.second (some_same (a ∷ b ∷ []) (is.first ∷ is.second ∷ []) (sym are ∙ is.elements))) ∙ f) is.read)
-offset_found text (a ∷ b ∷ []) first second (Some period) are long f s zero read = record {
+offset_found text [] first second found sized f s zero read = absurd (omega (arith, sized.size))
+offset_found text (a ∷ []) first second found sized f s zero read = absurd (omega (arith, sized.size))
+offset_found text (a ∷ b ∷ c ∷ more) first second found sized f s zero read = absurd (omega (arith, sized.size))
+offset_found text (a ∷ b ∷ []) first second None sized f s zero none = λ period is.
+    none period (subst (λ (t : List ℕ). IsAboveZero t period) (sym (first_same a b is.first is.second (some_same (a ∷ b ∷ []) (is.first ∷ is.second ∷ []) (sym sized.are ∙ is.elements))) ∙ f) is.read)
+offset_found text (a ∷ b ∷ []) first second (Some period) sized f s zero read = record {
   first = first;
   second = second;
-  elements = are ∙ ap₂ (λ (x y : List ℕ). Some (x ∷ y ∷ [])) f s;
+  elements = sized.are ∙ ap₂ (λ (x y : List ℕ). Some (x ∷ y ∷ [])) f s;
   read = read;
   offset = zero;
 }
 
 -- a number in brackets, by the one element
-pub bracketed_found : (text : List ℕ) (texts : List (List ℕ)) (element : List ℕ) (found : Option ℕ) → bracket_elements text ≡ Some texts → length texts ≡ 1
+pub bracketed_found : (text : List ℕ) (texts : List (List ℕ)) (element : List ℕ) (found : Option ℕ) → AreSized (bracket_elements text) 1 1 texts
     → get_or texts 0 [] ≡ element → Finds (IsNumberText 1 1024 element) found → Finds (IsBracketedNumber text) found
-bracketed_found text [] element found are long f read = absurd (omega arith)
-bracketed_found text (a ∷ b ∷ more) element found are long f read = absurd (omega arith)
-bracketed_found text (a ∷ []) element None are long f none = λ number is.
-    none number (subst (λ (t : List ℕ). IsNumberText 1 1024 t number) (sym (only_same a is.element (some_same (a ∷ []) (is.element ∷ []) (sym are ∙ is.elements))) ∙ f) is.read)
-bracketed_found text (a ∷ []) element (Some number) are long f read = record {
+bracketed_found text [] element found sized f read = absurd (omega (arith, sized.size))
+bracketed_found text (a ∷ b ∷ more) element found sized f read = absurd (omega (arith, sized.size))
+bracketed_found text (a ∷ []) element None sized f none = λ number is.
+    none number (subst (λ (t : List ℕ). IsNumberText 1 1024 t number) (sym (only_same a is.element (some_same (a ∷ []) (is.element ∷ []) (sym sized.are ∙ is.elements))) ∙ f) is.read)
+bracketed_found text (a ∷ []) element (Some number) sized f read = record {
   element = element;
-  elements = are ∙ ap (λ (x : List ℕ). Some (x ∷ [])) f;
+  elements = sized.are ∙ ap (λ (x : List ℕ). Some (x ∷ [])) f;
   read = read;
 }

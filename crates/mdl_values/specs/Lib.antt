@@ -7,3 +7,4 @@ pub mod Reads
 pub mod Signs
 pub mod Types
 pub mod Words
+pub mod inner

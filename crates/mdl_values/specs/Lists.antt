@@ -18,6 +18,10 @@ pub record IsListOf {A : Type 0} (elements : Option (List (List ℕ))) (IsValue 
 abbrev pub IsListText : List ℕ → List Decimal → Type 0
 IsListText text list = IsListOf (list_elements text) IsDecimal list
 
--- sizes from 1 to 1024, in brackets
+-- a size
+abbrev pub IsSizeText : List ℕ → ℕ → Type 0
+IsSizeText = IsNumberText 1 1024
+
+-- sizes in brackets
 abbrev pub IsSizesText : List ℕ → List ℕ → Type 0
-IsSizesText text sizes = IsListOf (bracket_elements text) (IsNumberText 1 1024) sizes
+IsSizesText text sizes = IsListOf (bracket_elements text) IsSizeText sizes

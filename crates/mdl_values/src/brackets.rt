@@ -1,6 +1,8 @@
 //! Elements in brackets.
 ghost use Rattle.std.specs.Prelude.{◌≡◌, None, Some, IfOk, MatchOption};
+ghost use Rattle.mdl_values.specs.Reads.{Finds};
 ghost use Rattle.mdl_values.specs.Pieces.{pieces_at, words_of, two_of, opens, bracketed, bracket_elements, alone, list_elements};
+ghost use Rattle.mdl_values.specs.inner.Sized.{AreSized};
 
 use crate::pieces::{cut, elements, first_word, push_words, unblanked};
 use fx_io::{OutOfMemory, Texts};
@@ -82,4 +84,19 @@ pub fn list_elements(alloc: Global, text: &[u8]) -> Result<Option<Texts>, OutOfM
         return Ok(None);
     }
     elements(alloc, inside)
+}
+
+/// The elements, where there are at least `least` and at most `most`.
+pub fn sized(elements: Option<Texts>, least: usize, most: usize) -> Option<Texts>
+    ensures { Finds (AreSized elements least most) result }
+{
+    let Some(texts) = elements else {
+        return None;
+    };
+    let count = texts.as_slice().len();
+    if least <= count && count <= most {
+        Some(texts)
+    } else {
+        None
+    }
 }

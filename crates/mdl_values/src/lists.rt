@@ -3,10 +3,9 @@ ghost use Rattle.std.specs.Prelude.{IfOk};
 ghost use Rattle.std.specs.List.{AllZip};
 ghost use Rattle.fx_round.specs.DecimalText.{IsDecimal};
 ghost use Rattle.mdl_values.specs.Reads.{Finds};
-ghost use Rattle.mdl_values.specs.Numbers.{IsNumberText};
-ghost use Rattle.mdl_values.specs.Lists.{IsListText, IsSizesText};
+ghost use Rattle.mdl_values.specs.Lists.{IsListText, IsSizeText, IsSizesText};
 
-use crate::brackets::{bracket_elements, list_elements};
+use crate::brackets::{bracket_elements, list_elements, sized};
 use crate::numbers::read_number;
 use dg_model::Decimals;
 use fx_io::{OutOfMemory, Sizes, Texts};
@@ -42,7 +41,7 @@ fn decimals(alloc: Global, elements: &Texts) -> Result<Option<Decimals>, OutOfMe
 /// The sizes that the elements are.
 fn sizes(alloc: Global, elements: &Texts) -> Result<Option<Sizes>, OutOfMemory>
     ensures { IfOk result (λ found.
-        Finds (λ list. AllZip (IsNumberText 1 1024) elements.now list) found) }
+        Finds (λ list. AllZip IsSizeText elements.now list) found) }
 {
     let texts = elements.as_slice();
     let mut list = Sizes::new(alloc);
@@ -60,13 +59,9 @@ fn sizes(alloc: Global, elements: &Texts) -> Result<Option<Sizes>, OutOfMemory>
 pub fn read_list(alloc: Global, text: &[u8]) -> Result<Option<Decimals>, OutOfMemory>
     ensures { IfOk result (λ found. Finds (IsListText text.now) found) }
 {
-    let Some(elements) = list_elements(alloc, text)? else {
+    let Some(elements) = sized(list_elements(alloc, text)?, 1, LONGEST) else {
         return Ok(None);
     };
-    let count = elements.as_slice().len();
-    if count < 1 || count > LONGEST {
-        return Ok(None);
-    }
     decimals(alloc, &elements)
 }
 
@@ -74,12 +69,8 @@ pub fn read_list(alloc: Global, text: &[u8]) -> Result<Option<Decimals>, OutOfMe
 pub fn read_sizes(alloc: Global, text: &[u8]) -> Result<Option<Sizes>, OutOfMemory>
     ensures { IfOk result (λ found. Finds (IsSizesText text.now) found) }
 {
-    let Some(elements) = bracket_elements(alloc, text)? else {
+    let Some(elements) = sized(bracket_elements(alloc, text)?, 1, LONGEST) else {
         return Ok(None);
     };
-    let count = elements.as_slice().len();
-    if count < 1 || count > LONGEST {
-        return Ok(None);
-    }
     sizes(alloc, &elements)
 }

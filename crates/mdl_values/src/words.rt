@@ -5,7 +5,10 @@ ghost use Rattle.mdl_values.specs.Words.{value_beside, listed, rounding_of, swit
 use dg_model::{Criterion, Gate, Relation};
 use fx_type::Rounding;
 
-const ROUNDINGS: &[(&str, Rounding)] = &[
+/// Words, and what each of them says.
+type Words<T> = &'static [(&'static str, T)];
+
+const ROUNDINGS: Words<Rounding> = &[
     ("Floor", Rounding::Floor),
     ("Ceiling", Rounding::Ceiling),
     ("Zero", Rounding::Zero),
@@ -14,17 +17,17 @@ const ROUNDINGS: &[(&str, Rounding)] = &[
     ("Convergent", Rounding::Convergent),
 ];
 
-const SWITCHES: &[(&str, bool)] = &[("on", true), ("off", false)];
+const SWITCHES: Words<bool> = &[("on", true), ("off", false)];
 
-const RESETS: &[(&str, bool)] = &[("held", false), ("reset", true)];
+const RESETS: Words<bool> = &[("held", false), ("reset", true)];
 
-const CRITERIA: &[(&str, Criterion)] = &[
+const CRITERIA: Words<Criterion> = &[
     ("u2 >= Threshold", Criterion::AtLeast),
     ("u2 > Threshold", Criterion::Above),
     ("u2 ~= 0", Criterion::NotZero),
 ];
 
-const RELATIONS: &[(&str, Relation)] = &[
+const RELATIONS: Words<Relation> = &[
     ("==", Relation::Eq),
     ("~=", Relation::Ne),
     ("<", Relation::Lt),
@@ -33,7 +36,7 @@ const RELATIONS: &[(&str, Relation)] = &[
     (">", Relation::Gt),
 ];
 
-const GATES: &[(&str, Gate)] = &[
+const GATES: Words<Gate> = &[
     ("AND", Gate::And),
     ("OR", Gate::Or),
     ("NAND", Gate::Nand),
