@@ -9,19 +9,18 @@ use Rattle.vl_ast.specs.declared.expressions.Expr.{Expr}
 use Rattle.vl_ast.specs.declared.expressions.Expr.TheOpen.{Expr-F}
 use Rattle.vl_ast.specs.declared.expressions.Expr.TheViews.{roll-Expr}
 use Rattle.vl_ast.specs.declared.modules.Module.{Module}
-use Rattle.vl_read.specs.declared.places.Opening.{Opening}
-use Rattle.vl_read.specs.declared.places.Closing.{Closing}
-use Rattle.vl_read.specs.declared.places.Opening.TheVariants.{OpenParenthesis, OpenBrace}
-use Rattle.vl_read.specs.declared.places.Closing.TheVariants.{CloseParenthesis, CloseBrace, CloseBracket}
+use Rattle.vl_read.specs.declared.places.Bracket.{Bracket}
+use Rattle.vl_read.specs.declared.places.Bracket.TheVariants.{OpenParenthesis, CloseParenthesis, CloseBrace, CloseBracket}
 use Rattle.vl_read.specs.declared.places.Frame.{Frame}
 use Rattle.vl_read.specs.declared.places.Frame.TheVariants.{InConcat, InRepeat, InCast, InUnary, InLeft, InRight, InChosen, InOther}
-use Rattle.vl_read.specs.inner.Places.{Spot, Goal, Parser}
+use Rattle.vl_read.specs.inner.Places.{Spot, Goal, Parser, bracket_byte}
 use Rattle.vl_read.specs.inner.Places.Spot.{Operand, Opened, Braced, Begins, Value, Ends, Amount, Index, High, Low}
 use Rattle.vl_read.specs.declared.places.Draft.{Draft}
 use Rattle.vl_read.specs.inner.Lexemes.{class_of, extends, kind_of, dec_of, sized_of}
 use Rattle.vl_read.specs.inner.Plain.{parse, step, operand_step, opened_step, braced_step, left_step, frame_step, spot_step, step_at}
 use Rattle.vl_ast.specs.Operators.{infix_of}
 use Rattle.vl_read.proofs.Expressions.{at, in_frame}
+use Rattle.vl_read.proofs.FormSteps.{begins_step, ends_step}
 use Rattle.vl_read.proofs.Live.{IsLiveSpot}
 use Rattle.vl_read.proofs.Divided.{IsLexeme, a_key, a_mark, AllLexemes}
 
@@ -49,18 +48,13 @@ pub operand_ends : (draft : Draft) (goal : Goal) (frames : List Frame) → Close
 unfolding step step_at spot_step operand_step kind_of class_of
 operand_ends draft goal frames outer = by_lexeme _ _ (codes "a") (a_key _ refl) refl (outer (roll-Expr (Expr-F.Name (codes "a"))))
 
--- `)`, `}` or `]`
-paren_ends : (draft : Draft) (goal : Goal) (frames : List Frame) (value : Expr) → Closes draft goal frames → CanEnd (at draft goal frames (Ends value CloseParenthesis))
-unfolding step step_at spot_step class_of extends
-paren_ends draft goal frames value outer = by_lexeme _ _ (codes ")") (a_mark _ refl) refl (outer value)
+bracket_is : (mark : Bracket) → IsLexeme (bracket_byte mark ∷ [])
+unfolding class_of extends
+bracket_is OpenParenthesis = a_mark _ refl
+bracket_is _ = a_mark _ refl
 
-brace_ends : (draft : Draft) (goal : Goal) (frames : List Frame) (value : Expr) → Closes draft goal frames → CanEnd (at draft goal frames (Ends value CloseBrace))
-unfolding step step_at spot_step class_of extends
-brace_ends draft goal frames value outer = by_lexeme _ _ (codes "}") (a_mark _ refl) refl (outer value)
-
-bracket_ends : (draft : Draft) (goal : Goal) (frames : List Frame) (value : Expr) → Closes draft goal frames → CanEnd (at draft goal frames (Ends value CloseBracket))
-unfolding step step_at spot_step class_of extends
-bracket_ends draft goal frames value outer = by_lexeme _ _ (codes "]") (a_mark _ refl) refl (outer value)
+ends_end : (draft : Draft) (goal : Goal) (frames : List Frame) (value : Expr) (mark : Bracket) → Closes draft goal frames → CanEnd (at draft goal frames (Ends value mark))
+ends_end draft goal frames value mark outer = by_lexeme _ _ _ (bracket_is mark) (ends_step draft goal frames value mark) (outer value)
 
 -- an expression that is begun is ended, where the one around it is
 
@@ -75,7 +69,7 @@ concat_ends draft goal outer parts close value =
 repeat_ends : (draft : Draft) (goal : Goal) (outer : List Frame) (count : ℕ) → Inside draft goal outer (InRepeat count)
 unfolding frame_step class_of extends
 repeat_ends draft goal outer count close value =
-    by_lexeme _ _ (codes "}") (a_mark _ refl) (in_frame draft goal outer (InRepeat count) value (codes "}") refl) (brace_ends draft goal outer (roll-Expr (Expr-F.Repeat count value)) close)
+    by_lexeme _ _ (codes "}") (a_mark _ refl) (in_frame draft goal outer (InRepeat count) value (codes "}") refl) (ends_end draft goal outer (roll-Expr (Expr-F.Repeat count value)) CloseBrace close)
 
 cast_ends : (draft : Draft) (goal : Goal) (outer : List Frame) (signed : Bool) → Inside draft goal outer (InCast signed)
 unfolding frame_step class_of extends
@@ -139,21 +133,14 @@ braced_ends : (draft : Draft) (goal : Goal) (frames : List Frame) → Closes dra
 unfolding step step_at spot_step braced_step operand_step kind_of class_of
 braced_ends draft goal frames close = by_lexeme _ _ (codes "a") (a_key _ refl) refl (concat_ends draft goal frames [] close (roll-Expr (Expr-F.Name (codes "a"))))
 
-begins_end : (draft : Draft) (goal : Goal) (frames : List Frame) (mark : Opening) → Closes draft goal frames → CanEnd (at draft goal frames (Begins mark))
-unfolding step step_at spot_step class_of extends
-begins_end draft goal frames OpenParenthesis close = by_lexeme _ _ (codes "(") (a_mark _ refl) refl (operand_ends draft goal frames close)
-begins_end draft goal frames OpenBrace close = by_lexeme _ _ (codes "{") (a_mark _ refl) refl (operand_ends draft goal frames close)
-
-ends_end : (draft : Draft) (goal : Goal) (frames : List Frame) (value : Expr) (mark : Closing) → Closes draft goal frames → CanEnd (at draft goal frames (Ends value mark))
-ends_end draft goal frames value CloseParenthesis close = paren_ends draft goal frames value close
-ends_end draft goal frames value CloseBrace close = brace_ends draft goal frames value close
-ends_end draft goal frames value CloseBracket close = bracket_ends draft goal frames value close
+begins_end : (draft : Draft) (goal : Goal) (frames : List Frame) (mark : Bracket) → Closes draft goal frames → CanEnd (at draft goal frames (Begins mark))
+begins_end draft goal frames mark close = by_lexeme _ _ _ (bracket_is mark) (begins_step draft goal frames mark) (operand_ends draft goal frames close)
 
 amount_ends : (draft : Draft) (goal : Goal) (frames : List Frame) (op : ShiftOp) (value : Expr) → Closes draft goal frames → CanEnd (at draft goal frames (Amount op value))
 unfolding step step_at spot_step kind_of dec_of sized_of class_of
 amount_ends draft goal frames op value close =
     let one : Sized = record { width = 1; signed = false; bits = 0 } in
-    by_lexeme _ _ (codes "1'b0") (a_key _ refl) refl (paren_ends draft goal frames (roll-Expr (Expr-F.Shift op value one)) close)
+    by_lexeme _ _ (codes "1'b0") (a_key _ refl) refl (ends_end draft goal frames (roll-Expr (Expr-F.Shift op value one)) CloseParenthesis close)
 
 high_ends : (draft : Draft) (goal : Goal) (frames : List Frame) (name : List ℕ) (place : ℕ) → Closes draft goal frames → CanEnd (at draft goal frames (High name place))
 unfolding step step_at spot_step class_of extends
@@ -165,7 +152,7 @@ index_ends draft goal frames name close = by_lexeme _ _ (codes "0") (a_key _ ref
 
 low_ends : (draft : Draft) (goal : Goal) (frames : List Frame) (name : List ℕ) (high : ℕ) → Closes draft goal frames → CanEnd (at draft goal frames (Low name high))
 unfolding step step_at spot_step kind_of dec_of class_of
-low_ends draft goal frames name high close = by_lexeme _ _ (codes "0") (a_key _ refl) refl (bracket_ends draft goal frames (roll-Expr (Expr-F.Part name high 0)) close)
+low_ends draft goal frames name high close = by_lexeme _ _ (codes "0") (a_key _ refl) refl (ends_end draft goal frames (roll-Expr (Expr-F.Part name high 0)) CloseBracket close)
 
 pub spot_ends : (draft : Draft) (goal : Goal) (frames : List Frame) (spot : Spot) → IsLiveSpot spot → Closes draft goal frames → CanEnd (at draft goal frames spot)
 spot_ends draft goal frames Operand h close = operand_ends draft goal frames close

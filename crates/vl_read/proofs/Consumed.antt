@@ -9,7 +9,7 @@ use Rattle.vl_ast.specs.Tokens.{Token, Key, Sign, Identifier, Number}
 use Rattle.vl_ast.specs.Grammar.{comma, expr_tokens, depth, is_filled}
 use Rattle.vl_read.specs.declared.places.Frame.{Frame}
 use Rattle.vl_read.specs.declared.places.Frame.TheVariants.{InConcat, InRepeat, InCast, InUnary, InLeft, InRight, InChosen, InOther}
-use Rattle.vl_read.specs.inner.Places.{Spot, opening_byte, closing_byte}
+use Rattle.vl_read.specs.inner.Places.{Spot, bracket_byte}
 use Rattle.vl_read.specs.inner.Places.Spot.{Operand, Opened, Braced, Begins, Value, Ends, Amount, Index, High, Low}
 
 -- the parts, each with a comma after it
@@ -59,9 +59,9 @@ abbrev pub IsText : List Frame → Spot → List Token → Type 0
 IsText frames Operand text = text ≡ frames_tokens frames
 IsText frames Opened text = text ≡ frames_tokens frames ++ Sign (codes "(") ∷ []
 IsText frames Braced text = text ≡ frames_tokens frames ++ Sign (codes "{") ∷ []
-IsText frames (Begins mark) text = text ++ Sign (opening_byte mark ∷ []) ∷ [] ≡ frames_tokens frames
+IsText frames (Begins mark) text = text ++ Sign (bracket_byte mark ∷ []) ∷ [] ≡ frames_tokens frames
 IsText frames (Value value) text = text ≡ frames_tokens frames ++ expr_tokens value
-IsText frames (Ends value mark) text = text ++ Sign (closing_byte mark ∷ []) ∷ [] ≡ frames_tokens frames ++ expr_tokens value
+IsText frames (Ends value mark) text = text ++ Sign (bracket_byte mark ∷ []) ∷ [] ≡ frames_tokens frames ++ expr_tokens value
 IsText frames (Amount op value) text = text ≡ frames_tokens frames ++ (Sign (codes "(") ∷ (expr_tokens value ++ Sign (shift_text op) ∷ []))
 IsText frames (Index name) text = text ≡ frames_tokens frames ++ (Identifier name ∷ Sign (codes "[") ∷ [])
 IsText frames (High name place) text = text ≡ frames_tokens frames ++ (Identifier name ∷ Sign (codes "[") ∷ Number place ∷ [])

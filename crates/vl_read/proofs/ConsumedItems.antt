@@ -47,36 +47,23 @@ IsNetText net (Close signed width) text =
 IsNetText net (Named signed width) text =
     (0 < width) × (text ≡ net_words net ++ (signed_tokens signed ++ Sign (codes "[") ∷ Number (width - 1) ∷ Sign (codes ":") ∷ Key (codes "0") ∷ Sign (codes "]") ∷ []))
 
--- a word of the head of an item with a clock, of letters or a mark
-abbrev pub head_token : HeadSpot → Token
-head_token Event = Sign (codes "@")
-head_token OpenEvent = Sign (codes "(")
-head_token Posedge = Key (codes "posedge")
-head_token Clock = Key (codes "clk")
-head_token CloseEvent = Sign (codes ")")
-head_token Begin = Key (codes "begin")
-head_token Test = Key (codes "if")
-head_token OpenTest = Sign (codes "(")
-head_token Reset = Key (codes "reset")
-head_token CloseTest = Sign (codes ")")
-
 -- the words of an item with a clock before its name
 abbrev pub head_tokens : List Token
 head_tokens =
     Key (codes "always") ∷ Sign (codes "@") ∷ Sign (codes "(") ∷ Key (codes "posedge") ∷ Key (codes "clk") ∷ Sign (codes ")") ∷ Key (codes "begin") ∷ Key (codes "if") ∷ Sign (codes "(") ∷ Key (codes "reset") ∷ Sign (codes ")") ∷ []
 
--- how many of them stand before one of the head
-abbrev pub words_before : HeadSpot → ℕ
-words_before Event = 1
-words_before OpenEvent = 2
-words_before Posedge = 3
-words_before Clock = 4
-words_before CloseEvent = 5
-words_before Begin = 6
-words_before Test = 7
-words_before OpenTest = 8
-words_before Reset = 9
-words_before CloseTest = 10
+-- those before one of the head
+abbrev pub head_before : HeadSpot → List Token
+head_before Event = take 1 head_tokens
+head_before OpenEvent = take 2 head_tokens
+head_before Posedge = take 3 head_tokens
+head_before Clock = take 4 head_tokens
+head_before CloseEvent = take 5 head_tokens
+head_before Begin = take 6 head_tokens
+head_before Test = take 7 head_tokens
+head_before OpenTest = take 8 head_tokens
+head_before Reset = take 9 head_tokens
+head_before CloseTest = take 10 head_tokens
 
 -- all of them up to `else`
 abbrev pub clocked_tokens : List ℕ → Sized → List Token
@@ -105,7 +92,7 @@ pub record ExpressionAt (goal : Goal) (frames : List Frame) (spot : Spot) (text 
 abbrev pub IsBegunItem : Place → List Token → Type 0
 IsBegunItem AssignName text = text ≡ Key (codes "assign") ∷ []
 IsBegunItem (AssignSign name) text = text ≡ Key (codes "assign") ∷ Identifier name ∷ []
-IsBegunItem (Head at) text = text ≡ take (words_before at) head_tokens
+IsBegunItem (Head at) text = text ≡ head_before at
 IsBegunItem ClockedName text = text ≡ head_tokens
 IsBegunItem (ClockedSign name) text = text ≡ named_tokens name []
 IsBegunItem (First name) text = text ≡ named_tokens name (Sign (codes "<=") ∷ [])
@@ -139,8 +126,8 @@ pub record AtPort (most : ℕ) (draft : Draft) (own text : List Token) : Type 0 
   pub kept : draft.most ≡ most
   pub is : text ≡ opened_tokens draft ++ (before_next ports ++ own)
 
--- all ports and the items so far were read, and of the next one its own tokens
-pub record InBody (most : ℕ) (draft : Draft) (own text : List Token) : Type 0 where
+-- the tokens of all ports and of the items so far
+pub record BodyParts (most : ℕ) (draft : Draft) : Type 0 where
   pub ports : List (List Token)
   pub items : List (List Token)
   pub has_port : draft.ports ≢ []
@@ -148,7 +135,11 @@ pub record InBody (most : ℕ) (draft : Draft) (own text : List Token) : Type 0 
   pub each_item : AllZip IsItemText draft.items items
   pub kept : draft.most ≡ most
   pub room : length draft.items ≤ most
-  pub is : text ≡ opened_tokens draft ++ (joined comma ports ++ (Sign (codes ")") ∷ Sign (codes ";") ∷ (flat_map (λ item. item) items ++ own)))
+
+-- they were read, and of the next item its own tokens
+pub record InBody (most : ℕ) (draft : Draft) (own text : List Token) : Type 0 where
+  pub parts : BodyParts most draft
+  pub is : text ≡ opened_tokens draft ++ (joined comma parts.ports ++ (Sign (codes ")") ∷ Sign (codes ";") ∷ (flat_map (λ item. item) parts.items ++ own)))
 
 -- the same where one more item has room
 pub record InItem (most : ℕ) (draft : Draft) (own text : List Token) : Type 0 where

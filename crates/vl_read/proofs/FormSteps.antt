@@ -12,16 +12,17 @@ use Rattle.vl_ast.specs.declared.expressions.Expr.{Expr}
 use Rattle.vl_ast.specs.declared.expressions.Expr.TheOpen.{Expr-F}
 use Rattle.vl_ast.specs.declared.expressions.Expr.TheViews.{roll-Expr, out-roll-Expr}
 use Rattle.vl_ast.specs.Operators.{unary_text, binary_text, shift_text, infix_of, shift_of}
-use Rattle.vl_read.specs.declared.places.Opening.TheVariants.{OpenParenthesis, OpenBrace}
-use Rattle.vl_read.specs.declared.places.Closing.TheVariants.{CloseParenthesis, CloseBrace, CloseBracket}
+use Rattle.vl_read.specs.declared.places.Bracket.{Bracket}
+use Rattle.vl_read.specs.declared.places.Bracket.TheVariants.{OpenParenthesis, OpenBrace, CloseParenthesis, CloseBracket}
 use Rattle.vl_read.specs.declared.scan.Kind.TheVariants.{Name, Count, Constant}
 use Rattle.vl_read.specs.declared.places.Frame.{Frame}
 use Rattle.vl_read.specs.declared.places.Frame.TheVariants.{InRepeat, InCast, InUnary, InLeft, InRight, InChosen}
 use Rattle.vl_read.specs.inner.Places.Spot.{Operand, Opened, Braced, Begins, Value, Ends, Amount, Index, High, Low}
-use Rattle.vl_read.specs.inner.Places.{Goal}
+use Rattle.vl_read.specs.inner.Places.{Goal, bracket_byte}
 use Rattle.vl_read.specs.declared.places.Draft.{Draft}
 use Rattle.vl_read.specs.inner.Lexemes.{kind_of, dec_of, sized_of}
 use Rattle.vl_read.specs.inner.Plain.{spot_at, step, indexed, name_of, left_by, attr_step, declared, net_step, compound_step, operand_step, unary_or_left, opened_step, braced_step, left_step, frame_step, goal_step, spot_step, item_step, step_at}
+use Rattle.fx_io.proofs.Tests.{same_bytes}
 use Rattle.vl_read.proofs.Expressions.{at, in_frame}
 
 -- names, bits and parts
@@ -47,17 +48,9 @@ pub low_step : (draft : Draft) (goal : Goal) (frames : List Frame) (n : List ℕ
 unfolding step attr_step declared net_step compound_step operand_step unary_or_left opened_step braced_step left_step frame_step goal_step spot_step item_step step_at
 low_step draft goal frames n high low lexeme h = rw h
 
-pub ends_bracket : (draft : Draft) (goal : Goal) (frames : List Frame) (e : Expr) → step (at draft goal frames (Ends e CloseBracket)) (codes "]") ≡ Some (at draft goal frames (Value e))
-unfolding step attr_step declared net_step compound_step operand_step unary_or_left opened_step braced_step left_step frame_step goal_step spot_step item_step step_at
-ends_bracket draft goal frames e = refl
-
-pub ends_brace : (draft : Draft) (goal : Goal) (frames : List Frame) (e : Expr) → step (at draft goal frames (Ends e CloseBrace)) (codes "}") ≡ Some (at draft goal frames (Value e))
-unfolding step attr_step declared net_step compound_step operand_step unary_or_left opened_step braced_step left_step frame_step goal_step spot_step item_step step_at
-ends_brace draft goal frames e = refl
-
-pub ends_paren : (draft : Draft) (goal : Goal) (frames : List Frame) (e : Expr) → step (at draft goal frames (Ends e CloseParenthesis)) (codes ")") ≡ Some (at draft goal frames (Value e))
-unfolding step attr_step declared net_step compound_step operand_step unary_or_left opened_step braced_step left_step frame_step goal_step spot_step item_step step_at
-ends_paren draft goal frames e = refl
+pub ends_step : (draft : Draft) (goal : Goal) (frames : List Frame) (e : Expr) (mark : Bracket) → step (at draft goal frames (Ends e mark)) (bracket_byte mark ∷ []) ≡ Some (at draft goal frames (Value e))
+unfolding step spot_step step_at
+ends_step draft goal frames e mark = ap (λ t. cond t (spot_at draft goal frames (Value e)) None) (same_bytes (bracket_byte mark ∷ []))
 
 pub operand_name : (draft : Draft) (goal : Goal) (frames : List Frame) (n : List ℕ) → kind_of n ≡ Name → step (at draft goal frames Operand) n ≡ Some (at draft goal frames (Value (roll-Expr (Expr-F.Name n))))
 unfolding step attr_step declared net_step compound_step operand_step unary_or_left opened_step braced_step left_step frame_step goal_step spot_step item_step step_at
@@ -81,13 +74,9 @@ pub unsigned_step : (draft : Draft) (goal : Goal) (frames : List Frame) → leng
 unfolding step attr_step declared net_step compound_step operand_step unary_or_left opened_step braced_step left_step frame_step goal_step spot_step item_step step_at kind_of dec_of sized_of
 unsigned_step draft goal frames room = ap (λ t. cond t (spot_at draft goal (frames ++ InCast false ∷ []) (Begins OpenParenthesis)) None) (lt-ltb (length frames) 256 room)
 
-pub begins_paren : (draft : Draft) (goal : Goal) (frames : List Frame) → step (at draft goal frames (Begins OpenParenthesis)) (codes "(") ≡ Some (at draft goal frames Operand)
-unfolding step attr_step declared net_step compound_step operand_step unary_or_left opened_step braced_step left_step frame_step goal_step spot_step item_step step_at
-begins_paren draft goal frames = refl
-
-pub begins_brace : (draft : Draft) (goal : Goal) (frames : List Frame) → step (at draft goal frames (Begins OpenBrace)) (codes "{") ≡ Some (at draft goal frames Operand)
-unfolding step attr_step declared net_step compound_step operand_step unary_or_left opened_step braced_step left_step frame_step goal_step spot_step item_step step_at
-begins_brace draft goal frames = refl
+pub begins_step : (draft : Draft) (goal : Goal) (frames : List Frame) (mark : Bracket) → step (at draft goal frames (Begins mark)) (bracket_byte mark ∷ []) ≡ Some (at draft goal frames Operand)
+unfolding step spot_step step_at
+begins_step draft goal frames mark = ap (λ t. cond t (spot_at draft goal frames Operand) None) (same_bytes (bracket_byte mark ∷ []))
 
 pub count_step : (draft : Draft) (goal : Goal) (frames : List Frame) (n : ℕ) (lexeme : List ℕ) → kind_of lexeme ≡ Count n → step (at draft goal frames Braced) lexeme ≡ Some (at draft goal (frames ++ InRepeat n ∷ []) (Begins OpenBrace))
 unfolding step attr_step declared net_step compound_step operand_step unary_or_left opened_step braced_step left_step frame_step goal_step spot_step item_step step_at

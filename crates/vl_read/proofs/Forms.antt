@@ -14,19 +14,18 @@ use Rattle.vl_ast.specs.declared.expressions.Expr.TheFolds.{map-Expr, fold-roll-
 use Rattle.vl_ast.specs.Operators.{unary_text, binary_text, shift_text}
 use Rattle.vl_ast.specs.Tokens.{Token, Key, Sign, Identifier, Number, Based}
 use Rattle.vl_ast.specs.Grammar.{tokens_step, expr_tokens, depth_step, depth, is_filled_step, is_filled}
-use Rattle.vl_read.specs.declared.places.Opening.TheVariants.{OpenParenthesis, OpenBrace}
-use Rattle.vl_read.specs.declared.places.Closing.TheVariants.{CloseParenthesis, CloseBrace, CloseBracket}
+use Rattle.vl_read.specs.declared.places.Bracket.TheVariants.{OpenParenthesis, OpenBrace, CloseParenthesis, CloseBrace, CloseBracket}
 use Rattle.vl_read.specs.declared.places.Frame.{Frame}
 use Rattle.vl_read.specs.declared.places.Frame.TheVariants.{InConcat, InRepeat, InCast, InUnary, InLeft, InRight, InChosen, InOther}
 use Rattle.vl_read.specs.inner.Places.Spot.{Operand, Opened, Braced, Begins, Value, Ends, Amount, Index, High, Low}
 use Rattle.vl_read.specs.inner.Places.{Goal}
 use Rattle.vl_read.specs.declared.places.Draft.{Draft}
 use Rattle.vl_read.specs.inner.Plain.{step, attr_step, declared, net_step, compound_step, operand_step, unary_or_left, opened_step, braced_step, left_step, frame_step, goal_step, spot_step, item_step, step_at}
-use Rattle.vl_read.proofs.Layers.{by_layers}
+use Rattle.vl_read.proofs.Layers.{by_forms}
 use Rattle.vl_read.proofs.Expressions.{at, in_frame, IsRead, opened_read, braced_read}
 use Rattle.vl_read.proofs.Written.{Writes, Reads, writes_as, next, sign, key, name, number, based}
 use Rattle.vl_read.proofs.FormTokens.{layer_tokens, unary_tokens, binary_tokens, shift_tokens, choose_tokens, as_signed_tokens, as_unsigned_tokens, repeat_tokens, more_tokens, concat_tokens}
-use Rattle.vl_read.proofs.FormSteps.{index_step, high_step, bit_step, colon_step, low_step, ends_bracket, ends_brace, ends_paren, operand_name, open_step, brace_step, signed_step, unsigned_step, begins_paren, begins_brace, count_step, unary_step, binary_step, shift_step, question_step, amount_step}
+use Rattle.vl_read.proofs.FormSteps.{index_step, high_step, bit_step, colon_step, low_step, ends_step, operand_name, open_step, brace_step, signed_step, unsigned_step, begins_step, count_step, unary_step, binary_step, shift_step, question_step, amount_step}
 use Rattle.fx_io.proofs.Places.{fold-start}
 
 -- the depth, the filling and the tokens of a layer
@@ -72,7 +71,7 @@ part_read n high low draft goal frames tokens lexemes deep filled w =
     (λ l2 w2. next _ (at draft goal frames (High n high)) _ l2 _ tokens (number _ _ l2 high _ (high_step draft goal frames n high) w2)
     (λ l3 w3. next _ (at draft goal frames (Low n high)) _ l3 _ tokens (sign _ _ l3 _ _ (colon_step draft goal frames n high) w3)
     (λ l4 w4. next _ (at draft goal frames (Ends part CloseBracket)) _ l4 _ tokens (number _ _ l4 low _ (low_step draft goal frames n high low) w4)
-    (λ l5 w5. sign _ _ l5 _ tokens (ends_bracket draft goal frames part) w5)))))
+    (λ l5 w5. sign _ _ l5 _ tokens (ends_step draft goal frames part CloseBracket) w5)))))
 
 -- operators
 
@@ -113,7 +112,7 @@ shift_read op e n read draft goal frames tokens lexemes deep filled w =
     (λ l1 w1. next _ (at draft goal (frames ++ InLeft ∷ []) (Value e)) _ l1 _ tokens (opened_read e read draft goal frames _ l1 d (layer_filled (Expr-F.Shift op e n) filled) w1)
     (λ l2 w2. next _ (at draft goal frames (Amount op e)) _ l2 _ tokens (sign _ _ l2 (shift_text op) _ (shift_step draft goal frames op e) w2)
     (λ l3 w3. next _ (at draft goal frames (Ends shifted CloseParenthesis)) _ l3 _ tokens (based _ _ l3 n _ (amount_step draft goal frames op e n) w3)
-    (λ l4 w4. sign _ _ l4 (codes ")") tokens (ends_paren draft goal frames shifted) w4))))
+    (λ l4 w4. sign _ _ l4 (codes ")") tokens (ends_step draft goal frames shifted CloseParenthesis) w4))))
 
 choose_read : (t c o : Expr) → IsRead t → IsRead c → IsRead o → IsRead (roll-Expr (Expr-F.Choose t c o))
 unfolding frame_step
@@ -144,7 +143,7 @@ unfolding frame_step
 cast_read signed word e read draft goal frames tokens lexemes goes d filled w =
     let inner : List Frame = frames ++ InCast signed ∷ [] in
     next _ (at draft goal inner (Begins OpenParenthesis)) _ lexemes _ tokens (key _ _ lexemes word _ (goes (omega arith)) w)
-    (λ l1 w1. next _ (at draft goal inner Operand) _ l1 _ tokens (sign _ _ l1 (codes "(") _ (begins_paren draft goal inner) w1)
+    (λ l1 w1. next _ (at draft goal inner Operand) _ l1 _ tokens (sign _ _ l1 (codes "(") _ (begins_step draft goal inner OpenParenthesis) w1)
     (λ l2 w2. next _ (at draft goal inner (Value e)) _ l2 _ tokens (read draft goal inner _ l2 (deeper (depth e) (depth e) frames (InCast signed) d (omega arith)) filled w2)
     (λ l3 w3. sign _ _ l3 (codes ")") tokens (in_frame draft goal frames (InCast signed) e (codes ")") refl) w3)))
 
@@ -167,11 +166,11 @@ repeat_read n e read draft goal frames tokens lexemes deep filled w =
     next _ (at draft goal frames Braced) _ lexemes _ tokens
     (sign _ _ lexemes (codes "{") _ (brace_step draft goal frames (omega arith)) (layer_writes (Expr-F.Repeat n e) tokens _ lexemes (repeat_tokens n e tokens) w))
     (λ l1 w1. next _ (at draft goal inner (Begins OpenBrace)) _ l1 _ tokens (number _ _ l1 n _ (count_step draft goal frames n) w1)
-    (λ l2 w2. next _ (at draft goal inner Operand) _ l2 _ tokens (sign _ _ l2 (codes "{") _ (begins_brace draft goal inner) w2)
+    (λ l2 w2. next _ (at draft goal inner Operand) _ l2 _ tokens (sign _ _ l2 (codes "{") _ (begins_step draft goal inner OpenBrace) w2)
     (λ l3 w3. next _ (at draft goal inner (Value e)) _ l3 _ tokens
     (read draft goal inner _ l3 (deeper (depth e) (depth e) frames (InRepeat n) d (omega arith)) (layer_filled (Expr-F.Repeat n e) filled) w3)
     (λ l4 w4. next _ (at draft goal frames (Ends repeated CloseBrace)) _ l4 _ tokens (sign _ _ l4 (codes "}") _ (in_frame draft goal frames (InRepeat n) e (codes "}") refl) w4)
-    (λ l5 w5. sign _ _ l5 (codes "}") tokens (ends_brace draft goal frames repeated) w5)))))
+    (λ l5 w5. sign _ _ l5 (codes "}") tokens (ends_step draft goal frames repeated CloseBrace) w5)))))
 
 -- concatenations
 
@@ -222,20 +221,7 @@ concat_read (p ∷ ps) draft goal frames tokens lexemes deep filled w =
     (λ l1 w1. next _ (at draft goal (frames ++ InConcat [] ∷ []) (Value p.0)) _ l1 _ tokens (braced_read p.0 p.1 draft goal frames _ l1 here f.0 w1)
     (λ l2 w2. parts_read ps draft goal frames [] p.0 tokens l2 (all_parts ps frames (max 0 (depth p.0)) d f.1) w2))
 
-layer_read : (y : Expr-F ((e : Expr) × IsRead e)) → IsRead (roll-Expr (map-Expr ((e : Expr) × IsRead e) Expr (λ p. p.0) y))
-layer_read (Expr-F.Name n) = name_read n
-layer_read (Expr-F.Bit n place) = bit_read n place
-layer_read (Expr-F.Part n high low) = part_read n high low
-layer_read (Expr-F.Literal n) = literal_read n
-layer_read (Expr-F.Concat ps) = concat_read ps
-layer_read (Expr-F.Repeat n p) = repeat_read n p.0 p.1
-layer_read (Expr-F.AsSigned p) = signed_read p.0 p.1
-layer_read (Expr-F.AsUnsigned p) = unsigned_read p.0 p.1
-layer_read (Expr-F.Unary op p) = unary_read op p.0 p.1
-layer_read (Expr-F.Binary op l r) = binary_read op l.0 r.0 l.1 r.1
-layer_read (Expr-F.Shift op p n) = shift_read op p.0 n p.1
-layer_read (Expr-F.Choose t c o) = choose_read t.0 c.0 o.0 t.1 c.1 o.1
-
 -- every expression is read from what is written for its tokens
 pub expression_read : (e : Expr) → IsRead e
-expression_read e = by_layers IsRead layer_read e
+expression_read e =
+    by_forms IsRead name_read bit_read part_read literal_read concat_read repeat_read signed_read unsigned_read unary_read binary_read shift_read choose_read e

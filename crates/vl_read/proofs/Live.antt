@@ -11,8 +11,7 @@ use Rattle.vl_ast.specs.declared.expressions.Expr.TheOpen.{Expr-F}
 use Rattle.vl_ast.specs.declared.expressions.Expr.TheViews.{roll-Expr, out-Expr}
 use Rattle.vl_ast.specs.declared.modules.Attr.{Attr}
 use Rattle.vl_names.specs.Identifiers.{is_identifier}
-use Rattle.vl_read.specs.declared.places.Opening.TheVariants.{OpenParenthesis, OpenBrace}
-use Rattle.vl_read.specs.declared.places.Closing.TheVariants.{CloseParenthesis, CloseBrace, CloseBracket}
+use Rattle.vl_read.specs.declared.places.Bracket.TheVariants.{OpenParenthesis, OpenBrace, CloseParenthesis, CloseBrace, CloseBracket}
 use Rattle.vl_read.specs.declared.scan.Kind.{Kind}
 use Rattle.vl_read.specs.declared.scan.Kind.TheVariants.{Name, Count, Constant, Fixed}
 use Rattle.vl_read.specs.declared.places.Frame.{Frame}

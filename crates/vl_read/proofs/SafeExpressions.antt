@@ -17,7 +17,7 @@ use Rattle.vl_ast.specs.Operators.{unary_text, binary_text, shift_text}
 use Rattle.vl_ast.specs.Tokens.{Token, Key, Sign, Identifier, Number, Based}
 use Rattle.vl_ast.specs.Grammar.{tokens_step, expr_tokens}
 use Rattle.vl_read.specs.inner.Lexemes.{class_of, extends}
-use Rattle.vl_read.proofs.Layers.{by_layers}
+use Rattle.vl_read.proofs.Layers.{by_forms}
 use Rattle.vl_read.proofs.Safe.{is_key, is_fine, follows, safe}
 use Rattle.vl_read.proofs.FormTokens.{layer_tokens, unary_tokens, binary_tokens, shift_tokens, choose_tokens, as_signed_tokens, as_unsigned_tokens, repeat_tokens, more_tokens, concat_tokens}
 use Rattle.vl_read.proofs.SafeMarks.{fine_first, opens, after_closing, never, after_mark, closes_identifier, closes_key, closes_number, closes_based, begun, opens_word, follows_identifier, follows_key, follows_based, opens_open, opens_brace, fine_open, fine_brace, mark_opens, round_ends, brace_ends}
@@ -166,20 +166,7 @@ concat_safe (p ∷ ps) before tokens opening after =
     layer_safe_as (Expr-F.Concat (p.0 ∷ exprs_of ps)) tokens _ before (concat_tokens p.0 (exprs_of ps) tokens)
     (begun before (Sign (codes "{")) _ (opens_word before opening).1 fine_brace (p.1 (Sign (codes "{")) _ opens_brace (more_safe ps tokens after)))
 
-layer_safe : (y : Expr-F ((e : Expr) × IsSafe e)) → IsSafe (roll-Expr (map-Expr ((e : Expr) × IsSafe e) Expr (λ p. p.0) y))
-layer_safe (Expr-F.Name n) = name_safe n
-layer_safe (Expr-F.Bit n place) = bit_safe n place
-layer_safe (Expr-F.Part n high low) = part_safe n high low
-layer_safe (Expr-F.Literal n) = literal_safe n
-layer_safe (Expr-F.Concat ps) = concat_safe ps
-layer_safe (Expr-F.Repeat n p) = repeat_safe n p.0 p.1
-layer_safe (Expr-F.AsSigned p) = as_signed_safe p.0 p.1
-layer_safe (Expr-F.AsUnsigned p) = as_unsigned_safe p.0 p.1
-layer_safe (Expr-F.Unary op p) = unary_safe op p.0 p.1
-layer_safe (Expr-F.Binary op l r) = binary_safe op l.0 r.0 l.1 r.1
-layer_safe (Expr-F.Shift op p n) = shift_safe op p.0 n p.1
-layer_safe (Expr-F.Choose t c o) = choose_safe t.0 c.0 o.0 t.1 c.1 o.1
-
 -- every expression may stand there
 pub expr_safe : (e : Expr) → IsSafe e
-expr_safe e = by_layers IsSafe layer_safe e
+expr_safe e =
+    by_forms IsSafe name_safe bit_safe part_safe literal_safe concat_safe repeat_safe as_signed_safe as_unsigned_safe unary_safe binary_safe shift_safe choose_safe e

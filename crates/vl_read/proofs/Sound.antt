@@ -23,7 +23,7 @@ use Rattle.vl_read.specs.inner.Plain.{goes, has_none, item_step, step_at, step, 
 use Rattle.vl_read.proofs.Written.{WritesEach}
 use Rattle.vl_read.proofs.ModuleTokens.{three_before}
 use Rattle.vl_read.proofs.KindSound.{then_some, IsOfKind, kind_means}
-use Rattle.vl_read.proofs.ConsumedItems.{clocked_tokens, opened_tokens, BeforePorts, AtPort, InBody, ItemAt, module_of, Whole, Has}
+use Rattle.vl_read.proofs.ConsumedItems.{clocked_tokens, opened_tokens, BeforePorts, AtPort, BodyParts, InBody, ItemAt, module_of, Whole, Has}
 use Rattle.vl_read.proofs.SoundFrames.{same_word, either_way, either_word, nowhere, twice, grow}
 use Rattle.vl_read.proofs.SoundSpots.{on_constant}
 use Rattle.vl_read.proofs.SoundNets.{Onward, onward_to, onward_sign, onward_key, onward_name, on_name_or, grow_port, attr_sound, net_sound}
@@ -91,17 +91,18 @@ after_port most draft lexeme text q has =
 
 module_read : (most : ℕ) (draft : Draft) (text : List Token) → InBody most draft [] text → Whole most (module_of draft) (text ++ Key (codes "endmodule") ∷ [])
 module_read most draft text body =
+    let parts : BodyParts most draft = body.parts in
     record {
       is = record {
-        ports = body.ports;
-        items = body.items;
-        has_port = body.has_port;
-        each_port = body.each_port;
-        each_item = body.each_item;
+        ports = parts.ports;
+        items = parts.items;
+        has_port = parts.has_port;
+        each_port = parts.each_port;
+        each_item = parts.each_item;
         text = ap (λ t. t ++ Key (codes "endmodule") ∷ []) body.is
-            ∙ regroup (attrs_tokens draft.attrs) (joined comma body.ports) (flat_map (λ item. item) body.items) (Key (codes "module")) (Identifier draft.name) (Sign (codes "(")) (Sign (codes ")")) (Sign (codes ";")) (Key (codes "endmodule"));
+            ∙ regroup (attrs_tokens draft.attrs) (joined comma parts.ports) (flat_map (λ item. item) parts.items) (Key (codes "module")) (Identifier draft.name) (Sign (codes "(")) (Sign (codes ")")) (Sign (codes ";")) (Key (codes "endmodule"));
       };
-      room = body.room;
+      room = parts.room;
     }
   where
     regroup : (a b c : List Token) (s t u v w x : Token) → ((a ++ (s ∷ t ∷ u ∷ [])) ++ (b ++ (v ∷ w ∷ (c ++ [])))) ++ x ∷ [] ≡ a ++ (s ∷ t ∷ u ∷ (b ++ (v ∷ w ∷ (c ++ x ∷ []))))
@@ -113,7 +114,7 @@ items_sound most draft lexeme text q body =
     either_word lexeme (codes "endmodule") _ _ q
     (λ h e. onward_to most text lexeme q draft Done (Key (codes "endmodule")) h (module_read most draft text body) e)
     (either_way (nat_lt (length draft.items) draft.most) _ None q
-    (λ t e. item_sound most draft lexeme text q body (omega (arith, ltb-true (length draft.items) draft.most t, body.kept)) e)
+    (λ t e. item_sound most draft lexeme text q body (omega (arith, ltb-true (length draft.items) draft.most t, body.parts.kept)) e)
     (nowhere q))
 
 -- after `if` or the name again

@@ -16,7 +16,7 @@ use Rattle.vl_ast.specs.declared.expressions.Expr.TheFolds.{map-Expr}
 use Rattle.vl_ast.specs.Operators.{unary_text, binary_text, shift_text, unary_of, infix_of, shift_of}
 use Rattle.vl_ast.specs.Tokens.{Token, Key, Sign, Identifier, Number, Based}
 use Rattle.vl_ast.specs.Grammar.{tokens_step, expr_tokens}
-use Rattle.vl_read.specs.declared.places.Opening.TheVariants.{OpenParenthesis, OpenBrace}
+use Rattle.vl_read.specs.declared.places.Bracket.TheVariants.{OpenParenthesis, OpenBrace}
 use Rattle.vl_read.specs.declared.scan.Kind.{Kind}
 use Rattle.vl_read.specs.declared.scan.Kind.TheVariants.{Name, Count, Constant, Fixed}
 use Rattle.vl_read.specs.declared.places.Frame.{Frame}

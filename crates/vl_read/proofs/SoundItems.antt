@@ -1,5 +1,5 @@
 -- What each lexeme adds to an item.
-use Rattle.std.proofs.Common.{◌≡◌, ℕ, ◌<◌, true, false, cond, List, [], ◌∷◌, ◌++◌, take, length, Some, None, ⊎_elim, refl, sym, ◌∙◌, ap, subst, codes, arith, append_assoc, append-nil, length-append, bytes_eq}
+use Rattle.std.proofs.Common.{◌≡◌, ℕ, ◌<◌, true, false, cond, List, [], ◌∷◌, ◌++◌, length, Some, None, ⊎_elim, refl, sym, ◌∙◌, ap, subst, codes, arith, append_assoc, append-nil, length-append, bytes_eq}
 use Rattle.std.specs.List.{flat_map}
 use Rattle.std.proofs.lemmas.Grind.{flat_map-append}
 use Rattle.vl_ast.specs.declared.modules.ModItem.{ModItem}
@@ -19,9 +19,9 @@ use Rattle.vl_read.specs.inner.Places.Place.{Net, Items, AssignName, Head, Clock
 use Rattle.vl_read.specs.declared.places.Draft.{Draft}
 use Rattle.vl_read.specs.declared.places.HeadSpot.{HeadSpot}
 use Rattle.vl_read.specs.declared.places.HeadSpot.TheVariants.{Event, OpenEvent, Posedge, Clock, CloseEvent, Begin, Test, OpenTest, Reset, CloseTest}
-use Rattle.vl_read.specs.inner.Plain.{goes, head_word, after_head, goal_step, item_step, step_at}
+use Rattle.vl_read.specs.inner.Plain.{goes, head_token, head_word, after_head, goal_step, item_step, step_at}
 use Rattle.vl_read.proofs.KindSound.{IsOfKind}
-use Rattle.vl_read.proofs.ConsumedItems.{head_token, head_tokens, words_before, clocked_tokens, goal_tokens, IsGoal, ExpressionAt, IsBegunItem, opened_tokens, InBody, InItem, ItemAt, Has}
+use Rattle.vl_read.proofs.ConsumedItems.{head_before, clocked_tokens, goal_tokens, IsGoal, ExpressionAt, IsBegunItem, opened_tokens, BodyParts, InBody, InItem, ItemAt, Has}
 use Rattle.vl_read.proofs.SoundFrames.{expected, either_word, grow, Goes}
 use Rattle.vl_read.proofs.SoundSpots.{Ended, spot_sound}
 use Rattle.vl_read.proofs.SoundNets.{Onward, onward_to, onward_sign, onward_key, grown_body, grow_body, grow_item, zip_push}
@@ -31,18 +31,20 @@ pub item_read : (most : ℕ) (draft : Draft) (item : ModItem) (own text : List T
     Has most (record draft { items = draft.items ++ item ∷ [] }) Items (text ++ token ∷ [])
 item_read most draft item own text token at is =
     let whole : List Token = own ++ token ∷ [] in
-    let body : InBody most draft own text = at.body in
-    let grown : text ++ token ∷ [] ≡ opened_tokens draft ++ (joined comma body.ports ++ (Sign (codes ")") ∷ Sign (codes ";") ∷ (flat_map (λ item. item) body.items ++ whole))) =
-    grown_body most draft own text token body in
+    let parts : BodyParts most draft = at.body.parts in
+    let grown : text ++ token ∷ [] ≡ opened_tokens draft ++ (joined comma parts.ports ++ (Sign (codes ")") ∷ Sign (codes ";") ∷ (flat_map (λ item. item) parts.items ++ whole))) =
+    grown_body most draft own text token at.body in
     record {
-      ports = body.ports;
-      items = body.items ++ whole ∷ [];
-      has_port = body.has_port;
-      each_port = body.each_port;
-      each_item = zip_push IsItemText draft.items body.items item whole body.each_item is;
-      kept = body.kept;
-      room = omega (arith, at.room, length-append draft.items (item ∷ []));
-      is = grown ∙ ap (λ t. opened_tokens draft ++ (joined comma body.ports ++ (Sign (codes ")") ∷ Sign (codes ";") ∷ t))) (last body.items whole);
+      parts = record {
+        ports = parts.ports;
+        items = parts.items ++ whole ∷ [];
+        has_port = parts.has_port;
+        each_port = parts.each_port;
+        each_item = zip_push IsItemText draft.items parts.items item whole parts.each_item is;
+        kept = parts.kept;
+        room = omega (arith, at.room, length-append draft.items (item ∷ []));
+      };
+      is = grown ∙ ap (λ t. opened_tokens draft ++ (joined comma parts.ports ++ (Sign (codes ")") ∷ Sign (codes ";") ∷ t))) (last parts.items whole);
     }
   where
     last : (items : List (List Token)) (whole : List Token) → flat_map (λ item. item) items ++ whole ≡ flat_map (λ item. item) (items ++ whole ∷ []) ++ []
@@ -77,7 +79,7 @@ head_written : (at : HeadSpot) (lexeme : List ℕ) → lexeme ≡ head_word at �
 head_written Event lexeme e = e
 head_written _ lexeme e = e
 
-head_more : (most : ℕ) (draft : Draft) (at : HeadSpot) (own text : List Token) → InItem most draft own text → own ≡ take (words_before at) head_tokens → Has most draft (after_head at) (text ++ head_token at ∷ [])
+head_more : (most : ℕ) (draft : Draft) (at : HeadSpot) (own text : List Token) → InItem most draft own text → own ≡ head_before at → Has most draft (after_head at) (text ++ head_token at ∷ [])
 head_more most draft Event own text around is = more_item most draft own text (Sign (codes "@")) (Head OpenEvent) around (ap (λ t. t ++ Sign (codes "@") ∷ []) is)
 head_more most draft OpenEvent own text around is = more_item most draft own text (Sign (codes "(")) (Head Posedge) around (ap (λ t. t ++ Sign (codes "(") ∷ []) is)
 head_more most draft Posedge own text around is = more_item most draft own text (Key (codes "posedge")) (Head Clock) around (ap (λ t. t ++ Key (codes "posedge") ∷ []) is)

@@ -71,25 +71,15 @@ grow_port most draft own text token at =
     record { ports = at.ports; each_port = at.each_port; no_items = at.no_items; kept = at.kept; is = grown_port most draft own text token at }
 
 pub grown_body : (most : ℕ) (draft : Draft) (own text : List Token) (token : Token) → (at : InBody most draft own text) →
-    text ++ token ∷ [] ≡ opened_tokens draft ++ (joined comma at.ports ++ (Sign (codes ")") ∷ Sign (codes ";") ∷ (flat_map (λ item. item) at.items ++ (own ++ token ∷ []))))
+    text ++ token ∷ [] ≡ opened_tokens draft ++ (joined comma at.parts.ports ++ (Sign (codes ")") ∷ Sign (codes ";") ∷ (flat_map (λ item. item) at.parts.items ++ (own ++ token ∷ []))))
 grown_body most draft own text token at =
-    ap (λ t. t ++ token ∷ []) at.is ∙ further (opened_tokens draft) (joined comma at.ports) (flat_map (λ item. item) at.items) own (token ∷ []) (Sign (codes ")")) (Sign (codes ";"))
+    ap (λ t. t ++ token ∷ []) at.is ∙ further (opened_tokens draft) (joined comma at.parts.ports) (flat_map (λ item. item) at.parts.items) own (token ∷ []) (Sign (codes ")")) (Sign (codes ";"))
   where
     further : (a b c d e : List Token) (s t : Token) → (a ++ (b ++ (s ∷ t ∷ (c ++ d)))) ++ e ≡ a ++ (b ++ (s ∷ t ∷ (c ++ (d ++ e))))
     further a b c d e s t = simp append_assoc
 
 pub grow_body : (most : ℕ) (draft : Draft) (own text : List Token) (token : Token) → InBody most draft own text → InBody most draft (own ++ token ∷ []) (text ++ token ∷ [])
-grow_body most draft own text token at =
-    record {
-      ports = at.ports;
-      items = at.items;
-      has_port = at.has_port;
-      each_port = at.each_port;
-      each_item = at.each_item;
-      kept = at.kept;
-      room = at.room;
-      is = grown_body most draft own text token at;
-    }
+grow_body most draft own text token at = record { parts = at.parts; is = grown_body most draft own text token at }
 
 pub grow_item : (most : ℕ) (draft : Draft) (own text : List Token) (token : Token) → InItem most draft own text → InItem most draft (own ++ token ∷ []) (text ++ token ∷ [])
 grow_item most draft own text token at = record { body = grow_body most draft own text token at.body; room = at.room }
@@ -198,13 +188,15 @@ port_read most draft port own text token at is =
         is = ap (λ t. t ++ comma) grown ∙ three_before (opened_tokens draft) (before_next at.ports) whole comma ∙ ap (λ t. opened_tokens draft ++ t) (sym (before_push at.ports whole) ∙ sym (append-nil (before_next ports)));
       },
       record {
-        ports = ports;
-        items = [];
-        has_port = not_empty draft.ports port;
-        each_port = each;
-        each_item = subst (λ items. AllZip IsItemText items []) (sym at.no_items) tt;
-        kept = at.kept;
-        room = omega (arith, ap length at.no_items);
+        parts = record {
+          ports = ports;
+          items = [];
+          has_port = not_empty draft.ports port;
+          each_port = each;
+          each_item = subst (λ items. AllZip IsItemText items []) (sym at.no_items) tt;
+          kept = at.kept;
+          room = omega (arith, ap length at.no_items);
+        };
         is = ap (λ t. t ++ Sign (codes ")") ∷ Sign (codes ";") ∷ []) (grown ∙ ap (λ t. opened_tokens draft ++ t) (joined_push at.ports whole))
             ∙ append_assoc (opened_tokens draft) (joined comma ports) (Sign (codes ")") ∷ Sign (codes ";") ∷ []);
       },

@@ -18,12 +18,12 @@ use Rattle.vl_ast.specs.Spelling.{joined}
 use Rattle.vl_ast.specs.Operators.{binary_text, shift_text, infix_of, shift_of}
 use Rattle.vl_ast.specs.Tokens.{Token, Sign, Identifier, Number, Based, IsDec, IsBased}
 use Rattle.vl_ast.specs.Grammar.{comma, tokens_step, expr_tokens, depth, is_filled, is_filled_step, IsExpr}
-use Rattle.vl_read.specs.declared.places.Closing.TheVariants.{CloseParenthesis, CloseBrace, CloseBracket}
+use Rattle.vl_read.specs.declared.places.Bracket.TheVariants.{CloseParenthesis, CloseBrace, CloseBracket}
 use Rattle.vl_read.specs.declared.scan.Kind.{Kind}
 use Rattle.vl_read.specs.declared.scan.Kind.TheVariants.{Count, Constant}
 use Rattle.vl_read.specs.declared.places.Frame.{Frame}
 use Rattle.vl_read.specs.declared.places.Frame.TheVariants.{InConcat, InRepeat, InCast, InUnary, InLeft, InRight, InChosen, InOther}
-use Rattle.vl_read.specs.inner.Places.{Spot, Goal, Parser, opening_byte, closing_byte}
+use Rattle.vl_read.specs.inner.Places.{Spot, Goal, Parser, bracket_byte}
 use Rattle.vl_read.specs.inner.Places.Spot.{Operand, Opened, Braced, Begins, Value, Ends, Amount, Index, High, Low}
 use Rattle.vl_read.specs.declared.places.Draft.{Draft}
 use Rattle.vl_read.specs.inner.Plain.{spot_at, count_of, constant_of, innermost, innermost_of, left_by, left_step, frame_step, goal_step, value_step, name_of, indexed, spot_step}
@@ -295,13 +295,13 @@ spot_sound draft goal frames Operand kind lexeme text q begun is e = inl (operan
 spot_sound draft goal frames Opened kind lexeme text q begun is e = inl (opened_sound draft goal frames kind lexeme text q begun is e)
 spot_sound draft goal frames Braced kind lexeme text q begun is e = inl (braced_sound draft goal frames kind lexeme text q begun is e)
 spot_sound draft goal frames (Begins mark) kind lexeme text q begun is e =
-    inl (goes_by draft goal text lexeme (opening_byte mark ∷ []) q frames Operand (record { is = begun.is; deep = begun.deep; filled = begun.filled; room = tt }) e)
+    inl (goes_by draft goal text lexeme (bracket_byte mark ∷ []) q frames Operand (record { is = begun.is; deep = begun.deep; filled = begun.filled; room = tt }) e)
 spot_sound draft goal frames (Value value) kind lexeme text q begun is e =
     either_word lexeme (codes "[") _ _ q
     (λ h e. inl (index_sound draft goal frames value (name_of (out-Expr value)) lexeme text q begun refl h e))
     (λ e. value_sound draft goal frames (innermost frames) value lexeme text q begun (splits frames) e) e
 spot_sound draft goal frames (Ends value mark) kind lexeme text q begun is e =
-    inl (goes_by draft goal text lexeme (closing_byte mark ∷ []) q frames (Value value) (record { is = begun.is; deep = begun.deep; filled = begun.filled; room = begun.room }) e)
+    inl (goes_by draft goal text lexeme (bracket_byte mark ∷ []) q frames (Value value) (record { is = begun.is; deep = begun.deep; filled = begun.filled; room = begun.room }) e)
 spot_sound draft goal frames (Amount op value) kind lexeme text q begun is e =
     on_constant kind lexeme _ q is
     (λ n written e. inl (goes_to draft goal text lexeme q frames (Ends (roll-Expr (Expr-F.Shift op value n)) CloseParenthesis) (Based n) written (amount_sound draft goal frames op value n text begun) e)) e

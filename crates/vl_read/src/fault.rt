@@ -1,6 +1,3 @@
-ghost use Rattle.std.specs.Prelude.{◌≡◌};
-ghost use Rattle.vl_read.specs.declared.fault.VlSyntax.TheVariants.{OutOfMemory as MemoryFault};
-
 use fx_io::OutOfMemory;
 use thiserror::Error;
 
@@ -16,7 +13,10 @@ pub enum VlSyntax {
 }
 
 impl From<OutOfMemory> for VlSyntax {
-    ghost from_gives = { λ _ fault. fault ≡ MemoryFault };
+    ghost use Rattle.std.specs.Prelude.{◌≡◌};
+    ghost use Rattle.vl_read.specs.declared.fault.VlSyntax.TheVariants.{OutOfMemory};
+
+    ghost from_gives = { λ _ fault. fault ≡ OutOfMemory };
 
     fn from(_refused: OutOfMemory) -> VlSyntax {
         VlSyntax::OutOfMemory

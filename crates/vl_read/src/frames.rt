@@ -11,7 +11,7 @@ ghost use Rattle.vl_read.specs.inner.Turns.{stepped};
 
 use crate::numbers::{constant_of, count_of, kind_of};
 use crate::pieces::{binary, bit, cast, choose, concat, innermost, part, repeat, shift, unary};
-use crate::places::{Closing, Frame, Goal, Place, Reader, Spot};
+use crate::places::{Bracket, Frame, Goal, Place, Reader, Spot, Stepped};
 use crate::scan::is;
 use fx_io::{Boxed, OutOfMemory};
 use vl_ast::{BinOp, Expr, Exprs, ModItem, ShiftOp};
@@ -19,7 +19,7 @@ use vl_ast::{BinOp, Expr, Exprs, ModItem, ShiftOp};
 impl Reader {
     /// An operator after the first operand of what is in parentheses.
     #[tactic(auto, unfolding(crate::specs::inner::Plain::left_step))]
-    fn left_step(&mut self, value: Expr, lexeme: &[u8]) -> Result<bool, OutOfMemory>
+    fn left_step(&mut self, value: Expr, lexeme: &[u8]) -> Stepped
         ensures { IfOk result (λ said. stepped said (seen self.new)
             ≡ left_step self.old.draft (goal_in self.old)
             (frames_of self.old) value lexeme.now) }
@@ -48,12 +48,7 @@ impl Reader {
 
     /// After an operand in a concatenation.
     #[tactic(auto, unfolding(crate::specs::inner::Plain::frame_step))]
-    fn concat_step(
-        &mut self,
-        mut parts: Exprs,
-        value: Expr,
-        lexeme: &[u8],
-    ) -> Result<bool, OutOfMemory>
+    fn concat_step(&mut self, mut parts: Exprs, value: Expr, lexeme: &[u8]) -> Stepped
         ensures { IfOk result (λ said. stepped said (seen self.new)
             ≡ frame_step self.old.draft (goal_in self.old) (frames_of self.old)
             (InConcat parts) value lexeme.now) }
@@ -68,12 +63,7 @@ impl Reader {
 
     /// After the second operand of a choice.
     #[tactic(auto, unfolding(crate::specs::inner::Plain::frame_step))]
-    fn chosen_step(
-        &mut self,
-        test: Boxed<Expr>,
-        value: Expr,
-        lexeme: &[u8],
-    ) -> Result<bool, OutOfMemory>
+    fn chosen_step(&mut self, test: Boxed<Expr>, value: Expr, lexeme: &[u8]) -> Stepped
         ensures { IfOk result (λ said. stepped said (seen self.new)
             ≡ frame_step self.old.draft (goal_in self.old) (frames_of self.old)
             (InChosen test) value lexeme.now) }
@@ -90,7 +80,7 @@ impl Reader {
         lexeme: &[u8],
         mark: u8,
         spot: Spot,
-    ) -> Result<bool, OutOfMemory>
+    ) -> Stepped
         ensures { (value : Expr) → IfOk made (λ e. e ≡ value)
             → IfOk result (λ said. stepped said (seen self.new)
             ≡ expect_spot mark lexeme.now self.old.draft (goal_in self.old)
@@ -102,7 +92,7 @@ impl Reader {
 
     /// After an operand in a frame.
     #[tactic(auto, unfolding(crate::specs::inner::Plain::frame_step))]
-    fn frame_step(&mut self, frame: Frame, value: Expr, lexeme: &[u8]) -> Result<bool, OutOfMemory>
+    fn frame_step(&mut self, frame: Frame, value: Expr, lexeme: &[u8]) -> Stepped
         ensures { IfOk result (λ said. stepped said (seen self.new)
             ≡ frame_step self.old.draft (goal_in self.old)
             (frames_of self.old) frame value lexeme.now) }
@@ -113,7 +103,7 @@ impl Reader {
             Frame::InChosen(test) => self.chosen_step(test, value, lexeme),
             Frame::InRepeat(count) => {
                 let made = repeat(self.alloc, count, value);
-                self.ended_step(made, lexeme, b'}', Spot::Ends(Closing::CloseBrace))
+                self.ended_step(made, lexeme, b'}', Spot::Ends(Bracket::CloseBrace))
             }
             Frame::InCast(signed) => {
                 self.ended_step(cast(self.alloc, signed, value), lexeme, b')', Spot::Value)
@@ -138,7 +128,7 @@ impl Reader {
 
     /// After an expression that is in no other.
     #[tactic(auto, unfolding(crate::specs::inner::Plain::goal_step))]
-    fn goal_step(&mut self, goal: Goal, lexeme: &[u8]) -> Result<bool, OutOfMemory>
+    fn goal_step(&mut self, goal: Goal, lexeme: &[u8]) -> Stepped
         ensures { IfOk result (λ said. stepped said (seen self.new)
             ≡ goal_step self.old.draft (goal_of self.old goal) self.old.held.value lexeme.now) }
     {
@@ -178,7 +168,7 @@ impl Reader {
 
     /// After an operand.
     #[tactic(auto, unfolding(crate::specs::inner::Plain::spot_step))]
-    fn value_step(&mut self, lexeme: &[u8]) -> Result<bool, OutOfMemory>
+    fn value_step(&mut self, lexeme: &[u8]) -> Stepped
         ensures { IfOk result (λ said. stepped said (seen self.new)
             ≡ spot_step self.old.draft (goal_in self.old) (frames_of self.old)
             (Value self.old.held.value) Fixed lexeme.now) }
@@ -214,7 +204,7 @@ impl Reader {
 
     /// The amount of a shift.
     #[tactic(auto, unfolding(crate::specs::inner::Plain::spot_step))]
-    fn amount_step(&mut self, op: ShiftOp, lexeme: &[u8]) -> Result<bool, OutOfMemory>
+    fn amount_step(&mut self, op: ShiftOp, lexeme: &[u8]) -> Stepped
         ensures { IfOk result (λ said. stepped said (seen self.new)
             ≡ spot_step self.old.draft (goal_in self.old) (frames_of self.old)
             (Amount op self.old.held.value) (kind_of lexeme.now) lexeme.now) }
@@ -224,7 +214,7 @@ impl Reader {
             Some(amount) => {
                 let value = self.take_value();
                 self.hold(shift(self.alloc, op, value, amount)?);
-                Ok(self.spot(Spot::Ends(Closing::CloseParenthesis)))
+                Ok(self.spot(Spot::Ends(Bracket::CloseParenthesis)))
             }
         }
     }
@@ -241,14 +231,14 @@ impl Reader {
             Some(low) => {
                 let name = self.take_operand();
                 self.hold(part(name, high, low));
-                self.spot(Spot::Ends(Closing::CloseBracket))
+                self.spot(Spot::Ends(Bracket::CloseBracket))
             }
         }
     }
 
     /// The next lexeme in an expression (IEEE 1364-2005, clause 5).
     #[tactic(auto, unfolding(crate::specs::inner::Plain::spot_step))]
-    pub fn spot_step(&mut self, spot: Spot, lexeme: &[u8]) -> Result<bool, OutOfMemory>
+    pub fn spot_step(&mut self, spot: Spot, lexeme: &[u8]) -> Stepped
         ensures { IfOk result (λ said. stepped said (seen self.new)
             ≡ spot_step self.old.draft (goal_in self.old) (frames_of self.old)
             (spot_of self.old spot) (kind_of lexeme.now) lexeme.now) }

@@ -8,9 +8,9 @@ ghost use Rattle.vl_read.specs.inner.Seen.{seen, attr_spot_seen, net_seen, place
 ghost use Rattle.vl_read.specs.inner.Turns.{stepped};
 
 use crate::numbers::{count_of, is_name};
-use crate::places::{AttrSpot, NetKind, NetSpot, Place, Reader};
+use crate::places::{AttrSpot, NetKind, NetSpot, Place, Reader, Stepped};
 use crate::scan::is;
-use fx_io::{OutOfMemory, Text};
+use fx_io::Text;
 use std::mem;
 use vl_ast::{Attr, Attrs, Port};
 
@@ -32,7 +32,7 @@ fn is_signed(lexeme: &[u8]) -> bool
 
 impl Reader {
     /// A name, which is held.
-    pub fn name_step(&mut self, lexeme: &[u8], place: Place) -> Result<bool, OutOfMemory>
+    pub fn name_step(&mut self, lexeme: &[u8], place: Place) -> Stepped
         ensures { IfOk result (λ said. stepped said (seen self.new)
             ≡ on_name (kind_of lexeme.now)
             (goes self.old.draft
@@ -64,7 +64,7 @@ impl Reader {
 
     /// The number of an attribute.
     #[tactic(auto, unfolding(crate::specs::inner::Plain::attr_step))]
-    fn attribute_value(&mut self, of_port: bool, lexeme: &[u8]) -> Result<bool, OutOfMemory>
+    fn attribute_value(&mut self, of_port: bool, lexeme: &[u8]) -> Stepped
         ensures { IfOk result (λ said. stepped said (seen self.new)
             ≡ attr_step self.old.draft of_port self.old.held.attrs (AttrValue self.old.held.name)
             (kind_of lexeme.now) lexeme.now) }
@@ -83,12 +83,7 @@ impl Reader {
 
     /// The next lexeme in a list of attributes (IEEE 1364-2005, 3.8).
     #[tactic(auto, unfolding(crate::specs::inner::Plain::attr_step))]
-    pub fn attr_step(
-        &mut self,
-        of_port: bool,
-        at: AttrSpot,
-        lexeme: &[u8],
-    ) -> Result<bool, OutOfMemory>
+    pub fn attr_step(&mut self, of_port: bool, at: AttrSpot, lexeme: &[u8]) -> Stepped
         ensures { IfOk result (λ said. stepped said (seen self.new)
             ≡ attr_step self.old.draft of_port self.old.held.attrs
             (attr_spot_seen self.old.held.name at) (kind_of lexeme.now) lexeme.now) }
@@ -109,13 +104,7 @@ impl Reader {
 
     /// The declaration of a port is read to its name.
     #[tactic(auto, unfolding(crate::specs::inner::Plain::declared))]
-    fn port_declared(
-        &mut self,
-        input: bool,
-        signed: bool,
-        width: u32,
-        name: &[u8],
-    ) -> Result<bool, OutOfMemory>
+    fn port_declared(&mut self, input: bool, signed: bool, width: u32, name: &[u8]) -> Stepped
         ensures { IfOk result (λ said. stepped said (seen self.new)
             ≡ declared self.old.draft (net_seen self.old.held.attrs (NetKind.OfPort input))
             signed width name.now) }
@@ -134,13 +123,7 @@ impl Reader {
 
     /// A declaration is read to its name (IEEE 1364-2005, 4.2.1, 4.2.2 and 12.3.3).
     #[tactic(auto, unfolding(crate::specs::inner::Plain::declared))]
-    fn declared(
-        &mut self,
-        net: NetKind,
-        signed: bool,
-        width: u32,
-        name: &[u8],
-    ) -> Result<bool, OutOfMemory>
+    fn declared(&mut self, net: NetKind, signed: bool, width: u32, name: &[u8]) -> Stepped
         ensures { IfOk result (λ said. stepped said (seen self.new)
             ≡ declared self.old.draft (net_seen self.old.held.attrs net) signed width name.now) }
     {
@@ -185,7 +168,7 @@ impl Reader {
 
     /// After the kind of a net: `signed`, `[` or the name.
     #[tactic(auto, unfolding(crate::specs::inner::Plain::net_step))]
-    fn kind_end(&mut self, net: NetKind, lexeme: &[u8]) -> Result<bool, OutOfMemory>
+    fn kind_end(&mut self, net: NetKind, lexeme: &[u8]) -> Stepped
         ensures { IfOk result (λ said. stepped said (seen self.new)
             ≡ net_step self.old.draft (net_seen self.old.held.attrs net) Signed
             (kind_of lexeme.now) lexeme.now) }
@@ -200,7 +183,7 @@ impl Reader {
 
     /// `[` or the name.
     #[tactic(auto, unfolding(crate::specs::inner::Plain::net_step))]
-    fn ranged(&mut self, net: NetKind, signed: bool, lexeme: &[u8]) -> Result<bool, OutOfMemory>
+    fn ranged(&mut self, net: NetKind, signed: bool, lexeme: &[u8]) -> Stepped
         ensures { IfOk result (λ said. stepped said (seen self.new)
             ≡ net_step self.old.draft (net_seen self.old.held.attrs net) (Ranged signed)
             (kind_of lexeme.now) lexeme.now) }
@@ -214,12 +197,7 @@ impl Reader {
 
     /// The next lexeme in a declaration.
     #[tactic(auto, unfolding(crate::specs::inner::Plain::net_step))]
-    pub fn net_step(
-        &mut self,
-        net: NetKind,
-        at: NetSpot,
-        lexeme: &[u8],
-    ) -> Result<bool, OutOfMemory>
+    pub fn net_step(&mut self, net: NetKind, at: NetSpot, lexeme: &[u8]) -> Stepped
         ensures { IfOk result (λ said. stepped said (seen self.new)
             ≡ net_step self.old.draft (net_seen self.old.held.attrs net) at
             (kind_of lexeme.now) lexeme.now) }

@@ -7,9 +7,9 @@ ghost use Rattle.vl_read.specs.inner.Seen.{seen, goal_in, frames_of, spot_of};
 ghost use Rattle.vl_read.specs.inner.Turns.{stepped};
 
 use crate::pieces::{literal, named, no_operands};
-use crate::places::{Frame, Opening, Place, Reader, Spot};
+use crate::places::{Bracket, Frame, Place, Reader, Spot, Stepped};
 use crate::scan::{Kind, is};
-use fx_io::{OutOfMemory, Text};
+use fx_io::Text;
 use vl_ast::UnOp;
 
 /// How deep expressions nest at most (own).
@@ -38,7 +38,7 @@ impl Reader {
     }
 
     /// The reading goes on in a further frame.
-    pub fn inside(&mut self, frame: Frame, spot: Spot) -> Result<bool, OutOfMemory>
+    pub fn inside(&mut self, frame: Frame, spot: Spot) -> Stepped
         ensures { IfOk result (λ said. stepped said (seen self.new)
             ≡ spot_at self.old.draft (goal_in self.old) (frames_of self.old
             ++ frame ∷ []) (spot_of self.old spot)) }
@@ -49,7 +49,7 @@ impl Reader {
 
     /// An operand that is no name and no number.
     #[tactic(auto, unfolding(crate::specs::inner::Plain::compound_step))]
-    fn compound_step(&mut self, lexeme: &[u8]) -> Result<bool, OutOfMemory>
+    fn compound_step(&mut self, lexeme: &[u8]) -> Stepped
         ensures { IfOk result (λ said. stepped said (seen self.new)
             ≡ compound_step self.old.draft (goal_in self.old)
             (frames_of self.old) lexeme.now) }
@@ -61,9 +61,9 @@ impl Reader {
         } else if is(lexeme, "{") {
             Ok(self.spot(Spot::Braced))
         } else if is(lexeme, "$signed") {
-            self.inside(Frame::InCast(true), Spot::Begins(Opening::OpenParenthesis))
+            self.inside(Frame::InCast(true), Spot::Begins(Bracket::OpenParenthesis))
         } else if is(lexeme, "$unsigned") {
-            self.inside(Frame::InCast(false), Spot::Begins(Opening::OpenParenthesis))
+            self.inside(Frame::InCast(false), Spot::Begins(Bracket::OpenParenthesis))
         } else {
             Ok(false)
         }
@@ -71,7 +71,7 @@ impl Reader {
 
     /// Where an operand begins.
     #[tactic(auto, unfolding(crate::specs::inner::Plain::operand_step))]
-    pub fn operand_step(&mut self, kind: Kind, lexeme: &[u8]) -> Result<bool, OutOfMemory>
+    pub fn operand_step(&mut self, kind: Kind, lexeme: &[u8]) -> Stepped
         ensures { IfOk result (λ said. stepped said (seen self.new)
             ≡ operand_step self.old.draft (goal_in self.old)
             (frames_of self.old) kind lexeme.now) }
@@ -91,7 +91,7 @@ impl Reader {
     }
 
     /// An operand in a further frame.
-    fn operand_in(&mut self, frame: Frame, kind: Kind, lexeme: &[u8]) -> Result<bool, OutOfMemory>
+    fn operand_in(&mut self, frame: Frame, kind: Kind, lexeme: &[u8]) -> Stepped
         ensures { IfOk result (λ said. stepped said (seen self.new)
             ≡ operand_step self.old.draft (goal_in self.old) (frames_of self.old
             ++ frame ∷ []) kind lexeme.now) }
@@ -102,7 +102,7 @@ impl Reader {
 
     /// After `(`.
     #[tactic(auto, unfolding(crate::specs::inner::Plain::opened_step, crate::specs::inner::Plain::operand_step, crate::specs::inner::Plain::unary_or_left))]
-    pub fn opened_step(&mut self, kind: Kind, lexeme: &[u8]) -> Result<bool, OutOfMemory>
+    pub fn opened_step(&mut self, kind: Kind, lexeme: &[u8]) -> Stepped
         ensures { IfOk result (λ said. stepped said (seen self.new)
             ≡ opened_step self.old.draft (goal_in self.old)
             (frames_of self.old) kind lexeme.now) }
@@ -119,7 +119,7 @@ impl Reader {
 
     /// After `{`.
     #[tactic(auto, unfolding(crate::specs::inner::Plain::braced_step, crate::specs::inner::Plain::operand_step))]
-    pub fn braced_step(&mut self, kind: Kind, lexeme: &[u8]) -> Result<bool, OutOfMemory>
+    pub fn braced_step(&mut self, kind: Kind, lexeme: &[u8]) -> Stepped
         ensures { IfOk result (λ said. stepped said (seen self.new)
             ≡ braced_step self.old.draft (goal_in self.old)
             (frames_of self.old) kind lexeme.now) }
@@ -127,7 +127,7 @@ impl Reader {
         match kind {
             Kind::Count(number) => self.inside(
                 Frame::InRepeat(number),
-                Spot::Begins(Opening::OpenBrace),
+                Spot::Begins(Bracket::OpenBrace),
             ),
             Kind::Name | Kind::Constant(_) | Kind::Fixed => {
                 let frame = Frame::InConcat(no_operands(self.alloc)?);

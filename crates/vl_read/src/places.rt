@@ -1,4 +1,4 @@
-use fx_io::{Boxed, Text};
+use fx_io::{Boxed, OutOfMemory, Text};
 use std::alloc::Global;
 use vl_ast::{Attrs, BinOp, Expr, Exprs, ModItems, Ports, ShiftOp, Sized, UnOp};
 
@@ -23,33 +23,13 @@ pub enum Frame {
     InOther(Boxed<Expr>, Boxed<Expr>),
 }
 
-/// A mark that opens what is read next.
+/// A mark that opens what is read next or closes what was read.
 #[derive(Clone, Copy)]
-pub enum Opening {
+pub enum Bracket {
     /// `(`
     OpenParenthesis,
     /// `{`
     OpenBrace,
-}
-
-impl Opening {
-    ghost use Rattle.std.specs.Prelude.{◌≡◌};
-    ghost use Rattle.vl_read.specs.inner.Places.{opening_byte};
-
-    /// The mark itself.
-    pub fn byte(self) -> u8
-        ensures { result ≡ opening_byte self }
-    {
-        match self {
-            Opening::OpenParenthesis => b'(',
-            Opening::OpenBrace => b'{',
-        }
-    }
-}
-
-/// A mark that closes what was read.
-#[derive(Clone, Copy)]
-pub enum Closing {
     /// `)`
     CloseParenthesis,
     /// `}`
@@ -58,18 +38,20 @@ pub enum Closing {
     CloseBracket,
 }
 
-impl Closing {
+impl Bracket {
     ghost use Rattle.std.specs.Prelude.{◌≡◌};
-    ghost use Rattle.vl_read.specs.inner.Places.{closing_byte};
+    ghost use Rattle.vl_read.specs.inner.Places.{bracket_byte};
 
     /// The mark itself.
     pub fn byte(self) -> u8
-        ensures { result ≡ closing_byte self }
+        ensures { result ≡ bracket_byte self }
     {
         match self {
-            Closing::CloseParenthesis => b')',
-            Closing::CloseBrace => b'}',
-            Closing::CloseBracket => b']',
+            Bracket::OpenParenthesis => b'(',
+            Bracket::OpenBrace => b'{',
+            Bracket::CloseParenthesis => b')',
+            Bracket::CloseBrace => b'}',
+            Bracket::CloseBracket => b']',
         }
     }
 }
@@ -84,11 +66,11 @@ pub enum Spot {
     /// After `{`.
     Braced,
     /// This mark is next, and then an operand begins.
-    Begins(Opening),
+    Begins(Bracket),
     /// An operand was read.
     Value,
     /// This mark is next, and then the operand was read.
-    Ends(Closing),
+    Ends(Bracket),
     /// The amount of a shift is next.
     Amount(ShiftOp),
     /// After a name and `[`.
@@ -282,6 +264,9 @@ pub enum Place {
     /// The module is read.
     Done,
 }
+
+/// Whether a module goes on so, where no memory was wanting.
+pub type Stepped = Result<bool, OutOfMemory>;
 
 /// The module so far.
 #[derive(Drop)]

@@ -4,9 +4,9 @@ ghost use Rattle.vl_read.specs.inner.Plain.{expect, start, finish, goes};
 ghost use Rattle.vl_read.specs.inner.Seen.{seen, place_seen, nothing};
 ghost use Rattle.vl_read.specs.inner.Turns.{stepped};
 
-use crate::places::{Draft, Goal, Held, Place, Reader};
+use crate::places::{Draft, Goal, Held, Place, Reader, Stepped};
 use crate::scan::is;
-use fx_io::{OutOfMemory, Text};
+use fx_io::Text;
 use std::alloc::Global;
 use std::mem;
 use vl_ast::{Attrs, Bits128, Expr, ModItem, ModItems, Module, Ports, Sized};
@@ -173,12 +173,7 @@ impl Reader {
     }
 
     /// One more item, if the lexeme is this word.
-    pub fn with_item(
-        &mut self,
-        word: &str,
-        lexeme: &[u8],
-        item: ModItem,
-    ) -> Result<bool, OutOfMemory>
+    pub fn with_item(&mut self, word: &str, lexeme: &[u8], item: ModItem) -> Stepped
         ensures { IfOk result (λ said. stepped said (seen self.new)
             ≡ expect word.now lexeme.now (record self.old.draft {
               items = self.old.draft.items

@@ -9,9 +9,9 @@ ghost use Rattle.vl_read.specs.inner.Turns.{stepped};
 
 use crate::nets::has_none;
 use crate::numbers::{constant_of, is_name};
-use crate::places::{AttrSpot, Goal, HeadSpot, NetKind, NetSpot, Place, Reader, Spot};
+use crate::places::{AttrSpot, Goal, HeadSpot, NetKind, NetSpot, Place, Reader, Spot, Stepped};
 use crate::scan::is;
-use fx_io::{OutOfMemory, Text};
+use fx_io::Text;
 use vl_ast::{Attrs, ModItem};
 
 impl Reader {
@@ -121,7 +121,7 @@ impl Reader {
 
     /// The name of the module.
     #[tactic(auto, unfolding(crate::specs::inner::Plain::step_at))]
-    fn title_step(&mut self, lexeme: &[u8]) -> Result<bool, OutOfMemory>
+    fn title_step(&mut self, lexeme: &[u8]) -> Stepped
         ensures { IfOk result (λ said. stepped said (seen self.new)
             ≡ step_at self.old.draft Title (kind_of lexeme.now) lexeme.now) }
     {
@@ -181,7 +181,7 @@ impl Reader {
 
     /// An item with a clock ends.
     #[tactic(auto, unfolding(crate::specs::inner::Plain::step_at))]
-    fn clocked_end(&mut self, lexeme: &[u8]) -> Result<bool, OutOfMemory>
+    fn clocked_end(&mut self, lexeme: &[u8]) -> Stepped
         ensures { IfOk result (λ said. stepped said (seen self.new)
             ≡ step_at self.old.draft
             (End (Always self.old.held.name self.old.held.first self.old.held.condition
@@ -201,13 +201,7 @@ impl Reader {
 
     /// The declaration of a register, or else of a wire, ends.
     #[tactic(auto, unfolding(crate::specs::inner::Plain::step_at))]
-    fn net_end(
-        &mut self,
-        is_reg: bool,
-        signed: bool,
-        width: u32,
-        lexeme: &[u8],
-    ) -> Result<bool, OutOfMemory>
+    fn net_end(&mut self, is_reg: bool, signed: bool, width: u32, lexeme: &[u8]) -> Stepped
         ensures { IfOk result (λ said. stepped said (seen self.new)
             ≡ step_at self.old.draft
             (Semicolon (net_item is_reg signed width self.old.held.name)) Fixed lexeme.now) }
@@ -232,7 +226,7 @@ impl Reader {
 
     /// Reads the next lexeme. `false` where no module goes on so; the reader is of no further use then.
     #[tactic(auto, unfolding(crate::specs::inner::Plain::step, crate::specs::inner::Plain::step_at))]
-    pub fn step(&mut self, lexeme: &[u8]) -> Result<bool, OutOfMemory>
+    pub fn step(&mut self, lexeme: &[u8]) -> Stepped
         ensures { IfOk result (λ said. stepped said (seen self.new)
             ≡ step (seen self.old) lexeme.now) }
     {

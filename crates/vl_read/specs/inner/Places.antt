@@ -8,24 +8,19 @@ use Rattle.vl_ast.specs.declared.expressions.Expr.{Expr}
 use Rattle.vl_ast.specs.declared.modules.Attr.{Attr}
 use Rattle.vl_ast.specs.declared.modules.ModItem.{ModItem}
 use Rattle.vl_read.specs.declared.places.Frame.{Frame}
-use Rattle.vl_read.specs.declared.places.Opening.{Opening}
-use Rattle.vl_read.specs.declared.places.Closing.{Closing}
-use Rattle.vl_read.specs.declared.places.Opening.TheVariants.{OpenParenthesis, OpenBrace}
-use Rattle.vl_read.specs.declared.places.Closing.TheVariants.{CloseParenthesis, CloseBrace, CloseBracket}
+use Rattle.vl_read.specs.declared.places.Bracket.{Bracket}
+use Rattle.vl_read.specs.declared.places.Bracket.TheVariants.{OpenParenthesis, OpenBrace, CloseParenthesis, CloseBrace, CloseBracket}
 use Rattle.vl_read.specs.declared.places.NetSpot.{NetSpot}
 use Rattle.vl_read.specs.declared.places.HeadSpot.{HeadSpot}
 use Rattle.vl_read.specs.declared.places.Draft.{Draft}
 
--- the byte of an opening mark
-abbrev pub opening_byte : Opening → ℕ
-opening_byte OpenParenthesis = code "("
-opening_byte OpenBrace = code "{"
-
--- the byte of a closing mark
-abbrev pub closing_byte : Closing → ℕ
-closing_byte CloseParenthesis = code ")"
-closing_byte CloseBrace = code "}"
-closing_byte CloseBracket = code "]"
+-- the byte of a mark
+abbrev pub bracket_byte : Bracket → ℕ
+bracket_byte OpenParenthesis = code "("
+bracket_byte OpenBrace = code "{"
+bracket_byte CloseParenthesis = code ")"
+bracket_byte CloseBrace = code "}"
+bracket_byte CloseBracket = code "]"
 
 -- where in an expression the reading is
 pub data Spot : Type 0 where
@@ -36,11 +31,11 @@ pub data Spot : Type 0 where
   -- after `{`
   Braced : Spot
   -- this mark is next, and then an operand begins
-  Begins : Opening → Spot
+  Begins : Bracket → Spot
   -- an operand was read
   Value : Expr → Spot
   -- this mark is next, and then the operand was read
-  Ends : Expr → Closing → Spot
+  Ends : Expr → Bracket → Spot
   -- the amount of a shift is next
   Amount : ShiftOp → Expr → Spot
   -- after a name and `[`

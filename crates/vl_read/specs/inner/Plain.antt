@@ -13,14 +13,14 @@ use Rattle.vl_ast.specs.declared.modules.Attr.{Attr}
 use Rattle.vl_ast.specs.declared.modules.ModItem.{ModItem}
 use Rattle.vl_ast.specs.declared.modules.ModItem.TheVariants.{Wire, Reg, Assign, Always}
 use Rattle.vl_ast.specs.Operators.{unary_of, infix_of, shift_of}
+use Rattle.vl_ast.specs.Tokens.{Token, Key, Sign}
 use Rattle.vl_ast.specs.declared.modules.Module.{Module}
 use Rattle.vl_read.specs.declared.scan.Kind.{Kind}
 use Rattle.vl_read.specs.declared.scan.Kind.TheVariants.{Name, Count, Constant, Fixed}
 use Rattle.vl_read.specs.declared.places.Frame.{Frame}
 use Rattle.vl_read.specs.declared.places.Frame.TheVariants.{InConcat, InRepeat, InCast, InUnary, InLeft, InRight, InChosen, InOther}
-use Rattle.vl_read.specs.declared.places.Opening.TheVariants.{OpenParenthesis, OpenBrace}
-use Rattle.vl_read.specs.declared.places.Closing.TheVariants.{CloseParenthesis, CloseBrace, CloseBracket}
-use Rattle.vl_read.specs.inner.Places.{Spot, Clocked, Goal, NetKind, AttrSpot, Place, Parser, opening_byte, closing_byte}
+use Rattle.vl_read.specs.declared.places.Bracket.TheVariants.{OpenParenthesis, OpenBrace, CloseParenthesis, CloseBrace, CloseBracket}
+use Rattle.vl_read.specs.inner.Places.{Spot, Clocked, Goal, NetKind, AttrSpot, Place, Parser, bracket_byte}
 use Rattle.vl_read.specs.inner.Places.Spot.{Operand, Opened, Braced, Begins, Value, Ends, Amount, Index, High, Low}
 use Rattle.vl_read.specs.inner.Places.Goal.{Assigned, Condition, Next}
 use Rattle.vl_read.specs.inner.Places.NetKind.{OfPort, OfItem}
@@ -238,10 +238,10 @@ unfoldable pub spot_step : Draft → Goal → List Frame → Spot → Kind → L
 spot_step draft goal frames Operand kind lexeme = operand_step draft goal frames kind lexeme
 spot_step draft goal frames Opened kind lexeme = opened_step draft goal frames kind lexeme
 spot_step draft goal frames Braced kind lexeme = braced_step draft goal frames kind lexeme
-spot_step draft goal frames (Begins mark) kind lexeme = expect_spot (opening_byte mark) lexeme draft goal frames Operand
+spot_step draft goal frames (Begins mark) kind lexeme = expect_spot (bracket_byte mark) lexeme draft goal frames Operand
 spot_step draft goal frames (Value value) kind lexeme =
     if bytes_eq lexeme (codes "[") then indexed draft goal frames (name_of (out-Expr value)) else value_step draft goal (innermost frames) value lexeme
-spot_step draft goal frames (Ends value mark) kind lexeme = expect_spot (closing_byte mark) lexeme draft goal frames (Value value)
+spot_step draft goal frames (Ends value mark) kind lexeme = expect_spot (bracket_byte mark) lexeme draft goal frames (Value value)
 spot_step draft goal frames (Amount op value) kind lexeme =
     on_based kind (λ amount. spot_at draft goal frames (Ends (roll-Expr (Expr-F.Shift op value amount)) CloseParenthesis))
 spot_step draft goal frames (Index name) kind lexeme = on_number kind (λ place. spot_at draft goal frames (High name place))
@@ -251,6 +251,12 @@ spot_step draft goal frames (High name place) kind lexeme =
 spot_step draft goal frames (Low name high) kind lexeme =
     on_number kind (λ low. spot_at draft goal frames (Ends (roll-Expr (Expr-F.Part name high low)) CloseBracket))
 
+-- the bytes of a token that is written as it stands
+abbrev pub fixed_bytes : Token → List ℕ
+fixed_bytes (Key word) = word
+fixed_bytes (Sign sign) = sign
+fixed_bytes token = []
+
 -- the first word of an item
 unfoldable pub item_step : Draft → List ℕ → Option Parser
 item_step draft lexeme =
@@ -259,18 +265,22 @@ item_step draft lexeme =
     else (if bytes_eq lexeme (codes "assign") then goes draft AssignName
     else expect (codes "always") lexeme draft (Head Event)))
 
--- a word of the head of an item with a clock
+-- a word of the head of an item with a clock, of letters or a mark
+abbrev pub head_token : HeadSpot → Token
+head_token Event = Sign (codes "@")
+head_token OpenEvent = Sign (codes "(")
+head_token Posedge = Key (codes "posedge")
+head_token Clock = Key (codes "clk")
+head_token CloseEvent = Sign (codes ")")
+head_token Begin = Key (codes "begin")
+head_token Test = Key (codes "if")
+head_token OpenTest = Sign (codes "(")
+head_token Reset = Key (codes "reset")
+head_token CloseTest = Sign (codes ")")
+
+-- its bytes
 abbrev pub head_word : HeadSpot → List ℕ
-head_word Event = codes "@"
-head_word OpenEvent = codes "("
-head_word Posedge = codes "posedge"
-head_word Clock = codes "clk"
-head_word CloseEvent = codes ")"
-head_word Begin = codes "begin"
-head_word Test = codes "if"
-head_word OpenTest = codes "("
-head_word Reset = codes "reset"
-head_word CloseTest = codes ")"
+head_word at = fixed_bytes (head_token at)
 
 -- what is next after it
 abbrev pub after_head : HeadSpot → Place

@@ -14,22 +14,6 @@ pub returns-in-Braced : goal.returns-in-Braced
 unfolding spot_step
 returns-in-Braced c = rw (c.in-Braced.is, sym c.kind_of-in-Braced.ensures) c.braced_step.ensures
 
-pub returns-in-Value : goal.returns-in-Value
-unfolding spot_step
-returns-in-Value c = rw c.in-Value.is c.value_step.ensures
-
-pub returns-in-Amount : goal.returns-in-Amount
-unfolding spot_step
-returns-in-Amount c = rw c.in-Amount.is c.amount_step.ensures
-
-pub returns-in-High : goal.returns-in-High
-unfolding spot_step
-returns-in-High c = rw c.in-High.is c.high_step.ensures
-
-pub returns-in-Low : goal.returns-in-Low
-unfolding spot_step
-returns-in-Low c = rw c.in-Low.is c.low_step.ensures
-
 pub returns-in-Begins : goal.returns-in-Begins
 unfolding spot_step
 returns-in-Begins c = rw (c.in-Begins.is, sym c.byte.ensures) c.expect_spot.ensures
