@@ -15,7 +15,7 @@ use Rattle.vl_check.specs.declared.mentions.Declared.{Declared as DeclaredHere}
 use Rattle.vl_check.specs.declared.mentions.Mention.{Mention as MentionHere}
 use Rattle.vl_check.specs.declared.mentions.Mention.TheVariants.{Declares as DeclaresHere, Drives as DrivesHere, Reads as ReadsHere, Clocks as ClocksHere}
 use Rattle.vl_check.specs.inner.Mentioned.{declared_of, mention_of, shown}
-use Rattle.vl_check.specs.inner.Marks.{AreNumbers, Marks, AreFirst, declares, drives, undriven_where, double_where, first_after}
+use Rattle.vl_check.specs.inner.Marks.{AreNumbered, AreNumbers, Marks, AreFirst, declares, drives, undriven_where, double_where, first_after}
 use Rattle.vl_ast.proofs.Opened.{or-true}
 use Rattle.fx_io.proofs.Tests.{same_bytes, unequal}
 
@@ -273,17 +273,11 @@ declared-here m text whole i d below numbers first f a =
     first-here text i d below numbers first (shown text) f a
     ∙ ap (λ all. find (λ (x : Declared). bytes_eq x.name (mentioned (mention_of (slice_index_or text i d)))) (flat_map declared_by all)) whole
 
--- the number of the name at a place
-pub number-there : (text : List MentionHere) (numbers : List ℕ) (count : ℕ) → AreNumbers (map mentioned (shown text)) numbers count → (i : ℕ) → i < length text → i < length numbers
-number-there text numbers count known i below =
-    let long = length-map (shown text) mentioned ∙ length-map text mention_of in
-    let all = known.long in
-    omega (arith, long, all, below)
-
-pub number-below : (text : List MentionHere) (numbers : List ℕ) (count : ℕ) → AreNumbers (map mentioned (shown text)) numbers count → (i : ℕ) → i < length text → slice_index numbers i < count
-number-below text numbers count known i below =
-    let long = length-map (shown text) mentioned ∙ length-map text mention_of in
-    known.below i (omega (arith, long, below))
+-- names are numbered at each place of a text
+pub numbered-text : (text : List MentionHere) (numbers : List ℕ) (count : ℕ) → AreNumbers (map mentioned (shown text)) numbers count → AreNumbered text numbers count
+numbered-text text numbers count known =
+    let long : length (map mentioned (shown text)) ≡ length text = length-map (shown text) mentioned ∙ length-map text mention_of in
+    record { long = known.long ∙ long; low = λ i below. known.below i (omega (arith, long, below)); known = known }
 
 pub past-all : (text : List MentionHere) (i : ℕ) → length text ≤ i → length (shown text) ≤ i
 past-all text i past = let long = length-map text mention_of in omega (arith, long, past)

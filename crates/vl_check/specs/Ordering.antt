@@ -12,7 +12,8 @@ pub record IsOrdering (m : Module) (scope : Scope) (order : List ℕ) (places : 
   pub within : (p : ℕ) → p < length order → slice_index order p < length (names_in scope)
   pub once : (p q : ℕ) → p < q → q < length order → slice_index order p ≢ slice_index order q
   -- each assignment is at the place of its name's number, which stands in the order
-  pub each : (j : ℕ) (name : List ℕ) (value : Expr) → slice_get m.items j ≡ Some (Assign name value) → (v k : ℕ) × (number_in scope name ≡ Some v) × (slice_index_or places v None ≡ Some k) × (slice_get m.items k ≡ Some (Assign name value)) × Contains order v
+  pub each : (j : ℕ) (name : List ℕ) (value : Expr) → slice_get m.items j ≡ Some (Assign name value)
+      → (v k : ℕ) × (number_in scope name ≡ Some v) × (slice_index_or places v None ≡ Some k) × (slice_get m.items k ≡ Some (Assign name value)) × Contains order v
   -- and nothing else has a place
   pub only : (v j : ℕ) → slice_index_or places v None ≡ Some j → (name : List ℕ) × (value : Expr) × (slice_get m.items j ≡ Some (Assign name value)) × (number_in scope name ≡ Some v)
   -- what an assignment reads stands before it

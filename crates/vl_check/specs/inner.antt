@@ -9,3 +9,4 @@ pub mod Clocked
 pub mod Assigned
 pub mod Looped
 pub mod Rest
+pub mod Known

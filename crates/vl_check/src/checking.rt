@@ -1,11 +1,11 @@
-ghost use Rattle.std.specs.Prelude.{◌≡◌, IfErr, IfOk, length, map};
+ghost use Rattle.std.specs.Prelude.{◌≡◌, IfErr, IfOk};
 ghost use Rattle.vl_ast.specs.declared.modules.Module.{Module};
-ghost use Rattle.vl_ast.specs.Conditions.{BreaksNone, mentioned};
+ghost use Rattle.vl_ast.specs.Conditions.{BreaksNone};
 ghost use Rattle.vl_ast.specs.Nets.{mentions};
 ghost use Rattle.vl_check.specs.Cause.{IsCause};
 ghost use Rattle.vl_check.specs.Ordering.{IsOrdering};
 ghost use Rattle.vl_check.specs.Scope.{IsScopeOf};
-ghost use Rattle.vl_check.specs.inner.Marks.{AreFirst, AreNumbers};
+ghost use Rattle.vl_check.specs.inner.Known.{IsKnown};
 ghost use Rattle.vl_check.specs.inner.Mentioned.{shown};
 ghost use Rattle.vl_check.specs.inner.Rest.{IsCauseOfRest, IsSoundRest};
 
@@ -41,14 +41,8 @@ struct Known<'a> {
 }
 
 fn known_of<'a>(alloc: Global, text: &[Mention<'a>]) -> Result<Known<'a>, OutOfMemory>
-    ensures scope { IfOk result (λ known. (m : Module) → shown text.now ≡ mentions m
-        → IsScopeOf m known.scope) }
-    ensures numbers { IfOk result (λ known.
-        AreNumbers (map mentioned (shown text.now)) known.numbers.items
-        (length known.scope.declared.items)) }
-    ensures first { IfOk result (λ known.
-        AreFirst (map mentioned (shown text.now)) known.numbers.items known.scope.declared.items
-        (shown text.now)) }
+    ensures { IfOk result (λ known. (m : Module) → shown text.now ≡ mentions m
+        → IsKnown m text.now known.scope known.numbers.items) }
 {
     let Numbers {
         names,
@@ -93,12 +87,7 @@ fn order_of(
     text: &[Mention<'_>],
     known: &Known<'_>,
 ) -> Result<Found, VlFault>
-    requires whole { shown text.now ≡ mentions source.now }
-    requires scope { IsScopeOf source.now known.now.scope }
-    requires numbers { AreNumbers (map mentioned (shown text.now)) known.now.numbers.items
-        (length known.now.scope.declared.items) }
-    requires first { AreFirst (map mentioned (shown text.now)) known.now.numbers.items
-        known.now.scope.declared.items (shown text.now) }
+    requires { IsKnown source.now text.now known.now.scope known.now.numbers.items }
     ensures sound { IfOk result (λ found. BreaksNone source.now) }
     ensures order { IfOk result (λ found.
         IsOrdering source.now known.now.scope found.order.items found.places.items) }

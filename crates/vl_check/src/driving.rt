@@ -3,7 +3,7 @@ ghost use Rattle.vl_ast.specs.declared.modules.Module.{Module};
 ghost use Rattle.vl_ast.specs.Nets.{mentions};
 ghost use Rattle.vl_ast.specs.Conditions.{doubly, first_fault, is_double, is_driver_of, is_undriven, may_drive_it, mentioned, needs_driver, undriven};
 ghost use Rattle.vl_check.specs.inner.Mentioned.{declared_of, kind_of, mention_of, shown};
-ghost use Rattle.vl_check.specs.inner.Marks.{AreFirst, AreNumbers, Marks, declares, double_where, drives, first_after, undriven_where};
+ghost use Rattle.vl_check.specs.inner.Marks.{AreFirst, AreNumbered, Marks, declares, double_where, drives, first_after, undriven_where};
 
 use crate::mentions::{Declared, Kind, Mention};
 use crate::names::mentioned;
@@ -69,7 +69,7 @@ fn driven_names(
     numbers: &[usize],
     count: usize,
 ) -> Result<Vec<bool>, OutOfMemory>
-    requires { AreNumbers (map mentioned (shown text.now)) numbers.now count }
+    requires { AreNumbered text.now numbers.now count }
     ensures long { IfOk result (λ driven. length driven.items ≡ count) }
     ensures marks { IfOk result (λ driven.
         Marks is_driver_of (map mentioned (shown text.now)) numbers.now driven.items
@@ -102,7 +102,7 @@ pub fn undriven<'a>(
     numbers: &[usize],
     count: usize,
 ) -> Result<Option<&'a [u8]>, OutOfMemory>
-    requires { AreNumbers (map mentioned (shown text.now)) numbers.now count }
+    requires { AreNumbered text.now numbers.now count }
     ensures { IfOk result (λ name. option_map (λ found. found.now) name
         ≡ first_fault (is_undriven (shown text.now)) [] (shown text.now)) }
 {
@@ -136,7 +136,7 @@ pub fn first_declarations<'a>(
     numbers: &[usize],
     count: usize,
 ) -> Result<Vec<Option<Declared<'a>>>, OutOfMemory>
-    requires { AreNumbers (map mentioned (shown text.now)) numbers.now count }
+    requires { AreNumbered text.now numbers.now count }
     ensures long { IfOk result (λ declared. length declared.items ≡ count) }
     ensures first { IfOk result (λ declared.
         AreFirst (map mentioned (shown text.now)) numbers.now declared.items (shown text.now)) }
@@ -173,7 +173,7 @@ pub fn doubly<'a>(
     numbers: &[usize],
     first: &[Option<Declared<'a>>],
 ) -> Result<Option<&'a [u8]>, OutOfMemory>
-    requires numbers { AreNumbers (map mentioned (shown text.now)) numbers.now (length first.now) }
+    requires numbers { AreNumbered text.now numbers.now (length first.now) }
     requires first { AreFirst (map mentioned (shown text.now)) numbers.now first.now
         (shown text.now) }
     ensures { IfOk result (λ name. (m : Module) → shown text.now ≡ mentions m

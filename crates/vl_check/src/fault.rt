@@ -1,6 +1,3 @@
-ghost use Rattle.std.specs.Prelude.{◌≡◌};
-ghost use Rattle.vl_check.specs.declared.fault.VlFault.TheVariants.{OutOfMemory as MemoryFault};
-
 use fx_io::{OutOfMemory, Text, Texts};
 use thiserror::Error;
 
@@ -32,7 +29,10 @@ pub enum VlFault {
 }
 
 impl From<OutOfMemory> for VlFault {
-    ghost from_gives = { λ _ fault. fault ≡ MemoryFault };
+    ghost use Rattle.std.specs.Prelude.{◌≡◌};
+    ghost use Rattle.vl_check.specs.declared.fault.VlFault.TheVariants.{OutOfMemory};
+
+    ghost from_gives = { λ _ fault. fault ≡ OutOfMemory };
 
     fn from(_refused: OutOfMemory) -> VlFault {
         VlFault::OutOfMemory

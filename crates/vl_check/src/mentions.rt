@@ -36,9 +36,12 @@ pub enum Mention<'a> {
     Clocks,
 }
 
+/// Whether there was memory for what is put.
+pub type Put = Result<(), OutOfMemory>;
+
 /// Puts the names that an expression reads, from the left. The recursion is as deep as the
 /// expression nests.
-pub fn push_names<'a>(names: &mut Vec<&'a [u8]>, e: &'a Expr) -> Result<(), OutOfMemory>
+pub fn push_names<'a>(names: &mut Vec<&'a [u8]>, e: &'a Expr) -> Put
     ensures { OnOk result (texts names.new.items ≡ texts names.old.items ++ names_read e.now) }
 {
     match e {
@@ -68,14 +71,14 @@ pub fn push_names<'a>(names: &mut Vec<&'a [u8]>, e: &'a Expr) -> Result<(), OutO
     }
 }
 
-fn push_name<'a>(names: &mut Vec<&'a [u8]>, name: &'a [u8]) -> Result<(), OutOfMemory>
+fn push_name<'a>(names: &mut Vec<&'a [u8]>, name: &'a [u8]) -> Put
     ensures { OnOk result (texts names.new.items ≡ texts names.old.items ++ name.now ∷ []) }
 {
     names.push(name)?;
     Ok(())
 }
 
-fn push<'a>(mentions: &mut Vec<Mention<'a>>, mention: Mention<'a>) -> Result<(), OutOfMemory>
+fn push<'a>(mentions: &mut Vec<Mention<'a>>, mention: Mention<'a>) -> Put
     ensures { OnOk result (shown mentions.new.items
         ≡ shown mentions.old.items ++ mention_of mention.entry ∷ []) }
 {
@@ -83,11 +86,7 @@ fn push<'a>(mentions: &mut Vec<Mention<'a>>, mention: Mention<'a>) -> Result<(),
     Ok(())
 }
 
-fn push_reads<'a>(
-    alloc: Global,
-    mentions: &mut Vec<Mention<'a>>,
-    e: &'a Expr,
-) -> Result<(), OutOfMemory>
+fn push_reads<'a>(alloc: Global, mentions: &mut Vec<Mention<'a>>, e: &'a Expr) -> Put
     ensures { OnOk result (shown mentions.new.items
         ≡ shown mentions.old.items ++ map Reads (names_read e.now)) }
 {
@@ -103,7 +102,7 @@ fn push_condition<'a>(
     alloc: Global,
     mentions: &mut Vec<Mention<'a>>,
     condition: &'a Option<Expr>,
-) -> Result<(), OutOfMemory>
+) -> Put
     ensures { OnOk result (shown mentions.new.items
         ≡ shown mentions.old.items ++ map Reads (condition_names condition.now)) }
 {
@@ -130,7 +129,7 @@ fn push_net<'a>(
     name: &'a [u8],
     width: u32,
     signed: bool,
-) -> Result<(), OutOfMemory>
+) -> Put
     ensures { OnOk result (shown mentions.new.items ≡ shown mentions.old.items
         ++ Declares (net_declared (kind_of kind) name.now width signed) ∷ []) }
 {
@@ -144,22 +143,14 @@ fn push_net<'a>(
 }
 
 /// Puts the name that an item drives.
-fn push_driven<'a>(
-    mentions: &mut Vec<Mention<'a>>,
-    clocked: bool,
-    name: &'a [u8],
-) -> Result<(), OutOfMemory>
+fn push_driven<'a>(mentions: &mut Vec<Mention<'a>>, clocked: bool, name: &'a [u8]) -> Put
     ensures { OnOk result (shown mentions.new.items
         ≡ shown mentions.old.items ++ Drives clocked name.now ∷ []) }
 {
     push(mentions, Mention::Drives { clocked, name })
 }
 
-fn push_item<'a>(
-    alloc: Global,
-    mentions: &mut Vec<Mention<'a>>,
-    item: &'a ModItem,
-) -> Result<(), OutOfMemory>
+fn push_item<'a>(alloc: Global, mentions: &mut Vec<Mention<'a>>, item: &'a ModItem) -> Put
     ensures { OnOk result (shown mentions.new.items
         ≡ shown mentions.old.items ++ item_mentions item.now) }
 {

@@ -1,10 +1,11 @@
-ghost use Rattle.std.specs.Prelude.{◌≡◌, ◌<◌, IfErr, IfOk, None, ℕ, length, slice_index};
+ghost use Rattle.std.specs.Prelude.{◌≡◌, ◌<◌, IfErr, IfOk, ℕ, length, slice_index};
 ghost use Rattle.vl_ast.specs.declared.modules.Module.{Module};
-ghost use Rattle.vl_ast.specs.Conditions.{IsAcyclic, doubly, undriven};
+ghost use Rattle.vl_ast.specs.Conditions.{IsAcyclic};
 ghost use Rattle.vl_ast.specs.Nets.{mentions};
 ghost use Rattle.vl_check.specs.Cause.{IsCause};
 ghost use Rattle.vl_check.specs.Ordering.{IsOrdering};
 ghost use Rattle.vl_check.specs.Scope.{IsScopeOf, names_in};
+ghost use Rattle.vl_check.specs.inner.Known.{IsOrderable};
 ghost use Rattle.vl_check.specs.inner.Looped.{AreMarked, AreNamed, IsBeginning, IsTurned, first_some, marked_at, marked_number};
 ghost use Rattle.vl_check.specs.inner.Mentioned.{mention_of, shown};
 
@@ -127,10 +128,7 @@ pub fn ordered(
 ) -> Result<Found, VlFault>
     ghost of: { Module }
     requires of { of ≡ source.now }
-    requires whole { shown text.now ≡ mentions of }
-    requires scope { IsScopeOf of scope.now }
-    requires driven { undriven of ≡ None }
-    requires once { doubly of ≡ None }
+    requires sound { IsOrderable of text.now scope.now }
     ensures acyclic { IfOk result (λ found. IsAcyclic of) }
     ensures order { IfOk result (λ found.
         IsOrdering of scope.now found.order.items found.places.items) }

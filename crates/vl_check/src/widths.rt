@@ -1,5 +1,5 @@
 ghost use Rattle.std.specs.Prelude.{◌≡◌, option_map, is_some};
-ghost use Rattle.vl_ast.specs.Conditions.{is_sound, is_sound_condition, is_sound_item, item_name, too_wide};
+ghost use Rattle.vl_ast.specs.Conditions.{is_sound, is_sound_condition, is_sound_item, too_wide};
 ghost use Rattle.vl_check.specs.Scope.{IsScopeOf, nets_in};
 
 use crate::scope::Scope;
@@ -36,17 +36,6 @@ fn is_sound_item(scope: &Scope<'_>, item: &ModItem) -> bool
     }
 }
 
-fn item_name(item: &ModItem) -> &[u8]
-    ensures { result.now ≡ item_name item.now }
-{
-    match item {
-        ModItem::Wire { name, .. }
-        | ModItem::Reg { name, .. }
-        | ModItem::Assign { name, .. }
-        | ModItem::Always { name, .. } => name.bytes(),
-    }
-}
-
 /// The first port, wire or register whose width isn't 1 to 128, or the first item that holds a faulty
 /// select, number, repetition or context.
 pub fn too_wide<'a>(scope: &Scope<'_>, source: &'a Module) -> Option<&'a [u8]>
@@ -60,7 +49,7 @@ pub fn too_wide<'a>(scope: &Scope<'_>, source: &'a Module) -> Option<&'a [u8]>
     }
     for item in source.items.as_slice() {
         if !is_sound_item(scope, item) {
-            return Some(item_name(item));
+            return Some(item.name());
         }
     }
     None

@@ -1,12 +1,12 @@
 -- Marks of names, by number, over a part of a text.
-use Rattle.std.specs.Prelude.{◌≡◌, ◌≢◌, ℕ, ◌<◌, Bool, true, false, not, ◌&&◌, ◌||◌, List, find, flat_map, length, slice_index, slice_index_or, slice_set, bytes_eq, Option, None, Some, is_none, option_map, if◌then◌else◌}
+use Rattle.std.specs.Prelude.{◌≡◌, ◌≢◌, ℕ, ◌<◌, Bool, true, false, not, ◌&&◌, ◌||◌, List, find, flat_map, length, map, slice_index, slice_index_or, slice_set, bytes_eq, Option, None, Some, is_none, option_map, if◌then◌else◌}
 use Rattle.std.specs.List.{list_any}
 use Rattle.vl_ast.specs.Nets.{Declared, Mention, Declares, Drives, Reads, Clocks, declared_by}
-use Rattle.vl_ast.specs.Conditions.{may_drive_it, needs_driver}
+use Rattle.vl_ast.specs.Conditions.{may_drive_it, mentioned, needs_driver}
 use Rattle.vl_check.specs.declared.mentions.Declared.{Declared as DeclaredHere}
 use Rattle.vl_check.specs.declared.mentions.Mention.{Mention as MentionHere}
 use Rattle.vl_check.specs.declared.mentions.Mention.TheVariants.{Declares as DeclaresHere, Drives as DrivesHere, Reads as ReadsHere, Clocks as ClocksHere}
-use Rattle.vl_check.specs.inner.Mentioned.{declared_of}
+use Rattle.vl_check.specs.inner.Mentioned.{declared_of, shown}
 
 -- a number for each name, below a count, and the same for the same names alone
 pub record AreNumbers (names : List (List ℕ)) (numbers : List ℕ) (count : ℕ) : Type 0 where
@@ -14,6 +14,12 @@ pub record AreNumbers (names : List (List ℕ)) (numbers : List ℕ) (count : �
   pub below : (i : ℕ) → i < length names → slice_index numbers i < count
   pub one : (i j : ℕ) (d : List ℕ) → i < length names → j < length names → slice_index_or names i d ≡ slice_index_or names j d → slice_index numbers i ≡ slice_index numbers j
   pub apart : (i j : ℕ) (d : List ℕ) → i < length names → j < length names → slice_index_or names i d ≢ slice_index_or names j d → slice_index numbers i ≢ slice_index numbers j
+
+-- the same of the name at each place of a text
+pub record AreNumbered (text : List MentionHere) (numbers : List ℕ) (count : ℕ) : Type 0 where
+  pub long : length numbers ≡ length text
+  pub low : (i : ℕ) → i < length text → slice_index numbers i < count
+  pub known : AreNumbers (map mentioned (shown text)) numbers count
 
 abbrev pub declares : Mention → Bool
 declares (Declares declared) = true

@@ -19,7 +19,8 @@ pub record Walk (reads : List (List ℕ)) (stage stack order : List ℕ) : Type 
   pub once : (p q : ℕ) → p < q → q < length order → slice_index order p ≢ slice_index order q
   pub earlier : (p k : ℕ) → p < length order → k < size reads (slice_index order p)
       → (q : ℕ) × (q < p) × (slice_index order q ≡ slice_index (row_at reads (slice_index order p)) k)
-  pub open' : (i : ℕ) → i < length stack → (slice_index stack i < length reads) × (1 ≤ slice_index stage (slice_index stack i)) × (slice_index stage (slice_index stack i) ≤ size reads (slice_index stack i) + 1)
+  pub open' : (i : ℕ) → i < length stack
+      → (slice_index stack i < length reads) × (1 ≤ slice_index stage (slice_index stack i)) × (slice_index stage (slice_index stack i) ≤ size reads (slice_index stack i) + 1)
   pub passed : (i k : ℕ) → i < length stack → k + 1 < slice_index stage (slice_index stack i) → Done reads stage (slice_index (row_at reads (slice_index stack i)) k)
   pub linked : (i : ℕ) → i + 1 < length stack → (slice_index stage (slice_index stack i) ≤ size reads (slice_index stack i))
       × (slice_index (row_at reads (slice_index stack i)) (slice_index stage (slice_index stack i) - 1) ≡ slice_index stack (i + 1))

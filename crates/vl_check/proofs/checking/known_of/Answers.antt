@@ -3,6 +3,7 @@ use Rattle.std.proofs.lemmas.List.{length-map}
 use Rattle.vl_ast.specs.Conditions.{mentioned}
 use Rattle.vl_check.specs.inner.Mentioned.{shown, texts}
 use Rattle.vl_check.specs.inner.Marks.{AreFirst, AreNumbers}
+use Rattle.vl_check.proofs.Marking.{numbered-text}
 use Rattle.vl_check.proofs.Numbering.{numbered-apart}
 use Rattle.vl_check.proofs.Scoped.{scope-is}
 use Rattle.vl_check.proofs.checking.known_of.Goals as goal
@@ -16,17 +17,18 @@ first_declarations-requires c =
     let n = numbered-apart names (texts c.in_ok-names.field-0.names.items) c.in_ok-names.field-0.numbers.items c.in_ok-names.ensures.numbers in
     let ns = c.in_ok-names.field-0.numbers.items in
     let same : c.as_slice.result.now ≡ ns = c.as_slice.ensures.value in
-    subst (λ xs. AreNumbers names xs c.len.result) (sym same)
-    (subst (λ k. AreNumbers names ns k) (counted _ c.len.result (c.len.ensures ∙ c.in_ok-names.field-0.names.ok.0)) n)
+    numbered-text c.args.text.now c.as_slice.result.now c.len.result (subst (λ xs. AreNumbers names xs c.len.result) (sym same)
+    (subst (λ k. AreNumbers names ns k) (counted _ c.len.result (c.len.ensures ∙ c.in_ok-names.field-0.names.ok.0)) n))
 
-pub returns-clause-scope : goal.returns-clause-scope
-returns-clause-scope c m whole =
+pub returns : goal.returns
+returns c m whole =
     let names = map mentioned (shown c.args.text.now) in
-    scope-is m _ c.args.text.now c.in_ok-names.field-0.numbers.items whole c.in_ok-names.ensures.numbers
-    (subst (λ ns. AreFirst names ns c.in_ok-declared.declared.items (shown c.args.text.now)) c.as_slice.ensures.value c.in_ok-declared.ensures.first)
-
-pub returns-clause-numbers : goal.returns-clause-numbers
-returns-clause-numbers c =
-    let names = map mentioned (shown c.args.text.now) in
-    let n = numbered-apart names (texts c.in_ok-names.field-0.names.items) c.in_ok-names.field-0.numbers.items c.in_ok-names.ensures.numbers in
-    subst (λ k. AreNumbers names c.in_ok-names.field-0.numbers.items k) (counted _ c.len.result (c.len.ensures ∙ c.in_ok-names.field-0.names.ok.0) ∙ sym c.in_ok-declared.ensures.long) n
+    let ns = c.in_ok-names.field-0.numbers.items in
+    let n = numbered-apart names (texts c.in_ok-names.field-0.names.items) ns c.in_ok-names.ensures.numbers in
+    let first = subst (λ xs. AreFirst names xs c.in_ok-declared.declared.items (shown c.args.text.now)) c.as_slice.ensures.value c.in_ok-declared.ensures.first in
+    record {
+      whole = whole;
+      scope = scope-is m _ c.args.text.now ns whole c.in_ok-names.ensures.numbers first;
+      numbers = numbered-text c.args.text.now ns _ (subst (λ k. AreNumbers names ns k) (counted _ c.len.result (c.len.ensures ∙ c.in_ok-names.field-0.names.ok.0) ∙ sym c.in_ok-declared.ensures.long) n);
+      first = first;
+    }

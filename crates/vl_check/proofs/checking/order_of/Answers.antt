@@ -1,8 +1,7 @@
-use Rattle.std.proofs.Common.{ℕ, List, Option, Bor, Some, [], length, map, option_map, refl, ap, subst, sym, ◌∙◌}
+use Rattle.std.proofs.Common.{ℕ, List, Option, Bor, Some, [], length, option_map, refl, ap, subst, sym, ◌∙◌}
 use Rattle.vl_ast.specs.Nets.{Mention}
-use Rattle.vl_ast.specs.Conditions.{first_fault, is_undriven, mentioned}
-use Rattle.vl_check.specs.inner.Mentioned.{shown}
-use Rattle.vl_check.specs.inner.Marks.{AreNumbers}
+use Rattle.vl_ast.specs.Conditions.{first_fault, is_undriven}
+use Rattle.vl_check.specs.inner.Marks.{AreNumbered}
 use Rattle.vl_check.proofs.Results.{rest-cause}
 use Rattle.vl_check.proofs.checking.order_of.Goals as goal
 
@@ -21,23 +20,18 @@ returns-in-Some-2-clause-fault c = (
 
 pub doubly-requires-clause-numbers : goal.doubly-requires-clause-numbers
 doubly-requires-clause-numbers c =
-    let names = map mentioned (shown c.args.text.now) in
-    subst (λ (numbers : List ℕ). AreNumbers names numbers (length c.as_slice.result.now)) (sym c.as_slice-numbers.ensures.value)
-    (subst (λ (n : ℕ). AreNumbers names c.args.known.now.numbers.items n) (sym (ap length c.as_slice.ensures.value)) c.requires.numbers)
+    subst (λ (numbers : List ℕ). AreNumbered c.args.text.now numbers (length c.as_slice.result.now)) (sym c.as_slice-numbers.ensures.value)
+    (subst (λ (n : ℕ). AreNumbered c.args.text.now c.args.known.now.numbers.items n) (sym (ap length c.as_slice.ensures.value)) c.requires.numbers)
 
 pub ordered-requires : goal.ordered-requires
 ordered-requires c = (
   refl,
-  (
-    c.requires.whole,
-    (
-      c.requires.scope,
-      (
-        sym (c.in_ok-name.ensures ∙ ap (λ (all : List Mention). first_fault (is_undriven all) [] all) c.requires.whole) ∙ ap names_of c.in_default.is,
-        sym (c.in_ok-name-2.ensures c.args.source.now c.requires.whole) ∙ ap names_of c.in_default-2.is,
-      ),
-    ),
-  ),
+  record {
+    whole = c.requires.whole;
+    scope = c.requires.scope;
+    driven = sym (c.in_ok-name.ensures ∙ ap (λ (all : List Mention). first_fault (is_undriven all) [] all) c.requires.whole) ∙ ap names_of c.in_default.is;
+    once = sym (c.in_ok-name-2.ensures c.args.source.now c.requires.whole) ∙ ap names_of c.in_default-2.is;
+  },
 )
 
 pub returns-in-Err-clause-fault : goal.returns-in-Err-clause-fault

@@ -1,9 +1,9 @@
-use Rattle.std.proofs.Common.{◌<◌, ℕ, [], length, slice_index, take, Some, None, refl, sym, ap, subst, ◌∙◌, arith, rules}
+use Rattle.std.proofs.Common.{[], length, take, Some, None, refl, sym, ap, ◌∙◌, rules}
 use Rattle.std.proofs.Math.ListN.{drop_of_length-le}
 use Rattle.vl_ast.specs.Conditions.{first_fault, is_declaration_of, is_double, is_driver_of}
 use Rattle.vl_check.specs.inner.Mentioned.{shown}
 use Rattle.vl_check.specs.inner.Marks.{declares, drives}
-use Rattle.vl_check.proofs.Marking.{number-below, number-there, driver-test, declaration-test, marks-step, fault-step, fault-found, mark-here, declared-here, double-here, marks-long, none-marked, past-all}
+use Rattle.vl_check.proofs.Marking.{driver-test, declaration-test, marks-step, fault-step, fault-found, mark-here, declared-here, double-here, marks-long, none-marked, past-all}
 use Rattle.vl_check.proofs.driving.doubly.Goals as goal
 
 pub returns-then-is_double : goal.returns-then-is_double
@@ -30,8 +30,8 @@ loop-i-preserved c =
     record {
       long = marks-long _ _ _ _ c.mark.ensures ∙ old.long;
       driven_long = marks-long _ _ _ _ c.mark-in-loop-i.ensures ∙ old.driven_long;
-      marks = marks-step text c.loop-i.i _ c.loop-i-test.true is_declaration_of declares declaration-test c.args.numbers.now (length c.args.first.now) c.requires.numbers c.loop-i.declared.items _ _ old.long c.declares.ensures c.mark.ensures old.marks;
-      driven_marks = marks-step text c.loop-i.i _ c.loop-i-test.true is_driver_of drives driver-test c.args.numbers.now (length c.args.first.now) c.requires.numbers c.loop-i.driven.items _ _ old.driven_long c.drives.ensures c.mark-in-loop-i.ensures old.driven_marks;
+      marks = marks-step text c.loop-i.i _ c.loop-i-test.true is_declaration_of declares declaration-test c.args.numbers.now (length c.args.first.now) c.requires.numbers.known c.loop-i.declared.items _ _ old.long c.declares.ensures c.mark.ensures old.marks;
+      driven_marks = marks-step text c.loop-i.i _ c.loop-i-test.true is_driver_of drives driver-test c.args.numbers.now (length c.args.first.now) c.requires.numbers.known c.loop-i.driven.items _ _ old.driven_long c.drives.ensures c.mark-in-loop-i.ensures old.driven_marks;
       fault = λ m whole.
           let first = declared-here m text whole c.loop-i.i _ c.loop-i-test.true c.args.numbers.now c.args.first.now None c.requires.first in
           let sound = sym (double-here m (take c.loop-i.i (shown text)) _ _ _ _ marked driven first) ∙ sym c.if-is_double.ensures in
@@ -42,45 +42,7 @@ pub loop-i-init : goal.loop-i-init
 loop-i-init c = record {
   long = sym c.in_ok-declared.declared.ok.0 ∙ c.in_ok-declared.ensures.len;
   driven_long = sym c.in_ok-driven.driven.ok.0 ∙ c.in_ok-driven.ensures.len;
-  marks = none-marked is_declaration_of _ _ _ c.requires.numbers _ (c.in_ok-declared.ensures.items_if_clones_equal (search rules));
-  driven_marks = none-marked is_driver_of _ _ _ c.requires.numbers _ (c.in_ok-driven.ensures.items_if_clones_equal (search rules));
+  marks = none-marked is_declaration_of _ _ _ c.requires.numbers.known _ (c.in_ok-declared.ensures.items_if_clones_equal (search rules));
+  driven_marks = none-marked is_driver_of _ _ _ c.requires.numbers.known _ (c.in_ok-driven.ensures.items_if_clones_equal (search rules));
   fault = λ m whole. refl;
 }
-
-pub mark-requires : goal.mark-requires
-mark-requires c =
-    subst (λ (n : ℕ). slice_index c.args.numbers.now c.loop-i.i < n) (sym c.loop-i.invariant.long)
-    (number-below c.args.text.now c.args.numbers.now _ c.requires.numbers c.loop-i.i c.loop-i-test.true)
-
-pub mark-requires-in-loop-i : goal.mark-requires-in-loop-i
-mark-requires-in-loop-i c =
-    subst (λ (n : ℕ). slice_index c.args.numbers.now c.loop-i.i < n) (sym c.loop-i.invariant.driven_long)
-    (number-below c.args.text.now c.args.numbers.now _ c.requires.numbers c.loop-i.i c.loop-i-test.true)
-
-pub bounds-text-i : goal.bounds-text-i
-bounds-text-i c = c.loop-i-test.true
-
-pub bounds-numbers-i : goal.bounds-numbers-i
-bounds-numbers-i c = number-there c.args.text.now c.args.numbers.now _ c.requires.numbers c.loop-i.i c.loop-i-test.true
-
-pub offset_bounds-numbers-i : goal.offset_bounds-numbers-i
-offset_bounds-numbers-i c = let below = number-there c.args.text.now c.args.numbers.now _ c.requires.numbers c.loop-i.i c.loop-i-test.true in omega arith
-
-pub bounds-first-number : goal.bounds-first-number
-bounds-first-number c = number-below c.args.text.now c.args.numbers.now _ c.requires.numbers c.loop-i.i c.loop-i-test.true
-
-pub offset_bounds-first-number : goal.offset_bounds-first-number
-offset_bounds-first-number c = let below = number-below c.args.text.now c.args.numbers.now _ c.requires.numbers c.loop-i.i c.loop-i-test.true in omega arith
-
-pub index-requires : goal.index-requires
-index-requires c =
-    subst (λ (n : ℕ). slice_index c.args.numbers.now c.loop-i.i < n) (sym (c.loop-i.declared.ok.0 ∙ c.loop-i.invariant.long))
-    (number-below c.args.text.now c.args.numbers.now _ c.requires.numbers c.loop-i.i c.loop-i-test.true)
-
-pub index-requires-in-loop-i : goal.index-requires-in-loop-i
-index-requires-in-loop-i c =
-    subst (λ (n : ℕ). slice_index c.args.numbers.now c.loop-i.i < n) (sym (c.loop-i.driven.ok.0 ∙ c.loop-i.invariant.driven_long))
-    (number-below c.args.text.now c.args.numbers.now _ c.requires.numbers c.loop-i.i c.loop-i-test.true)
-
-pub loop-i-smaller : goal.loop-i-smaller
-loop-i-smaller c = let here : c.loop-i.i < length c.args.text.now = c.loop-i-test.true in omega (arith, here)

@@ -1,41 +1,24 @@
-use Rattle.std.proofs.Common.{◌<◌, ℕ, length, map, slice_index, sym, subst, ◌∙◌, arith, rules}
+use Rattle.std.proofs.Common.{map, sym, subst, ◌∙◌, rules}
 use Rattle.std.proofs.lemmas.List.{take_all}
 use Rattle.vl_ast.specs.Conditions.{is_driver_of, mentioned}
 use Rattle.vl_check.specs.inner.Mentioned.{shown}
 use Rattle.vl_check.specs.inner.Marks.{Marks, drives}
-use Rattle.vl_check.proofs.Marking.{driver-test, marks-step, marks-long, none-marked, number-below, number-there, past-all}
+use Rattle.vl_check.proofs.Marking.{driver-test, marks-step, marks-long, none-marked, past-all}
 use Rattle.vl_check.proofs.driving.driven_names.Goals as goal
 
 pub loop-i-init : goal.loop-i-init
 loop-i-init c = record {
   long = sym c.in_ok-driven.driven.ok.0 ∙ c.in_ok-driven.ensures.len;
-  marks = none-marked is_driver_of _ _ _ c.requires _ (c.in_ok-driven.ensures.items_if_clones_equal (search rules));
+  marks = none-marked is_driver_of _ _ _ c.requires.known _ (c.in_ok-driven.ensures.items_if_clones_equal (search rules));
 }
-
-pub bounds-text-i : goal.bounds-text-i
-bounds-text-i c = c.loop-i-test.true
-
-pub bounds-numbers-i : goal.bounds-numbers-i
-bounds-numbers-i c = number-there c.args.text.now c.args.numbers.now _ c.requires c.loop-i.i c.loop-i-test.true
-
-pub offset_bounds-numbers-i : goal.offset_bounds-numbers-i
-offset_bounds-numbers-i c = let below = number-there c.args.text.now c.args.numbers.now _ c.requires c.loop-i.i c.loop-i-test.true in omega arith
-
-pub mark-requires : goal.mark-requires
-mark-requires c =
-    subst (λ (n : ℕ). slice_index c.args.numbers.now c.loop-i.i < n) (sym c.loop-i.invariant.long)
-    (number-below c.args.text.now c.args.numbers.now _ c.requires c.loop-i.i c.loop-i-test.true)
 
 pub loop-i-preserved : goal.loop-i-preserved
 loop-i-preserved c =
     let old = c.loop-i.invariant in
     record {
       long = marks-long _ _ _ _ c.mark.ensures ∙ old.long;
-      marks = marks-step c.args.text.now c.loop-i.i _ c.loop-i-test.true is_driver_of drives driver-test c.args.numbers.now c.args.count c.requires c.loop-i.driven.items _ _ old.long c.drives.ensures c.mark.ensures old.marks;
+      marks = marks-step c.args.text.now c.loop-i.i _ c.loop-i-test.true is_driver_of drives driver-test c.args.numbers.now c.args.count c.requires.known c.loop-i.driven.items _ _ old.long c.drives.ensures c.mark.ensures old.marks;
     }
-
-pub loop-i-smaller : goal.loop-i-smaller
-loop-i-smaller c = let here : c.loop-i.i < length c.args.text.now = c.loop-i-test.true in omega (arith, here)
 
 pub returns : goal.returns
 returns c =

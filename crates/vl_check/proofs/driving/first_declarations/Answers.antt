@@ -1,15 +1,15 @@
-use Rattle.std.proofs.Common.{◌<◌, length, arith, ℕ, slice_index, ◌+◌, map, take, sym, subst, ◌∙◌, rules}
+use Rattle.std.proofs.Common.{◌+◌, map, take, sym, subst, ◌∙◌, rules}
 use Rattle.std.proofs.lemmas.List.{take_all}
 use Rattle.vl_ast.specs.Conditions.{mentioned}
 use Rattle.vl_check.specs.inner.Mentioned.{shown}
 use Rattle.vl_check.specs.inner.Marks.{AreFirst}
-use Rattle.vl_check.proofs.Marking.{number-below, number-there, first-step, first-long, none-first, past-all}
+use Rattle.vl_check.proofs.Marking.{first-step, first-long, none-first, past-all}
 use Rattle.vl_check.proofs.driving.first_declarations.Goals as goal
 
 pub loop-i-init : goal.loop-i-init
 loop-i-init c = record {
   long = sym c.in_ok-first.first.ok.0 ∙ c.in_ok-first.ensures.len;
-  first = none-first _ _ _ c.requires _ (c.in_ok-first.ensures.items_if_clones_equal (search rules));
+  first = none-first _ _ _ c.requires.known _ (c.in_ok-first.ensures.items_if_clones_equal (search rules));
 }
 
 pub loop-i-preserved : goal.loop-i-preserved
@@ -18,25 +18,8 @@ loop-i-preserved c =
     record {
       long = first-long _ _ _ _ c.declare.ensures ∙ old.long;
       first = subst (λ fs. AreFirst (map mentioned (shown c.args.text.now)) c.args.numbers.now fs (take (c.loop-i.i + 1) (shown c.args.text.now))) (sym c.declare.ensures)
-          (first-step c.args.text.now c.loop-i.i _ c.loop-i-test.true c.args.numbers.now c.args.count c.requires c.loop-i.first.items old.long old.first);
+          (first-step c.args.text.now c.loop-i.i _ c.loop-i-test.true c.args.numbers.now c.args.count c.requires.known c.loop-i.first.items old.long old.first);
     }
-
-pub bounds-text-i : goal.bounds-text-i
-bounds-text-i c = c.loop-i-test.true
-
-pub bounds-numbers-i : goal.bounds-numbers-i
-bounds-numbers-i c = number-there c.args.text.now c.args.numbers.now _ c.requires c.loop-i.i c.loop-i-test.true
-
-pub offset_bounds-numbers-i : goal.offset_bounds-numbers-i
-offset_bounds-numbers-i c = let below = number-there c.args.text.now c.args.numbers.now _ c.requires c.loop-i.i c.loop-i-test.true in omega arith
-
-pub declare-requires : goal.declare-requires
-declare-requires c =
-    subst (λ (n : ℕ). slice_index c.args.numbers.now c.loop-i.i < n) (sym c.loop-i.invariant.long)
-    (number-below c.args.text.now c.args.numbers.now _ c.requires c.loop-i.i c.loop-i-test.true)
-
-pub loop-i-smaller : goal.loop-i-smaller
-loop-i-smaller c = let here : c.loop-i.i < length c.args.text.now = c.loop-i-test.true in omega (arith, here)
 
 pub returns : goal.returns
 returns c =

@@ -1,9 +1,9 @@
-use Rattle.std.proofs.Common.{◌<◌, ℕ, length, slice_index, take, Some, refl, sym, ap, subst, ◌∙◌, arith, rules}
+use Rattle.std.proofs.Common.{take, Some, refl, sym, ap, ◌∙◌, rules}
 use Rattle.std.proofs.Math.ListN.{drop_of_length-le}
 use Rattle.vl_ast.specs.Conditions.{first_fault, is_declaration_of, is_driver_of, is_undriven}
 use Rattle.vl_check.specs.inner.Mentioned.{shown}
 use Rattle.vl_check.specs.inner.Marks.{declares}
-use Rattle.vl_check.proofs.Marking.{number-below, number-there, declaration-test, marks-step, fault-step, fault-found, mark-here, undriven-here, marks-long, none-marked, past-all}
+use Rattle.vl_check.proofs.Marking.{declaration-test, marks-step, fault-step, fault-found, mark-here, undriven-here, marks-long, none-marked, past-all}
 use Rattle.vl_check.proofs.driving.undriven.Goals as goal
 
 pub returns-then-is_undriven : goal.returns-then-is_undriven
@@ -23,43 +23,16 @@ loop-i-preserved c =
     let sound = sym (undriven-here (shown text) (take c.loop-i.i (shown text)) _ _ _ marked driven) ∙ sym c.if-is_undriven.ensures in
     record {
       long = marks-long _ _ _ _ c.mark.ensures ∙ old.long;
-      marks = marks-step text c.loop-i.i _ c.loop-i-test.true is_declaration_of declares declaration-test c.args.numbers.now c.args.count c.requires c.loop-i.declared.items _ _ old.long c.declares.ensures c.mark.ensures old.marks;
+      marks = marks-step text c.loop-i.i _ c.loop-i-test.true is_declaration_of declares declaration-test c.args.numbers.now c.args.count c.requires.known c.loop-i.declared.items _ _ old.long c.declares.ensures c.mark.ensures old.marks;
       fault = fault-step text c.loop-i.i _ c.loop-i-test.true (is_undriven (shown text)) _ sound old.fault;
     }
 
 pub loop-i-init : goal.loop-i-init
 loop-i-init c = record {
   long = sym c.in_ok-declared.declared.ok.0 ∙ c.in_ok-declared.ensures.len;
-  marks = none-marked is_declaration_of _ _ _ c.requires _ (c.in_ok-declared.ensures.items_if_clones_equal (search rules));
+  marks = none-marked is_declaration_of _ _ _ c.requires.known _ (c.in_ok-declared.ensures.items_if_clones_equal (search rules));
   fault = refl;
 }
-
-pub mark-requires : goal.mark-requires
-mark-requires c =
-    subst (λ (n : ℕ). slice_index c.args.numbers.now c.loop-i.i < n) (sym c.loop-i.invariant.long)
-    (number-below c.args.text.now c.args.numbers.now _ c.requires c.loop-i.i c.loop-i-test.true)
-
-pub bounds-text-i : goal.bounds-text-i
-bounds-text-i c = c.loop-i-test.true
-
-pub bounds-numbers-i : goal.bounds-numbers-i
-bounds-numbers-i c = number-there c.args.text.now c.args.numbers.now _ c.requires c.loop-i.i c.loop-i-test.true
-
-pub offset_bounds-numbers-i : goal.offset_bounds-numbers-i
-offset_bounds-numbers-i c = let below = number-there c.args.text.now c.args.numbers.now _ c.requires c.loop-i.i c.loop-i-test.true in omega arith
-
-pub index-requires : goal.index-requires
-index-requires c =
-    subst (λ (n : ℕ). slice_index c.args.numbers.now c.loop-i.i < n) (sym (c.loop-i.declared.ok.0 ∙ c.loop-i.invariant.long))
-    (number-below c.args.text.now c.args.numbers.now _ c.requires c.loop-i.i c.loop-i-test.true)
-
-pub index-requires-in-loop-i : goal.index-requires-in-loop-i
-index-requires-in-loop-i c =
-    subst (λ (n : ℕ). slice_index c.args.numbers.now c.loop-i.i < n) (sym (c.in_ok-driven.driven.ok.0 ∙ c.in_ok-driven.ensures.long))
-    (number-below c.args.text.now c.args.numbers.now _ c.requires c.loop-i.i c.loop-i-test.true)
-
-pub loop-i-smaller : goal.loop-i-smaller
-loop-i-smaller c = let here : c.loop-i.i < length c.args.text.now = c.loop-i-test.true in omega (arith, here)
 
 pub driven_names-requires : goal.driven_names-requires
 driven_names-requires c = c.requires

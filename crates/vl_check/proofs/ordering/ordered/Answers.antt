@@ -16,16 +16,16 @@ pub sort-sorted-requires : goal.sort-sorted-requires
 sort-sorted-requires g c =
     let a = c.in_ok-places.field-0 in
     let n = subst (λ xs. IsNoted c.args.scope.now xs a.places.items a.reads.items) (c.as_slice.ensures ∙ ap (λ (m : Module). m.items) (sym c.requires.0)) c.in_ok-places.ensures in
-    subst (λ rs. AreKnown rs) (sym c.as_slice-2.ensures.value) (reads-known g.of c.args.scope.now a.places.items a.reads.items c.requires.1.1.0 c.requires.1.1.1.0 c.requires.1.1.1.1 n)
+    subst (λ rs. AreKnown rs) (sym c.as_slice-2.ensures.value) (reads-known g.of c.args.scope.now a.places.items a.reads.items c.requires.1.scope c.requires.1.driven c.requires.1.once n)
 
 pub beginning-requires : goal.beginning-requires
 beginning-requires g c =
     let a = c.in_ok-places.field-0 in
     let n = subst (λ xs. IsNoted c.args.scope.now xs a.places.items a.reads.items) (c.as_slice.ensures ∙ ap (λ (m : Module). m.items) (sym c.requires.0)) c.in_ok-places.ensures in
     let s : IsCycle a.reads.items c.in-Cycle.cycle.items = sorted a.reads.items c.as_slice-2.result.now c.in_ok-order.field-0 _ c.as_slice-2.ensures.value c.in-Cycle.is c.in_ok-order.ensures in
-    let named = cycle-named g.of c.args.scope.now a.places.items a.reads.items c.requires.1.1.0 c.requires.1.1.1.0 c.requires.1.1.1.1 n c.in-Cycle.cycle.items s in
+    let named = cycle-named g.of c.args.scope.now a.places.items a.reads.items c.requires.1.scope c.requires.1.driven c.requires.1.once n c.in-Cycle.cycle.items s in
     let same = sym c.as_slice-in-Cycle.ensures.value in
-    (c.requires.1.0, (c.requires.1.1.0, (subst (λ xs. 0 < length xs) same s.some, subst (λ xs. AreNamed g.of c.args.scope.now xs) same named)))
+    (c.requires.1.whole, (c.requires.1.scope, (subst (λ xs. 0 < length xs) same s.some, subst (λ xs. AreNamed g.of c.args.scope.now xs) same named)))
 
 pub returns-in-Order-clause-acyclic : goal.returns-in-Order-clause-acyclic
 returns-in-Order-clause-acyclic g c =
@@ -33,9 +33,9 @@ returns-in-Order-clause-acyclic g c =
     let n = subst (λ xs. IsNoted c.args.scope.now xs a.places.items a.reads.items) (c.as_slice.ensures ∙ ap (λ (m : Module). m.items) (sym c.requires.0)) c.in_ok-places.ensures in
     let s : IsOrder a.reads.items c.in-Order.order.items = sorted a.reads.items c.as_slice-2.result.now c.in_ok-order.field-0 _ c.as_slice-2.ensures.value c.in-Order.is c.in_ok-order.ensures in
     record {
-      driven = c.requires.1.1.1.0;
-      once = c.requires.1.1.1.1;
-      acyclic = no-loop g.of c.args.scope.now a.places.items a.reads.items c.requires.1.1.0 c.requires.1.1.1.0 c.requires.1.1.1.1 n c.in-Order.order.items s;
+      driven = c.requires.1.driven;
+      once = c.requires.1.once;
+      acyclic = no-loop g.of c.args.scope.now a.places.items a.reads.items c.requires.1.scope c.requires.1.driven c.requires.1.once n c.in-Order.order.items s;
     }
 
 pub returns-in-Order-clause-order : goal.returns-in-Order-clause-order
@@ -43,7 +43,7 @@ returns-in-Order-clause-order g c =
     let a = c.in_ok-places.field-0 in
     let n = subst (λ xs. IsNoted c.args.scope.now xs a.places.items a.reads.items) (c.as_slice.ensures ∙ ap (λ (m : Module). m.items) (sym c.requires.0)) c.in_ok-places.ensures in
     let s : IsOrder a.reads.items c.in-Order.order.items = sorted a.reads.items c.as_slice-2.result.now c.in_ok-order.field-0 _ c.as_slice-2.ensures.value c.in-Order.is c.in_ok-order.ensures in
-    ordering g.of c.args.scope.now a.places.items a.reads.items c.requires.1.1.0 c.requires.1.1.1.0 c.requires.1.1.1.1 n c.in-Order.order.items s
+    ordering g.of c.args.scope.now a.places.items a.reads.items c.requires.1.scope c.requires.1.driven c.requires.1.once n c.in-Order.order.items s
 
 pub returns-in_ok-names-in-Cycle-clause-fault : goal.returns-in_ok-names-in-Cycle-clause-fault
 returns-in_ok-names-in-Cycle-clause-fault g c =
@@ -52,4 +52,4 @@ returns-in_ok-names-in-Cycle-clause-fault g c =
     let s : IsCycle a.reads.items c.in-Cycle.cycle.items = sorted a.reads.items c.as_slice-2.result.now c.in_ok-order.field-0 _ c.as_slice-2.ensures.value c.in-Cycle.is c.in_ok-order.ensures in
     let begins = subst (λ xs. IsBeginning g.of c.args.scope.now xs c.in_ok-at-in-Cycle.at) c.as_slice-in-Cycle.ensures.value c.in_ok-at-in-Cycle.ensures in
     let turned = subst (λ xs. IsTurned (names_in c.args.scope.now) xs c.in_ok-at-in-Cycle.at c.in_ok-names-in-Cycle.names) c.as_slice-in-Cycle-2.ensures.value c.in_ok-names-in-Cycle.ensures in
-    (c.requires.1.1.1.0, c.requires.1.1.1.1, turned-loop g.of c.args.scope.now a.places.items a.reads.items c.requires.1.1.0 c.requires.1.1.1.0 c.requires.1.1.1.1 n c.in-Cycle.cycle.items s c.in_ok-at-in-Cycle.at begins c.in_ok-names-in-Cycle.names turned)
+    (c.requires.1.driven, c.requires.1.once, turned-loop g.of c.args.scope.now a.places.items a.reads.items c.requires.1.scope c.requires.1.driven c.requires.1.once n c.in-Cycle.cycle.items s c.in_ok-at-in-Cycle.at begins c.in_ok-names-in-Cycle.names turned)

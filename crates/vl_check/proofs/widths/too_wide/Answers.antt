@@ -39,7 +39,7 @@ returns-then-not-is_sound_item c =
     let found = one-fails item_name (is_sound_item (nets_in c.args.scope.now)) m.items c.loop-item.item-index c.item-item.result
     (subst (λ xs. c.loop-item.item-index < length xs) is c.loop-item-test.true) (c.item-item.is ∙ ap (λ xs. slice_index_or xs c.loop-item.item-index c.item-item.result) is)
     c.loop-item.invariant.items (sym c.is_sound_item.ensures ∙ c.if-not-is_sound_item.true) in
-    ap Some c.item_name.ensures
+    ap Some c.name.ensures
     ∙ sym (ap (option_map (λ (part : List ℕ × Bool). part.0)) (find-append (λ (part : List ℕ × Bool). not part.1) ports items
     ∙ option-none (find (λ (part : List ℕ × Bool). not part.1) ports) (none-fails (λ (port : Port). port.name) (λ port. is_width port.width) m.ports c.loop-item.invariant.ports) (find (λ (part : List ℕ × Bool). not part.1) items) ∙ found))
     ∙ ap (wide m.ports m.items) nets
