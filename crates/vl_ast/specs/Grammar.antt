@@ -162,7 +162,8 @@ pub record IsModuleText (m : Module) (tokens : List Token) : Type 0 where
   pub has_port : m.ports ≢ []
   pub each_port : AllZip IsPortText m.ports ports
   pub each_item : AllZip IsItemText m.items items
-  pub text : tokens ≡ attrs_tokens m.attrs ++ (Key (codes "module") ∷ Identifier m.name ∷ Sign (codes "(") ∷ (joined comma ports ++ (Sign (codes ")") ∷ Sign (codes ";") ∷ (flat_map (λ item. item) items ++ Key (codes "endmodule") ∷ []))))
+  pub text : tokens ≡ attrs_tokens m.attrs ++
+      (Key (codes "module") ∷ Identifier m.name ∷ Sign (codes "(") ∷ (joined comma ports ++ (Sign (codes ")") ∷ Sign (codes ";") ∷ (flat_map (λ item. item) items ++ Key (codes "endmodule") ∷ []))))
 
 -- the bytes are a text of the module
 pub record Spells (bytes : List ℕ) (m : Module) : Type 0 where

@@ -37,4 +37,5 @@ pub record Runs (m : Module) (count : ℕ) (start : Row) (inputs rows : Rows) : 
   pub starts : 0 < count → (signed : Bool) (width : ℕ) (name : List ℕ) → Contains m.items (Reg signed width name) → rows 0 name ≡ start name
   pub driven : (k : ℕ) → k < count → (port : Port) → Contains m.ports port → port.input ≡ true → rows k port.name ≡ inputs k port.name
   pub assigns : (k : ℕ) → k < count → (name : List ℕ) (value : Expr) → Contains m.items (Assign name value) → rows k name ≡ assigned (nets_of m) (rows k) (nets_of m name).width value
-  pub steps : (k : ℕ) → k + 1 < count → (name : List ℕ) (first : Sized) (condition : Option Expr) (value : Expr) → Contains m.items (Always name first condition value) → rows (k + 1) name ≡ next_bits m (rows k) name first condition value
+  pub steps : (k : ℕ) → k + 1 < count → (name : List ℕ) (first : Sized) (condition : Option Expr) (value : Expr)
+      → Contains m.items (Always name first condition value) → rows (k + 1) name ≡ next_bits m (rows k) name first condition value

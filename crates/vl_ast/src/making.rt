@@ -12,19 +12,18 @@ use crate::modules::{Attr, Attrs, ModItem, Port, Ports};
 use fx_io::{Boxed, OutOfMemory, Text};
 use std::alloc::Global;
 
+/// What is made of parts, where no memory was wanting.
+pub type Made<T> = Result<T, OutOfMemory>;
+
 /// An expression in its box. The only error is want of memory.
-pub fn boxed(alloc: Global, made: Result<Expr, OutOfMemory>) -> Result<Boxed<Expr>, OutOfMemory>
+pub fn boxed(alloc: Global, made: Made<Expr>) -> Made<Boxed<Expr>>
     ensures { (is : Expr) → IfOk made (λ e. e ≡ is) → IfOk result (λ e. e ≡ is) }
 {
     Boxed::new(alloc, made?)
 }
 
 /// `left op right`. The only error is want of memory.
-pub fn binary(
-    op: BinOp,
-    left: Result<Boxed<Expr>, OutOfMemory>,
-    right: Result<Boxed<Expr>, OutOfMemory>,
-) -> Result<Expr, OutOfMemory>
+pub fn binary(op: BinOp, left: Made<Boxed<Expr>>, right: Made<Boxed<Expr>>) -> Made<Expr>
     ensures { (one other : Expr) → IfOk left (λ e. e ≡ one) → IfOk right (λ e. e ≡ other)
         → IfOk result (λ e. e ≡ Binary op one other) }
 {
@@ -33,10 +32,10 @@ pub fn binary(
 
 /// `test ? chosen : other`. The only error is want of memory.
 pub fn choose(
-    test: Result<Boxed<Expr>, OutOfMemory>,
-    chosen: Result<Boxed<Expr>, OutOfMemory>,
-    other: Result<Boxed<Expr>, OutOfMemory>,
-) -> Result<Expr, OutOfMemory>
+    test: Made<Boxed<Expr>>,
+    chosen: Made<Boxed<Expr>>,
+    other: Made<Boxed<Expr>>,
+) -> Made<Expr>
     ensures { (first second third : Expr) → IfOk test (λ e. e ≡ first)
         → IfOk chosen (λ e. e ≡ second) → IfOk other (λ e. e ≡ third)
         → IfOk result (λ e. e ≡ Choose first second third) }
@@ -44,43 +43,46 @@ pub fn choose(
     Ok(Expr::Choose(test?, chosen?, other?))
 }
 
+/// The declaration of a register, or else of a wire.
+fn net(is_reg: bool, signed: bool, width: u32, name: Made<Text>) -> Made<ModItem>
+    ensures { (text : List ℕ) → IfOk name (λ made. made ≡ text)
+        → IfOk result (λ item. item
+        ≡ (if is_reg then Reg signed width text else Wire signed width text)) }
+{
+    let name = name?;
+    if is_reg {
+        Ok(ModItem::Reg {
+            signed,
+            width,
+            name,
+        })
+    } else {
+        Ok(ModItem::Wire {
+            signed,
+            width,
+            name,
+        })
+    }
+}
+
 /// The declaration of a wire. The only error is want of memory.
-pub fn wire(
-    signed: bool,
-    width: u32,
-    name: Result<Text, OutOfMemory>,
-) -> Result<ModItem, OutOfMemory>
+pub fn wire(signed: bool, width: u32, name: Made<Text>) -> Made<ModItem>
     ensures { (text : List ℕ) → IfOk name (λ made. made ≡ text)
         → IfOk result (λ item. item ≡ Wire signed width text) }
 {
-    Ok(ModItem::Wire {
-        signed,
-        width,
-        name: name?,
-    })
+    net(false, signed, width, name)
 }
 
 /// The declaration of a register. The only error is want of memory.
-pub fn reg(
-    signed: bool,
-    width: u32,
-    name: Result<Text, OutOfMemory>,
-) -> Result<ModItem, OutOfMemory>
+pub fn reg(signed: bool, width: u32, name: Made<Text>) -> Made<ModItem>
     ensures { (text : List ℕ) → IfOk name (λ made. made ≡ text)
         → IfOk result (λ item. item ≡ Reg signed width text) }
 {
-    Ok(ModItem::Reg {
-        signed,
-        width,
-        name: name?,
-    })
+    net(true, signed, width, name)
 }
 
 /// What assigns a value to a name. The only error is want of memory.
-pub fn assigned(
-    name: Result<Text, OutOfMemory>,
-    value: Result<Expr, OutOfMemory>,
-) -> Result<ModItem, OutOfMemory>
+pub fn assigned(name: Made<Text>, value: Made<Expr>) -> Made<ModItem>
     ensures { (text : List ℕ) (shown : Expr) → IfOk name (λ made. made ≡ text)
         → IfOk value (λ made. made ≡ shown) → IfOk result (λ item. item ≡ Assign text shown) }
 {
@@ -102,11 +104,11 @@ pub fn assigned(
 
 /// What a register takes, and on which condition, if there is one. The only error is want of memory.
 pub fn clocked(
-    name: Result<Text, OutOfMemory>,
+    name: Made<Text>,
     first: Sized,
-    condition: Result<Option<Expr>, OutOfMemory>,
-    value: Result<Expr, OutOfMemory>,
-) -> Result<ModItem, OutOfMemory>
+    condition: Made<Option<Expr>>,
+    value: Made<Expr>,
+) -> Made<ModItem>
     ensures { (text : List ℕ) (number : Sized) (test : Option Expr) (taken : Expr)
         → first ≡ number → IfOk name (λ made. made ≡ text)
         → IfOk condition (λ made. made ≡ test) → IfOk value (λ made. made ≡ taken)
@@ -143,7 +145,7 @@ pub fn clocked(
     }
 }
 
-fn stated(condition: Result<Expr, OutOfMemory>) -> Result<Option<Expr>, OutOfMemory>
+fn stated(condition: Made<Expr>) -> Made<Option<Expr>>
     ensures { (test : Expr) → IfOk condition (λ made. made ≡ test)
         → IfOk result (λ made. made ≡ Some test) }
 {
@@ -152,11 +154,11 @@ fn stated(condition: Result<Expr, OutOfMemory>) -> Result<Option<Expr>, OutOfMem
 
 /// What a register takes on a condition. The only error is want of memory.
 pub fn register(
-    name: Result<Text, OutOfMemory>,
+    name: Made<Text>,
     first: Sized,
-    condition: Result<Expr, OutOfMemory>,
-    value: Result<Expr, OutOfMemory>,
-) -> Result<ModItem, OutOfMemory>
+    condition: Made<Expr>,
+    value: Made<Expr>,
+) -> Made<ModItem>
     ensures { (text : List ℕ) (number : Sized) (test taken : Expr) → first ≡ number
         → IfOk name (λ made. made ≡ text) → IfOk condition (λ made. made ≡ test)
         → IfOk value (λ made. made ≡ taken)

@@ -66,3 +66,20 @@ pub enum ModItem {
         value: Expr,
     },
 }
+
+impl ModItem {
+    ghost use Rattle.std.specs.Prelude.{◌≡◌};
+    ghost use Rattle.vl_ast.specs.Conditions.{item_name};
+
+    /// The name that the item declares or drives.
+    pub fn name(&self) -> &[u8]
+        ensures { result.now ≡ item_name self.now }
+    {
+        match self {
+            ModItem::Wire { name, .. }
+            | ModItem::Reg { name, .. }
+            | ModItem::Assign { name, .. }
+            | ModItem::Always { name, .. } => name.bytes(),
+        }
+    }
+}

@@ -1,29 +1,20 @@
-ghost use Rattle.std.specs.Prelude.{◌≡◌, ◌++◌, OnOk, map, codes};
-ghost use Rattle.vl_ast.specs.Spelling.{joined, attr_text, attrs_text};
+ghost use Rattle.std.specs.Prelude.{◌≡◌, ◌++◌, OnOk};
+ghost use Rattle.vl_ast.specs.Spelling.{attr_text, attrs_text};
 
-use crate::parts::{put, put_number};
+use crate::lists::{Part, put_list};
+use crate::parts::put_number;
 use fx_io::OutOfMemory;
+use fx_text::push;
 use vl_ast::Attr;
 
-fn put_attr(out: &mut Vec<u8>, attr: &Attr) -> Result<(), OutOfMemory>
-    ensures { OnOk result (out.new.items ≡ out.old.items ++ attr_text attr.now) }
-{
-    put(out, attr.name.bytes())?;
-    put(out, b" = ")?;
-    put_number(out, u128::from(attr.value))
-}
+impl Part for Attr {
+    ghost text_of = { attr_text };
 
-fn put_attr_list(out: &mut Vec<u8>, attrs: &[Attr]) -> Result<(), OutOfMemory>
-    ensures { OnOk result (out.new.items
-        ≡ out.old.items ++ joined (codes ", ") (map attr_text attrs.now)) }
-{
-    let mut before: &[u8] = b"";
-    for attr in attrs {
-        put(out, before)?;
-        put_attr(out, attr)?;
-        before = b", ";
+    fn spell(&self, out: &mut Vec<u8>) -> Result<(), OutOfMemory> {
+        push(out, self.name.bytes())?;
+        push(out, b" = ")?;
+        put_number(out, u128::from(self.value))
     }
-    Ok(())
 }
 
 /// Puts a line of attributes, where there are some, after an indent.
@@ -33,8 +24,8 @@ pub fn put_attrs(out: &mut Vec<u8>, indent: &[u8], attrs: &[Attr]) -> Result<(),
     if attrs.is_empty() {
         return Ok(());
     }
-    put(out, indent)?;
-    put(out, b"(* ")?;
-    put_attr_list(out, attrs)?;
-    put(out, b" *)\n")
+    push(out, indent)?;
+    push(out, b"(* ")?;
+    put_list(out, attrs, b", ")?;
+    push(out, b" *)\n")
 }

@@ -1,15 +1,16 @@
 ghost use Rattle.std.specs.Prelude.{◌≡◌, ◌++◌, OnOk, map, codes, decimal};
 ghost use Rattle.vl_ast.specs.Spelling.{joined, expr_text, sized_text};
 
-use crate::parts::{put, put_between, put_sized};
+use crate::parts::{put_between, put_sized};
 use fx_io::OutOfMemory;
+use fx_text::push;
 use vl_ast::{Expr, Sized};
 
 fn put_bit(out: &mut Vec<u8>, name: &[u8], place: u32) -> Result<(), OutOfMemory>
     ensures { OnOk result (out.new.items
         ≡ out.old.items ++ (name.now ++ codes " [" ++ decimal place ++ codes "]")) }
 {
-    put(out, name)?;
+    push(out, name)?;
     put_between(out, b" [", place, b"]")
 }
 
@@ -18,7 +19,7 @@ fn put_part(out: &mut Vec<u8>, name: &[u8], high: u32, low: u32) -> Result<(), O
         ≡ out.old.items ++
         (name.now ++ codes " [" ++ decimal high ++ codes ":" ++ decimal low ++ codes "]")) }
 {
-    put(out, name)?;
+    push(out, name)?;
     put_between(out, b" [", high, b":")?;
     put_between(out, b"", low, b"]")
 }
@@ -26,18 +27,18 @@ fn put_part(out: &mut Vec<u8>, name: &[u8], high: u32, low: u32) -> Result<(), O
 fn put_opened(out: &mut Vec<u8>, operator: &[u8]) -> Result<(), OutOfMemory>
     ensures { OnOk result (out.new.items ≡ out.old.items ++ (codes "(" ++ operator.now)) }
 {
-    put(out, b"(")?;
-    put(out, operator)
+    push(out, b"(")?;
+    push(out, operator)
 }
 
 fn put_amount(out: &mut Vec<u8>, operator: &[u8], amount: &Sized) -> Result<(), OutOfMemory>
     ensures { OnOk result (out.new.items
         ≡ out.old.items ++ (operator.now ++ codes " " ++ sized_text amount.now ++ codes ")")) }
 {
-    put(out, operator)?;
-    put(out, b" ")?;
+    push(out, operator)?;
+    push(out, b" ")?;
     put_sized(out, amount)?;
-    put(out, b")")
+    push(out, b")")
 }
 
 /// Puts an expression. The recursion is as deep as the expression nests.
@@ -46,14 +47,14 @@ pub fn put_expr(out: &mut Vec<u8>, e: &Expr) -> Result<(), OutOfMemory>
     ensures { OnOk result (out.new.items ≡ out.old.items ++ expr_text e.now) }
 {
     match e {
-        Expr::Name(name) => put(out, name.bytes()),
+        Expr::Name(name) => push(out, name.bytes()),
         Expr::Bit(name, place) => put_bit(out, name.bytes(), *place),
         Expr::Part(name, high, low) => put_part(out, name.bytes(), *high, *low),
         Expr::Literal(number) => put_sized(out, number),
         Expr::Concat(parts) => {
-            put(out, b"{")?;
+            push(out, b"{")?;
             put_parts(out, parts.as_slice())?;
-            put(out, b"}")
+            push(out, b"}")
         }
         Expr::Repeat(count, part) => {
             put_between(out, b"{", *count, b" {")?;
@@ -67,7 +68,7 @@ pub fn put_expr(out: &mut Vec<u8>, e: &Expr) -> Result<(), OutOfMemory>
         }
         Expr::Binary(op, left, right) => {
             put_within(out, b"(", left.get(), b" ")?;
-            put(out, op.text())?;
+            push(out, op.text())?;
             put_within(out, b" ", right.get(), b")")
         }
         Expr::Shift(op, part, amount) => {
@@ -87,9 +88,9 @@ fn put_within(out: &mut Vec<u8>, before: &[u8], e: &Expr, after: &[u8]) -> Resul
     ensures { OnOk result (out.new.items
         ≡ out.old.items ++ (before.now ++ (expr_text e.now ++ after.now))) }
 {
-    put(out, before)?;
+    push(out, before)?;
     put_expr(out, e)?;
-    put(out, after)
+    push(out, after)
 }
 
 #[cycle(expression)]

@@ -2,8 +2,9 @@ ghost use Rattle.std.specs.Prelude.{◌≡◌, ◌<◌, ◌+◌, ◌^◌, ◌++�
 ghost use Rattle.vl_ast.specs.Spelling.{item_text, condition_text, expr_text, sized_text, signed_text, range_text};
 
 use crate::expressions::put_expr;
-use crate::parts::{put, put_range, put_signed, put_sized};
+use crate::parts::{put_range, put_signed, put_sized};
 use fx_io::{Gate, OutOfMemory};
+use fx_text::push;
 use vl_ast::{Expr, ModItem, Sized};
 
 fn put_net(
@@ -17,11 +18,11 @@ fn put_net(
         ≡ out.old.items ++
         (word.now ++ signed_text signed ++ range_text width ++ name.now ++ codes ";\n")) }
 {
-    put(out, word)?;
+    push(out, word)?;
     put_signed(out, signed)?;
     put_range(out, width)?;
-    put(out, name)?;
-    put(out, b";\n")
+    push(out, name)?;
+    push(out, b";\n")
 }
 
 fn put_condition(out: &mut Vec<u8>, condition: &Option<Expr>) -> Result<(), OutOfMemory>
@@ -30,9 +31,9 @@ fn put_condition(out: &mut Vec<u8>, condition: &Option<Expr>) -> Result<(), OutO
     match condition {
         None => Ok(()),
         Some(condition) => {
-            put(out, b"if (")?;
+            push(out, b"if (")?;
             put_expr(out, condition)?;
-            put(out, b") ")
+            push(out, b") ")
         }
     }
 }
@@ -43,11 +44,11 @@ fn put_reset(out: &mut Vec<u8>, name: &[u8], first: &Sized) -> Result<(), OutOfM
         (codes "always @ (posedge clk) begin if (reset) " ++ name.now ++ codes " <= "
         ++ sized_text first.now ++ codes "; else ")) }
 {
-    put(out, b"always @ (posedge clk) begin if (reset) ")?;
-    put(out, name)?;
-    put(out, b" <= ")?;
+    push(out, b"always @ (posedge clk) begin if (reset) ")?;
+    push(out, name)?;
+    push(out, b" <= ")?;
     put_sized(out, first)?;
-    put(out, b"; else ")
+    push(out, b"; else ")
 }
 
 /// Puts what a name takes, with what stands between them and behind.
@@ -61,39 +62,32 @@ fn put_value(
     ensures { OnOk result (out.new.items
         ≡ out.old.items ++ (name.now ++ sign.now ++ expr_text value.now ++ end.now)) }
 {
-    put(out, name)?;
-    put(out, sign)?;
+    push(out, name)?;
+    push(out, sign)?;
     put_expr(out, value)?;
-    put(out, end)
+    push(out, end)
 }
 
 fn put_item(out: &mut Vec<u8>, item: &ModItem) -> Result<(), OutOfMemory>
     ensures { OnOk result (out.new.items ≡ out.old.items ++ item_text item.now) }
 {
+    let name = item.name();
     match item {
-        ModItem::Wire {
-            signed,
-            width,
-            name,
-        } => put_net(out, b"wire ", *signed, *width, name.bytes()),
-        ModItem::Reg {
-            signed,
-            width,
-            name,
-        } => put_net(out, b"reg ", *signed, *width, name.bytes()),
-        ModItem::Assign { name, value } => {
-            put(out, b"assign ")?;
-            put_value(out, name.bytes(), b" = ", value, b";\n")
+        ModItem::Wire { signed, width, .. } => put_net(out, b"wire ", *signed, *width, name),
+        ModItem::Reg { signed, width, .. } => put_net(out, b"reg ", *signed, *width, name),
+        ModItem::Assign { value, .. } => {
+            push(out, b"assign ")?;
+            put_value(out, name, b" = ", value, b";\n")
         }
         ModItem::Always {
-            name,
             first,
             condition,
             value,
+            ..
         } => {
-            put_reset(out, name.bytes(), first)?;
+            put_reset(out, name, first)?;
             put_condition(out, condition)?;
-            put_value(out, name.bytes(), b" <= ", value, b"; end\n")
+            put_value(out, name, b" <= ", value, b"; end\n")
         }
     }
 }

@@ -9,6 +9,7 @@
 mod attributes;
 mod expressions;
 mod items;
+mod lists;
 mod parts;
 mod pieces;
 mod ports;

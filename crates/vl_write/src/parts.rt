@@ -3,23 +3,16 @@ ghost use Rattle.std.specs.Prelude.{◌≡◌, ◌++◌, OnOk, decimal};
 ghost use Rattle.vl_ast.specs.Spelling.{sized_text, signed_text, range_text};
 
 use fx_io::OutOfMemory;
+use fx_text::push;
 use itoa::Buffer;
 use vl_ast::Sized;
-
-/// Puts bytes at the end of the text.
-pub fn put(out: &mut Vec<u8>, bytes: &[u8]) -> Result<(), OutOfMemory>
-    ensures { OnOk result (out.new.items ≡ out.old.items ++ bytes.now) }
-{
-    out.extend_from_slice(bytes)?;
-    Ok(())
-}
 
 /// Puts a number in base ten, without leading zeros.
 pub fn put_number(out: &mut Vec<u8>, number: u128) -> Result<(), OutOfMemory>
     ensures { OnOk result (out.new.items ≡ out.old.items ++ decimal number) }
 {
     let mut digits = Buffer::new();
-    put(out, digits.format(number).as_bytes())
+    push(out, digits.format(number).as_bytes())
 }
 
 /// Puts a number of 32 bits between two texts.
@@ -32,9 +25,9 @@ pub fn put_between(
     ensures { OnOk result (out.new.items
         ≡ out.old.items ++ (before.now ++ decimal number ++ after.now)) }
 {
-    put(out, before)?;
+    push(out, before)?;
     put_number(out, u128::from(number))?;
-    put(out, after)
+    push(out, after)
 }
 
 /// Puts a based number, as `16'sd7`.
@@ -43,9 +36,9 @@ pub fn put_sized(out: &mut Vec<u8>, number: &Sized) -> Result<(), OutOfMemory>
 {
     put_between(out, b"", number.width, b"'")?;
     if number.signed {
-        put(out, b"s")?;
+        push(out, b"s")?;
     }
-    put(out, b"d")?;
+    push(out, b"d")?;
     put_number(out, number.bits.get())
 }
 
@@ -53,7 +46,11 @@ pub fn put_sized(out: &mut Vec<u8>, number: &Sized) -> Result<(), OutOfMemory>
 pub fn put_signed(out: &mut Vec<u8>, signed: bool) -> Result<(), OutOfMemory>
     ensures { OnOk result (out.new.items ≡ out.old.items ++ signed_text signed) }
 {
-    if signed { put(out, b"signed ") } else { Ok(()) }
+    if signed {
+        push(out, b"signed ")
+    } else {
+        Ok(())
+    }
 }
 
 /// Puts the range of a net, which one of one bit lacks.

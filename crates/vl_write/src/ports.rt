@@ -2,8 +2,10 @@ ghost use Rattle.std.specs.Prelude.{◌≡◌, ◌++◌, OnOk, map, codes, if◌
 ghost use Rattle.vl_ast.specs.Spelling.{joined, port_text};
 
 use crate::attributes::put_attrs;
-use crate::parts::{put, put_range, put_signed};
+use crate::lists::{Part, put_list};
+use crate::parts::{put_range, put_signed};
 use fx_io::OutOfMemory;
+use fx_text::push;
 use vl_ast::Port;
 
 fn direction_words(input: bool) -> &'static [u8]
@@ -16,14 +18,16 @@ fn direction_words(input: bool) -> &'static [u8]
     }
 }
 
-fn put_port(out: &mut Vec<u8>, port: &Port) -> Result<(), OutOfMemory>
-    ensures { OnOk result (out.new.items ≡ out.old.items ++ port_text port.now) }
-{
-    put_attrs(out, b"  ", port.attrs.as_slice())?;
-    put(out, direction_words(port.input))?;
-    put_signed(out, port.signed)?;
-    put_range(out, port.width)?;
-    put(out, port.name.bytes())
+impl Part for Port {
+    ghost text_of = { port_text };
+
+    fn spell(&self, out: &mut Vec<u8>) -> Result<(), OutOfMemory> {
+        put_attrs(out, b"  ", self.attrs.as_slice())?;
+        push(out, direction_words(self.input))?;
+        put_signed(out, self.signed)?;
+        put_range(out, self.width)?;
+        push(out, self.name.bytes())
+    }
 }
 
 /// Puts the ports, each on a line of its own.
@@ -31,11 +35,5 @@ pub fn put_ports(out: &mut Vec<u8>, ports: &[Port]) -> Result<(), OutOfMemory>
     ensures { OnOk result (out.new.items
         ≡ out.old.items ++ joined (codes ",\n") (map port_text ports.now)) }
 {
-    let mut before: &[u8] = b"";
-    for port in ports {
-        put(out, before)?;
-        put_port(out, port)?;
-        before = b",\n";
-    }
-    Ok(())
+    put_list(out, ports, b",\n")
 }

@@ -3,10 +3,10 @@ ghost use Rattle.vl_ast.specs.Grammar.{Spells};
 ghost use Rattle.vl_ast.specs.Spelling.{item_text, spelling};
 
 use crate::attributes::put_attrs;
-use crate::parts::put;
 use crate::pieces::with_items;
 use crate::ports::put_ports;
 use fx_io::{Gate, OutOfMemory, Text};
+use fx_text::push;
 use std::alloc::Global;
 use std::thread::Threads;
 use vl_ast::{Module, spelling_spells};
@@ -18,11 +18,11 @@ fn begun(alloc: Global, module: &Module) -> Result<Vec<u8>, OutOfMemory>
 {
     let mut out = Vec::new(alloc);
     put_attrs(&mut out, b"", module.attrs.as_slice())?;
-    put(&mut out, b"module ")?;
-    put(&mut out, module.name.bytes())?;
-    put(&mut out, b" (\n")?;
+    push(&mut out, b"module ")?;
+    push(&mut out, module.name.bytes())?;
+    push(&mut out, b" (\n")?;
     put_ports(&mut out, module.ports.as_slice())?;
-    put(&mut out, b"\n);\n")?;
+    push(&mut out, b"\n);\n")?;
     Ok(out)
 }
 
@@ -35,7 +35,7 @@ fn put_end(alloc: Global, parts: &mut Vec<Vec<u8>>) -> Result<(), OutOfMemory>
         Some(last) => last,
         None => Vec::new(alloc),
     };
-    put(&mut last, b"endmodule\n")?;
+    push(&mut last, b"endmodule\n")?;
     parts.push(last)?;
     Ok(())
 }
@@ -74,7 +74,7 @@ fn joined(alloc: Global, parts: Vec<Vec<u8>>) -> Result<Vec<u8>, OutOfMemory>
         return Ok(Vec::new(alloc));
     };
     while let Some(part) = left.next() {
-        put(&mut text, part.as_slice())?;
+        push(&mut text, part.as_slice())?;
     }
     Ok(text)
 }

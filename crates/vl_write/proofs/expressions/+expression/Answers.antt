@@ -1,17 +1,22 @@
-use Rattle.std.proofs.Common.{◌++◌, map, codes, decimal, append-nil, append_assoc, ap, refl, sym, ◌∙◌}
+use Rattle.std.proofs.Common.{◌≡◌, ◌++◌, ℕ, List, map, codes, decimal, append-nil, append_assoc, ap, refl, sym, ◌∙◌}
 use Rattle.std.proofs.lemmas.Result.{on_ok_weaker}
+use Rattle.vl_ast.specs.declared.expressions.Expr.{Expr}
 use Rattle.vl_ast.specs.Spelling.{joined, expr_text, sized_text}
 use Rattle.fx_io.proofs.Places.{put-before}
 use Rattle.vl_write.proofs.Joined.{all_joined, one_more}
 use Rattle.vl_write.proofs.Written.{wrote-name, wrote-bit, wrote-part, wrote-literal, wrote-signed, wrote-unsigned, wrote-concat, wrote-repeat, wrote-unary, wrote-binary, wrote-shift, wrote-choose}
 use Rattle.vl_write.proofs.expressions.+expression.Goals as goal
 
+-- a part is put as the one that it is a reference to
+within : (old before after : List ℕ) {got part : Expr} → got ≡ part → old ++ (before ++ (expr_text got ++ after)) ≡ old ++ (before ++ (expr_text part ++ after))
+within old before after same = ap (λ x. old ++ (before ++ (expr_text x ++ after))) same
+
 pub put_expr-returns-in-Name : goal.put_expr-returns-in-Name
 put_expr-returns-in-Name t c =
     let name = ap (λ xs. c.args.out.now.items ++ xs) c.bytes.ensures in
-    on_ok_weaker c.put.result
+    on_ok_weaker c.push.result
     (λ ends. wrote-name c.in-Name.name c.args.e.now c.args.out.now.items _ c.in-Name.is (ends ∙ name))
-    c.put.ensures
+    c.push.ensures
 
 pub put_expr-returns-in-Bit : goal.put_expr-returns-in-Bit
 put_expr-returns-in-Bit t c =
@@ -35,24 +40,22 @@ put_expr-returns-in-Literal t c =
 
 pub put_expr-returns-in-AsSigned : goal.put_expr-returns-in-AsSigned
 put_expr-returns-in-AsSigned t c =
-    let part = ap (λ x. c.args.out.now.items ++ (codes "$signed (" ++ (expr_text x ++ codes ")"))) c.get-in-AsSigned.ensures in
     on_ok_weaker c.put_within-in-AsSigned.result
-    (λ ends. wrote-signed c.in-AsSigned.part c.args.e.now c.args.out.now.items _ c.in-AsSigned.is (ends ∙ part))
+    (λ ends. wrote-signed c.in-AsSigned.part c.args.e.now c.args.out.now.items _ c.in-AsSigned.is (ends ∙ within c.args.out.now.items (codes "$signed (") (codes ")") c.get-in-AsSigned.ensures))
     c.put_within-in-AsSigned.ensures
 
 pub put_expr-returns-in-AsUnsigned : goal.put_expr-returns-in-AsUnsigned
 put_expr-returns-in-AsUnsigned t c =
-    let part = ap (λ x. c.args.out.now.items ++ (codes "$unsigned (" ++ (expr_text x ++ codes ")"))) c.get-in-AsUnsigned.ensures in
     on_ok_weaker c.put_within-in-AsUnsigned.result
-    (λ ends. wrote-unsigned c.in-AsUnsigned.part c.args.e.now c.args.out.now.items _ c.in-AsUnsigned.is (ends ∙ part))
+    (λ ends. wrote-unsigned c.in-AsUnsigned.part c.args.e.now c.args.out.now.items _ c.in-AsUnsigned.is (ends ∙ within c.args.out.now.items (codes "$unsigned (") (codes ")") c.get-in-AsUnsigned.ensures))
     c.put_within-in-AsUnsigned.ensures
 
 pub put_expr-returns-in_ok-put_parts-in-Concat : goal.put_expr-returns-in_ok-put_parts-in-Concat
 put_expr-returns-in_ok-put_parts-in-Concat t c =
-    let parts = ap (λ xs. c.put-in-Concat.new.out.items ++ joined (codes ", ") (map expr_text xs)) c.as_slice.ensures in
-    on_ok_weaker c.put-in-Concat-2.result
-    (λ ends. wrote-concat c.in-Concat.parts c.args.e.now c.args.out.now.items _ _ _ c.in-Concat.is c.in_ok-put-in-Concat.ensures (c.in_ok-put_parts-in-Concat.ensures ∙ parts) ends)
-    c.put-in-Concat-2.ensures
+    let parts = ap (λ xs. c.push-in-Concat.new.text.items ++ joined (codes ", ") (map expr_text xs)) c.as_slice.ensures in
+    on_ok_weaker c.push-in-Concat-2.result
+    (λ ends. wrote-concat c.in-Concat.parts c.args.e.now c.args.out.now.items _ _ _ c.in-Concat.is c.in_ok-push-in-Concat.ensures (c.in_ok-put_parts-in-Concat.ensures ∙ parts) ends)
+    c.push-in-Concat-2.ensures
 
 pub put_expr-returns-in_ok-put_between-in-Repeat : goal.put_expr-returns-in_ok-put_between-in-Repeat
 put_expr-returns-in_ok-put_between-in-Repeat t c =
@@ -64,23 +67,23 @@ put_expr-returns-in_ok-put_between-in-Repeat t c =
 pub put_expr-returns-in_ok-put_opened-in-Unary : goal.put_expr-returns-in_ok-put_opened-in-Unary
 put_expr-returns-in_ok-put_opened-in-Unary t c =
     let op = ap (λ xs. c.args.out.now.items ++ (codes "(" ++ xs)) c.text.ensures in
-    let part = ap (λ x. c.put_opened.new.out.items ++ (codes " " ++ (expr_text x ++ codes ")"))) c.get-in-Unary.ensures in
+    let part = within c.put_opened.new.out.items (codes " ") (codes ")") c.get-in-Unary.ensures in
     on_ok_weaker c.put_within-in-Unary.result
     (λ ends. wrote-unary c.in-Unary.op c.in-Unary.part c.args.e.now c.args.out.now.items _ _ c.in-Unary.is (c.in_ok-put_opened-in-Unary.ensures ∙ op) (ends ∙ part))
     c.put_within-in-Unary.ensures
 
-pub put_expr-returns-in_ok-put-in-Binary : goal.put_expr-returns-in_ok-put-in-Binary
-put_expr-returns-in_ok-put-in-Binary t c =
-    let left = ap (λ x. c.args.out.now.items ++ (codes "(" ++ (expr_text x ++ codes " "))) c.get-in-Binary.ensures in
+pub put_expr-returns-in_ok-push-in-Binary : goal.put_expr-returns-in_ok-push-in-Binary
+put_expr-returns-in_ok-push-in-Binary t c =
+    let left = within c.args.out.now.items (codes "(") (codes " ") c.get-in-Binary.ensures in
     let op = ap (λ xs. c.put_within-in-Binary.new.out.items ++ xs) c.text-in-Binary.ensures in
-    let right = ap (λ x. c.put-in-Binary.new.out.items ++ (codes " " ++ (expr_text x ++ codes ")"))) c.get-in-Binary-2.ensures in
+    let right = within c.push-in-Binary.new.text.items (codes " ") (codes ")") c.get-in-Binary-2.ensures in
     on_ok_weaker c.put_within-in-Binary-2.result
-    (λ ends. wrote-binary c.in-Binary.op c.in-Binary.left c.in-Binary.right c.args.e.now c.args.out.now.items _ _ _ c.in-Binary.is (c.in_ok-put_within-in-Binary.ensures ∙ left) (c.in_ok-put-in-Binary.ensures ∙ op) (ends ∙ right))
+    (λ ends. wrote-binary c.in-Binary.op c.in-Binary.left c.in-Binary.right c.args.e.now c.args.out.now.items _ _ _ c.in-Binary.is (c.in_ok-put_within-in-Binary.ensures ∙ left) (c.in_ok-push-in-Binary.ensures ∙ op) (ends ∙ right))
     c.put_within-in-Binary-2.ensures
 
 pub put_expr-returns-in_ok-put_within-in-Shift : goal.put_expr-returns-in_ok-put_within-in-Shift
 put_expr-returns-in_ok-put_within-in-Shift t c =
-    let part = ap (λ x. c.args.out.now.items ++ (codes "(" ++ (expr_text x ++ codes " "))) c.get-in-Shift.ensures in
+    let part = within c.args.out.now.items (codes "(") (codes " ") c.get-in-Shift.ensures in
     let op = ap (λ xs. c.put_within-in-Shift.new.out.items ++ (xs ++ codes " " ++ sized_text c.in-Shift.amount ++ codes ")")) c.text-in-Shift.ensures in
     on_ok_weaker c.put_amount.result
     (λ ends. wrote-shift c.in-Shift.op c.in-Shift.part c.in-Shift.amount c.args.e.now c.args.out.now.items _ _ c.in-Shift.is (c.in_ok-put_within-in-Shift.ensures ∙ part) (ends ∙ op))
@@ -88,7 +91,7 @@ put_expr-returns-in_ok-put_within-in-Shift t c =
 
 pub put_expr-returns-in_ok-put_within-in-Choose-2 : goal.put_expr-returns-in_ok-put_within-in-Choose-2
 put_expr-returns-in_ok-put_within-in-Choose-2 t c =
-    let test = ap (λ x. c.args.out.now.items ++ (codes "(" ++ (expr_text x ++ codes " ? "))) c.get-in-Choose.ensures in
+    let test = within c.args.out.now.items (codes "(") (codes " ? ") c.get-in-Choose.ensures in
     let chosen = ap (λ x. c.put_within-in-Choose.new.out.items ++ (expr_text x ++ codes " : ")) c.get-in-Choose-2.ensures in
     let other = ap (λ x. c.put_within-in-Choose-2.new.out.items ++ (expr_text x ++ codes ")")) c.get-in-Choose-3.ensures in
     on_ok_weaker c.put_within-in-Choose-3.result
@@ -108,7 +111,7 @@ put_parts-loop-part-preserved t c =
 pub put_within-returns : goal.put_within-returns
 put_within-returns t c =
     let old = c.args.out.now.items in
-    on_ok_weaker c.put-2.result
-    (λ ends. put-before old c.put.new.out.items _ c.args.before.now (expr_text c.args.e.now ++ c.args.after.now) c.in_ok-put.ensures
-    (put-before c.put.new.out.items c.put_expr.new.out.items _ (expr_text c.args.e.now) c.args.after.now c.in_ok-put_expr.ensures ends))
-    c.put-2.ensures
+    on_ok_weaker c.push-2.result
+    (λ ends. put-before old c.push.new.text.items _ c.args.before.now (expr_text c.args.e.now ++ c.args.after.now) c.in_ok-push.ensures
+    (put-before c.push.new.text.items c.put_expr.new.out.items _ (expr_text c.args.e.now) c.args.after.now c.in_ok-put_expr.ensures ends))
+    c.push-2.ensures
