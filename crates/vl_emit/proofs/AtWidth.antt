@@ -20,7 +20,7 @@ use Rattle.vl_ast.proofs.Forms.{sign-Name, sign-Part, sign-Concat, sign-Literal,
 use Rattle.vl_ast.proofs.Stimulated.{bits-fit}
 use Rattle.vl_emit.proofs.Twos.{bits-congruent, bits-unique, bits-mod}
 use Rattle.fx_num.proofs.Words.{size-below, size-half, sign_of, size_of}
-use Rattle.hw_net.proofs.Words.{only-sign}
+use Rattle.hw_net.proofs.Words.{only-sign, split-low}
 
 -- no extension at the same width
 pub extended-same : (negative : Bool) (bits width : ℕ) → (if negative then bits + (2 ^ width - 2 ^ width) else bits) ≡ bits
@@ -36,15 +36,8 @@ cut-bits w v z h =
 
 -- the bits from a place up, and those below it
 pub split-bits : (k v : ℕ) (z : ℤ) → bits_of (k + v) z ≡ bits_of k (shifted_down z v) * 2 ^ v + bits_of v z
-split-bits k v (pos n) = mod-pow-add n k v
-split-bits k v (negsuc n) =
-    let high : ℕ = n / 2 ^ v % 2 ^ k in
-    let e : 2 ^ (k + v) ≡ 2 ^ k * 2 ^ v = pow-add 2 k v in
-    let a : (2 ^ k - 1 - high) * 2 ^ v + high * 2 ^ v ≡ (2 ^ k - 1) * 2 ^ v = sym (add-mul (2 ^ k - 1 - high) high (2 ^ v)) ∙ ap (λ (i : ℕ). i * 2 ^ v) (let below : high < 2 ^ k = mod_below (n / 2 ^ v) (2 ^ k) (pow_pos k) in omega arith) in
-    let b : (2 ^ k - 1) * 2 ^ v + 1 * 2 ^ v ≡ 2 ^ k * 2 ^ v = sym (add-mul (2 ^ k - 1) 1 (2 ^ v)) ∙ ap (λ (i : ℕ). i * 2 ^ v) (let some : 0 < 2 ^ k = pow_pos k in omega arith) in
-    let c : n % 2 ^ (k + v) ≡ high * 2 ^ v + n % 2 ^ v = mod-pow-add n k v in
-    let d : n % 2 ^ v < 2 ^ v = mod_below n (2 ^ v) (pow_pos v) in
-    omega (arith, a, b, c, d, e)
+split-bits k v (pos n) = split-low k v (pos n)
+split-bits k v (negsuc n) = split-low k v (negsuc n)
 
 -- some bits of a number from a place up
 pub field-bits : (v low w : ℕ) (z : ℤ) → low + w ≤ v → bits_of v z / 2 ^ low % 2 ^ w ≡ bits_of w (shifted_down z low)

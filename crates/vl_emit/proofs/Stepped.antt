@@ -130,42 +130,49 @@ module _ {netlist : Circuit} {rank : ℕ → ℕ} {m : Module} {total last : ℕ
     twice true false a b = refl
     twice false u a b = refl
 
-    pub en-goes : (clock : ℕ) (frame : Frame) (enable : ℕ) (resets : Bool) (first : ℤ) (from : ℕ) → (net k).kind ≡ EnReg frame enable resets first from → suc clock < clocks
-        → EnRegSteps (span_of cycles frame) resets first clock (value enable clock) (value from clock) (value k clock) (value k (suc clock))
-    en-goes clock frame enable true first from is below =
+    -- whether the slot of a register with enable has come, and whether its enable is 0
+    abbrev slot-comes : ℕ → Frame → Bool
+    slot-comes clock frame = slot_bit cycles frame (count_of cycles frame clock) (frame.period * cycles - 1)
+
+    abbrev is-off : ℕ → ℕ → Bool
+    is-off clock enable = int_eq (value enable clock) (pos 0)
+
+    en-next : (clock : ℕ) (frame : Frame) (enable : ℕ) (resets : Bool) (first : ℤ) (from : ℕ) → (net k).kind ≡ EnReg frame enable resets first from → suc clock < clocks
+        → value k (suc clock) ≡ (if slot-comes clock frame then (if is-off clock enable then (if resets then first else value k clock) else value from clock) else value k clock)
+    en-next clock frame enable true first from is below =
         let names = names-of run k h (EnReg frame enable true first from) is in
         let earlier : clock < clocks = omega (arith, below) in
-        let e = known run clock enable earlier names.2 in
-        let u : Bool = int_eq (value enable clock) (pos 0) in
-        let slot : ℕ = frame.period * cycles - 1 in
-        let t : Bool = slot_bit cycles frame (count_of cycles frame clock) slot in
         let x : Expr = expression.Name (naming.net from) in
         let y : Expr = expression.Literal (constant (net k).width first) in
         let test : Expr = test_of (wire enable) in
-        let z : ℤ = (if u then first else value from clock) in
-        en-by clock frame true first enable from t u
-        (taken clock (EnReg frame enable true first from) is first (slot_test cycles frame (wire (naming.counter frame)) slot) (expression.Choose test x y) t z below (here _ [])
-        (either-in t z (value k clock) (either-in u first (value from clock) names.1.first_in (same-word clock from earlier names.1.of)) (own-in clock earlier))
+        let slot : ℕ = frame.period * cycles - 1 in
+        let z : ℤ = (if is-off clock enable then first else value from clock) in
+        taken clock (EnReg frame enable true first from) is first (slot_test cycles frame (wire (naming.counter frame)) slot) (expression.Choose test x y) (slot-comes clock frame) z below (here _ [])
+        (either-in (slot-comes clock frame) z (value k clock) (either-in (is-off clock enable) first (value from clock) names.1.first_in (same-word clock from earlier names.1.of)) (own-in clock earlier))
         (slot-written run telling clock earlier frame names.0 slot)
-        (choose-written (nets_of m) (row clock) (net k).width (value from clock) first u test x y (test-tells (nets_of m) (row clock) (wire enable) (value enable clock) e)
-        (from-written clock from earlier names.1.of) (literal-written (nets_of m) (row clock) (net k).width first)))
-        (slot-decides run telling clock earlier frame names.0 slot) refl
-    en-goes clock frame enable false first from is below =
+        (choose-written (nets_of m) (row clock) (net k).width (value from clock) first (is-off clock enable) test x y
+        (test-tells (nets_of m) (row clock) (wire enable) (value enable clock) (known run clock enable earlier names.2))
+        (from-written clock from earlier names.1.of) (literal-written (nets_of m) (row clock) (net k).width first))
+    en-next clock frame enable false first from is below =
         let names = names-of run k h (EnReg frame enable false first from) is in
         let earlier : clock < clocks = omega (arith, below) in
-        let e = known run clock enable earlier names.2 in
-        let u : Bool = int_eq (value enable clock) (pos 0) in
-        let slot : ℕ = frame.period * cycles - 1 in
-        let t : Bool = slot_bit cycles frame (count_of cycles frame clock) slot in
+        let t : Bool = slot-comes clock frame in
+        let u : Bool = is-off clock enable in
         let test : Expr = test_of (wire enable) in
-        let tests : Expr = slot_test cycles frame (wire (naming.counter frame)) slot in
-        en-by clock frame false first enable from t u
-        (taken clock (EnReg frame enable false first from) is first (expression.Binary binary.Both tests test) (expression.Name (naming.net from)) (t && not u) (value from clock) below (here _ [])
+        let tests : Expr = slot_test cycles frame (wire (naming.counter frame)) (frame.period * cycles - 1) in
+        taken clock (EnReg frame enable false first from) is first (expression.Binary binary.Both tests test) (expression.Name (naming.net from)) (t && not u) (value from clock) below (here _ [])
         (either-in (t && not u) (value from clock) (value k clock) (same-word clock from earlier names.1.of) (own-in clock earlier))
-        (both-written (nets_of m) (row clock) t u tests test (slot-written run telling clock earlier frame names.0 slot) (test-tells (nets_of m) (row clock) (wire enable) (value enable clock) e))
+        (both-written (nets_of m) (row clock) t u tests test (slot-written run telling clock earlier frame names.0 (frame.period * cycles - 1))
+        (test-tells (nets_of m) (row clock) (wire enable) (value enable clock) (known run clock enable earlier names.2)))
         (from-written clock from earlier names.1.of)
-        ∙ twice t u (value from clock) (value k clock))
-        (slot-decides run telling clock earlier frame names.0 slot) refl
+        ∙ twice t u (value from clock) (value k clock)
+
+    pub en-goes : (clock : ℕ) (frame : Frame) (enable : ℕ) (resets : Bool) (first : ℤ) (from : ℕ) → (net k).kind ≡ EnReg frame enable resets first from → suc clock < clocks
+        → EnRegSteps (span_of cycles frame) resets first clock (value enable clock) (value from clock) (value k clock) (value k (suc clock))
+    en-goes clock frame enable resets first from is below =
+        let names = names-of run k h (EnReg frame enable resets first from) is in
+        en-by clock frame resets first enable from (slot-comes clock frame) (is-off clock enable) (en-next clock frame enable resets first from is below)
+        (slot-decides run telling clock (omega (arith, below)) frame names.0 (frame.period * cycles - 1)) refl
 
     module _ (frame : Frame) (live from : ℕ) (is : (net k).kind ≡ Bridge frame live from) where
       has-hold : Contains m.items (item.Always (naming.hold k) (plain_number (net k).width 0) None (expression.Name (naming.net k)))

@@ -3,6 +3,7 @@ pub mod Items
 pub mod Labelled
 pub mod Names
 pub mod Products
+pub mod Promised
 pub mod Reads
 pub mod Registers
 pub mod Shown

@@ -1,19 +1,9 @@
 //! The module of a netlist.
 ghost use Rattle.std.specs.Prelude.{◌≡◌, ◌<◌, ◌^◌, [], codes, length, IfOk, OnOk};
+ghost use Rattle.hw_net.specs.Emittable.{IsEmittable};
 ghost use Rattle.hw_net.specs.Frames.{HasCounters};
 ghost use Rattle.hw_net.specs.Netlist.{IsNetlist};
-ghost use Rattle.vl_ast.specs.Grammar.{Spells};
-ghost use Rattle.vl_ast.specs.Spelling.{spelling};
-ghost use Rattle.vl_ast.specs.Conditions.{BreaksNone};
-ghost use Rattle.vl_ast.specs.Stalls.{KeepsBits};
-ghost use Rattle.hw_net.specs.Emittable.{IsEmittable};
-ghost use Rattle.vl_emit.specs.Header.{HasHeader};
-ghost use Rattle.vl_emit.specs.Items.{ItemsAre, NamesDiffer};
-ghost use Rattle.vl_emit.specs.Labelled.{LabelsAreNames};
-ghost use Rattle.vl_emit.specs.Products.{ProductsAre};
-ghost use Rattle.vl_emit.specs.Reads.{ReadsOnly};
-ghost use Rattle.vl_emit.specs.Registers.{RegistersAre};
-ghost use Rattle.vl_emit.specs.Shown.{NetsAreShown, NetsFit, OutputsAreShown};
+ghost use Rattle.vl_emit.specs.Promised.{BreaksNone, HasHeader, ItemsAre, KeepsBits, LabelsAreNames, NamesDiffer, NetsAreShown, NetsFit, OutputsAreShown, ProductsAre, ReadsOnly, RegistersAre, Spells, spelling};
 ghost use Rattle.vl_emit.specs.inner.Emitted.{module_of};
 ghost use Rattle.vl_emit.specs.inner.Ready.{HaveNets};
 

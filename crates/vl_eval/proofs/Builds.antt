@@ -17,6 +17,7 @@ use Rattle.vl_ast.specs.declared.expressions.Expr.TheViews.{roll-Expr}
 use Rattle.vl_ast.specs.declared.expressions.Expr.TheVariants.{Name, Bit, Part, Literal, AsSigned, AsUnsigned, Unary, Binary, Shift, Choose, rolls-Name, rolls-Bit, rolls-Part, rolls-Literal, rolls-AsSigned, rolls-AsUnsigned, rolls-Unary, rolls-Binary, rolls-Shift, rolls-Choose}
 use Rattle.vl_ast.specs.Context.{Net, Place, InWhole, Together, Alone, own_length, is_signed, unary_place, binary_place, length_at}
 use Rattle.vl_ast.specs.Conditions.{is_sound}
+use Rattle.vl_ast.specs.Nets.{names_read}
 use Rattle.vl_ast.specs.Value.{extended}
 use Rattle.vl_ast.proofs.Agree.{ByLayer}
 use Rattle.vl_check.specs.declared.scope.Scope.{Scope}
@@ -33,7 +34,7 @@ use Rattle.vl_eval.specs.inner.Shown.{Shows, Grows, Pushed, IsExtended}
 use Rattle.vl_eval.specs.inner.Site.{Built, slot_in, ArePlaced}
 use Rattle.vl_eval.proofs.Words.{shift-gives, shift-reads}
 use Rattle.vl_eval.proofs.Forms.{and-turned, shows-unary-whole, shows-unary-alone, shows-whole, shows-together, shows-alone, shows-choice, shows-as-unsigned, shows-cast, shows-as-signed, shows-name, shows-signed-name, shows-bit, shows-part, shows-literal, shows-shift, Value, still-shows, settled-before}
-use Rattle.vl_eval.proofs.Operands.{sound-unary, length-unary, sound-binary, length-binary, sound-as-signed, length-as-signed, sound-shift, length-shift, steps-of}
+use Rattle.vl_eval.proofs.Operands.{names-choose, sound-unary, length-unary, sound-binary, length-binary, sound-as-signed, length-as-signed, sound-shift, length-shift, steps-of}
 
 -- operations added to operations
 pub grows-more : (base : ℕ) (before mid after : List Op) → Grows base before mid → Grows base mid after → Grows base before after
@@ -105,6 +106,13 @@ module _ (by_layer : ByLayer) (base : ℕ) (scope : Scope) (slots : List ℕ) wh
 
   pub placed-right : (ops : List Op) (xs ys : List (List ℕ)) → ArePlaced base scope slots ops (xs ++ ys) → ArePlaced base scope slots ops ys
   placed-right ops xs ys p = record { below = λ name c. p.below name (Contains-append_right xs ys name c); few = λ name c. p.few name (Contains-append_right xs ys name c) }
+
+  pub placed-choose : (ops : List Op) (test chosen other : Expr) → ArePlaced base scope slots ops (names_read (Choose test chosen other))
+      → ArePlaced base scope slots ops (names_read test) × ArePlaced base scope slots ops (names_read chosen) × ArePlaced base scope slots ops (names_read other)
+  placed-choose ops test chosen other p =
+      let all = subst (λ names. ArePlaced base scope slots ops names) (names-choose nets test chosen other) p in
+      let rest = placed-right ops (names_read test) (names_read chosen ++ names_read other) all in
+      (placed-left ops (names_read test) (names_read chosen ++ names_read other) all, placed-left ops (names_read chosen) (names_read other) rest, placed-right ops (names_read chosen) (names_read other) rest)
 
   pub shows-later : (before after : List Op) (slot width : ℕ) (signed : Bool) (e : Expr) → Grows base before after → Now before slot width signed e → Now after slot width signed e
   shows-later before after slot width signed e g h =

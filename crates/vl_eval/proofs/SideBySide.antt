@@ -27,6 +27,7 @@ use Rattle.vl_eval.specs.inner.Shown.{NamesFit, row_of, Grows, Pushed, IsBeside}
 use Rattle.vl_eval.specs.declared.site.Alone.{Alone}
 use Rattle.vl_eval.specs.inner.Site.{ArePlaced, Built, BuiltAlone, slot_in}
 use Rattle.vl_eval.proofs.Forms.{Value, shows-op, ShowsBeside, still-beside, shows-beside, shows-first, shows-concat, shows-repeat}
+use Rattle.vl_eval.proofs.Operands.{length-concat, sign-concat, sound-concat, sound-repeat}
 use Rattle.vl_eval.proofs.Builds.{grows-more, grows-none, grows-push, shows-later, ends, value, stays, alone-of, settled-later}
 
 -- none of some expressions is deeper than the deepest of them
@@ -244,8 +245,14 @@ module _ (by_layer : ByLayer) (base : ℕ) (scope : Scope) (slots : List ℕ) wh
   pub copies-few : (k n w : ℕ) → k < n → n * w ≤ 128 → (k + 1) * w ≤ 128
   copies-few k n w less few = let m : (k + 1) * w ≤ n * w = mul-le-mul_right w (omega arith) in omega (arith, m, few)
 
-  pub one-copy : (k w : ℕ) → k * w + w ≡ (k + 1) * w
+  one-copy : (k w : ℕ) → k * w + w ≡ (k + 1) * w
   one-copy k w = grind arith
+
+  pub copied-room : (before now : List Op) (slot length' k count : ℕ) (part : Expr) → is_sound nets (Repeat count part) ≡ true → k < count → Copied before now slot length' k part → length' + own_length nets part ≤ 128
+  copied-room before now slot length' k count part ok less c =
+      let few = copies-few k count (own_length nets part) less (sound-repeat nets count part ok).2 in
+      let more = one-copy k (own_length nets part) in
+      omega (arith, few, more, c.long)
 
   pub built-copies : (count : ℕ) (part : Expr) (before now : List Op) (slot length' width : ℕ) (signed : Bool) → Copied before now slot length' count part → Here before now slot width signed (Repeat count part)
   built-copies count part before now slot length' width signed c =
@@ -260,3 +267,11 @@ module _ (by_layer : ByLayer) (base : ℕ) (scope : Scope) (slots : List ℕ) wh
     few = omega (arith, long, few);
     built = built' alone.shape.length alone.shape.signed;
   }
+
+  -- of all parts
+  pub concat-alone : (before now : List Op) (parts : List Expr) (alone : Alone) → is_sound nets (Concat parts) ≡ true → alone.shape.length ≡ lengths parts → alone.shape.signed ≡ false
+      → ((width : ℕ) (signed : Bool) → Here before now alone.slot width signed (Concat parts)) → BuiltAlone base scope slots before now alone (Concat parts)
+  concat-alone before now parts alone ok long unsigned' built' =
+      let l = length-concat nets parts in
+      let few = (sound-concat nets parts ok).1 in
+      shows-alone-too before now (Concat parts) alone (long ∙ sym l) (sign-concat nets parts) (omega (arith, l, few)) unsigned' built'

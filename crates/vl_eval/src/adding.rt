@@ -7,8 +7,11 @@ use crate::ops::{OneOp, Op};
 use fx_io::OutOfMemory;
 use vl_ast::mask_of;
 
+/// The place of a value, or want of memory for its operations.
+pub type Placed = Result<usize, OutOfMemory>;
+
 /// Adds an operation, and gives its place.
-pub fn push(ops: &mut Code, base: usize, op: Op) -> Result<usize, OutOfMemory>
+pub fn push(ops: &mut Code, base: usize, op: Op) -> Placed
     ensures { IfOk result (λ slot. Pushed base ops.old ops.new slot op) }
 {
     let Some(slot) = base.checked_add(ops.len()) else {
@@ -20,13 +23,7 @@ pub fn push(ops: &mut Code, base: usize, op: Op) -> Result<usize, OutOfMemory>
 }
 
 /// The place of a word, extended by its sign bit to a context with sign.
-pub fn extend(
-    ops: &mut Code,
-    base: usize,
-    part: usize,
-    from: u32,
-    to: u32,
-) -> Result<usize, OutOfMemory>
+pub fn extend(ops: &mut Code, base: usize, part: usize, from: u32, to: u32) -> Placed
     requires longer { from ≤ to }
     requires most { to ≤ 128 }
     ensures { IfOk result (λ slot. IsExtended base ops.old ops.new slot part from to) }
@@ -47,7 +44,7 @@ pub fn beside(
     left_length: u32,
     right: usize,
     right_length: u32,
-) -> Result<usize, OutOfMemory>
+) -> Placed
     ensures { IfOk result (λ slot. IsBeside base ops.old ops.new slot left left_length
         right right_length) }
 {

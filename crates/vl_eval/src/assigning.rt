@@ -6,23 +6,17 @@ ghost use Rattle.vl_check.specs.Scope.{nets_in};
 ghost use Rattle.vl_eval.specs.inner.Site.{ArePlaced};
 ghost use Rattle.vl_eval.specs.inner.Assigning.{Assigns, Captures, Tests, next_names};
 
-use crate::adding::push;
+use crate::adding::{Placed, push};
 use crate::building::build;
 use crate::code::Code;
 use crate::operators::literal;
 use crate::ops::{OneOp, Op, Register};
 use crate::site::{Site, shape_of, slot};
-use fx_io::OutOfMemory;
 use vl_ast::{Expr, Sized, mask_of, meaning_by_layer};
 use vl_check::{Shape, net};
 
 /// Adds the operations of an assignment to a net of this width, and gives the place of its bits.
-pub fn build_assigned(
-    ops: &mut Code,
-    site: &Site<'_, '_>,
-    e: &Expr,
-    width: u32,
-) -> Result<usize, OutOfMemory>
+pub fn build_assigned(ops: &mut Code, site: &Site<'_, '_>, e: &Expr, width: u32) -> Placed
     requires sound { is_sound (nets_in site.now.scope.now) e.now ≡ true }
     requires most { width ≤ 128 }
     requires placed { ArePlaced site.now.base site.now.scope.now site.now.slots.now ops.old
@@ -47,11 +41,7 @@ pub fn build_assigned(
 }
 
 /// Adds the operations of a condition, and gives the place of bits that aren't 0 where it is true.
-fn build_condition(
-    ops: &mut Code,
-    site: &Site<'_, '_>,
-    condition: &Option<Expr>,
-) -> Result<usize, OutOfMemory>
+fn build_condition(ops: &mut Code, site: &Site<'_, '_>, condition: &Option<Expr>) -> Placed
     requires sound { is_sound_condition (nets_in site.now.scope.now) condition.now ≡ true }
     requires placed { ArePlaced site.now.base site.now.scope.now site.now.slots.now ops.old
         (condition_names condition.now) }
@@ -85,7 +75,7 @@ pub fn build_next(
     first: &Sized,
     condition: &Option<Expr>,
     value: &Expr,
-) -> Result<usize, OutOfMemory>
+) -> Placed
     requires number { is_number first.now ≡ true }
     requires condition { is_sound_condition (nets_in site.now.scope.now) condition.now ≡ true }
     requires value { is_sound (nets_in site.now.scope.now) value.now ≡ true }

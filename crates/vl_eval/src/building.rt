@@ -3,7 +3,7 @@ ghost use Rattle.vl_ast.specs.declared.expressions.Expr.TheVariants.{AsSigned, A
 ghost use Rattle.vl_check.specs.declared.shapes.Shape.{Shape};
 ghost use Rattle.vl_eval.specs.inner.Site.{CanBuild, CanBuildAlone, IsBuilt, IsBuiltAlone};
 
-use crate::adding::{beside, extend, push};
+use crate::adding::{Placed, beside, extend, push};
 use crate::code::Code;
 use crate::contexts::{half_in, left_context, unary_context};
 use crate::leaves::{build_bit, build_literal, build_name, build_part};
@@ -15,13 +15,7 @@ use vl_ast::{BinOp, Expr, ShiftOp, Sized, UnOp, mask_of, meaning_by_layer};
 use vl_check::Shape;
 
 #[cycle(build)]
-fn build_unary(
-    ops: &mut Code,
-    site: &Site<'_, '_>,
-    op: UnOp,
-    part: &Expr,
-    context: Shape,
-) -> Result<usize, OutOfMemory>
+fn build_unary(ops: &mut Code, site: &Site<'_, '_>, op: UnOp, part: &Expr, context: Shape) -> Placed
     requires { CanBuild site.now ops.old context.length (Unary op part.now) }
     ensures { IfOk result (IsBuilt site.now ops.old ops.new context (Unary op part.now)) }
 {
@@ -39,7 +33,7 @@ fn build_binary(
     left: &Expr,
     right: &Expr,
     context: Shape,
-) -> Result<usize, OutOfMemory>
+) -> Placed
     requires { CanBuild site.now ops.old context.length (Binary op left.now right.now) }
     ensures { IfOk result (IsBuilt site.now ops.old ops.new context
         (Binary op left.now right.now)) }
@@ -64,7 +58,7 @@ fn build_shift(
     part: &Expr,
     amount: &Sized,
     context: Shape,
-) -> Result<usize, OutOfMemory>
+) -> Placed
     requires { CanBuild site.now ops.old context.length (Shift op part.now amount.now) }
     ensures { IfOk result (IsBuilt site.now ops.old ops.new context
         (Shift op part.now amount.now)) }
@@ -86,7 +80,7 @@ fn build_choice(
     chosen: &Expr,
     other: &Expr,
     context: Shape,
-) -> Result<usize, OutOfMemory>
+) -> Placed
     requires { CanBuild site.now ops.old context.length (Choose test.now chosen.now other.now) }
     ensures { IfOk result (IsBuilt site.now ops.old ops.new context
         (Choose test.now chosen.now other.now)) }
@@ -107,12 +101,7 @@ fn build_choice(
 }
 
 #[cycle(build)]
-fn build_as_signed(
-    ops: &mut Code,
-    site: &Site<'_, '_>,
-    part: &Expr,
-    context: Shape,
-) -> Result<usize, OutOfMemory>
+fn build_as_signed(ops: &mut Code, site: &Site<'_, '_>, part: &Expr, context: Shape) -> Placed
     requires { CanBuild site.now ops.old context.length (AsSigned part.now) }
     ensures { IfOk result (IsBuilt site.now ops.old ops.new context (AsSigned part.now)) }
 {
@@ -125,12 +114,7 @@ fn build_as_signed(
 }
 
 #[cycle(build)]
-fn build_as_unsigned(
-    ops: &mut Code,
-    site: &Site<'_, '_>,
-    part: &Expr,
-    context: Shape,
-) -> Result<usize, OutOfMemory>
+fn build_as_unsigned(ops: &mut Code, site: &Site<'_, '_>, part: &Expr, context: Shape) -> Placed
     requires { CanBuild site.now ops.old context.length (AsUnsigned part.now) }
     ensures { IfOk result (IsBuilt site.now ops.old ops.new context (AsUnsigned part.now)) }
 {
@@ -214,12 +198,7 @@ fn build_alone(ops: &mut Code, site: &Site<'_, '_>, e: &Expr) -> Result<Alone, O
 /// Adds the operations of an expression in a context, and gives the place of its value. The recursion
 /// is as deep as the expression nests.
 #[cycle(build)]
-pub fn build(
-    ops: &mut Code,
-    site: &Site<'_, '_>,
-    e: &Expr,
-    context: Shape,
-) -> Result<usize, OutOfMemory>
+pub fn build(ops: &mut Code, site: &Site<'_, '_>, e: &Expr, context: Shape) -> Placed
     requires { CanBuild site.now ops.old context.length e.now }
     ensures { IfOk result (IsBuilt site.now ops.old ops.new context e.now) }
 {

@@ -4,7 +4,7 @@ ghost use Rattle.vl_eval.specs.inner.Ops.{AreSettled, IsOrdered, IsSettled};
 ghost use Rattle.vl_eval.specs.inner.Steps.{AreConstants, AreWithin, IsWithin, is_constant, op_in, ops_of};
 
 use crate::ops::{OneOp, Op, Register, TwoOp};
-use crate::steps::{Step, narrow};
+use crate::steps::{Pair, Step, narrow};
 use crate::sweeping::sweep;
 use fx_io::OutOfMemory;
 use std::alloc::Global;
@@ -31,6 +31,13 @@ impl Model for Code {
     ghost invariant = { λ code. AreWithin (length code.wide.items) code.steps.items };
 }
 
+/// An operation on the words at two places.
+fn two(op: TwoOp, pair: Pair) -> Op
+    ensures { result ≡ Op.Two op pair.left pair.right }
+{
+    Op::Two(op, pair.left as usize, pair.right as usize)
+}
+
 /// The operation of a step.
 fn op_in(step: Step, wide: &[Op]) -> Op
     requires { IsWithin (length wide.now) step }
@@ -46,38 +53,18 @@ fn op_in(step: Step, wide: &[Op]) -> Op
             let mask = mask as u128;
             Op::One(OneOp::Select { low, mask }, part as usize)
         }
-        Step::Add(pair, mask) => Op::Two(
-            TwoOp::Add(mask as u128),
-            pair.left as usize,
-            pair.right as usize,
-        ),
-        Step::Subtract(pair, mask) => Op::Two(
-            TwoOp::Subtract(mask as u128),
-            pair.left as usize,
-            pair.right as usize,
-        ),
-        Step::Multiply(pair, mask) => Op::Two(
-            TwoOp::Multiply(mask as u128),
-            pair.left as usize,
-            pair.right as usize,
-        ),
-        Step::And(pair) => Op::Two(TwoOp::And, pair.left as usize, pair.right as usize),
-        Step::Or(pair) => Op::Two(TwoOp::Or, pair.left as usize, pair.right as usize),
-        Step::Xor(pair) => Op::Two(TwoOp::Xor, pair.left as usize, pair.right as usize),
-        Step::Equal(pair) => Op::Two(TwoOp::Equal, pair.left as usize, pair.right as usize),
-        Step::NotEqual(pair) => Op::Two(TwoOp::NotEqual, pair.left as usize, pair.right as usize),
-        Step::Less(pair, half) => Op::Two(
-            TwoOp::Less(half as u128),
-            pair.left as usize,
-            pair.right as usize,
-        ),
-        Step::LessEqual(pair, half) => Op::Two(
-            TwoOp::LessEqual(half as u128),
-            pair.left as usize,
-            pair.right as usize,
-        ),
-        Step::Both(pair) => Op::Two(TwoOp::Both, pair.left as usize, pair.right as usize),
-        Step::Either(pair) => Op::Two(TwoOp::Either, pair.left as usize, pair.right as usize),
+        Step::Add(pair, mask) => two(TwoOp::Add(mask as u128), pair),
+        Step::Subtract(pair, mask) => two(TwoOp::Subtract(mask as u128), pair),
+        Step::Multiply(pair, mask) => two(TwoOp::Multiply(mask as u128), pair),
+        Step::And(pair) => two(TwoOp::And, pair),
+        Step::Or(pair) => two(TwoOp::Or, pair),
+        Step::Xor(pair) => two(TwoOp::Xor, pair),
+        Step::Equal(pair) => two(TwoOp::Equal, pair),
+        Step::NotEqual(pair) => two(TwoOp::NotEqual, pair),
+        Step::Less(pair, half) => two(TwoOp::Less(half as u128), pair),
+        Step::LessEqual(pair, half) => two(TwoOp::LessEqual(half as u128), pair),
+        Step::Both(pair) => two(TwoOp::Both, pair),
+        Step::Either(pair) => two(TwoOp::Either, pair),
         Step::Negate { part, mask } => Op::One(OneOp::Negate(mask as u128), part as usize),
         Step::Invert { part, mask } => Op::One(OneOp::Invert(mask as u128), part as usize),
         Step::IsZero { part } => Op::One(OneOp::IsZero, part as usize),

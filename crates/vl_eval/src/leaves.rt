@@ -2,22 +2,16 @@ ghost use Rattle.std.specs.Prelude.{IfOk};
 ghost use Rattle.vl_ast.specs.declared.expressions.Expr.TheVariants.{Bit, Literal, Name, Part};
 ghost use Rattle.vl_eval.specs.inner.Site.{CanBuild, IsBuilt};
 
-use crate::adding::{extend, push};
+use crate::adding::{Placed, extend, push};
 use crate::code::Code;
 use crate::operators::literal;
 use crate::ops::{OneOp, Op};
 use crate::site::{Site, slot};
-use fx_io::OutOfMemory;
 use vl_ast::{Sized, mask_of, meaning_by_layer};
 use vl_check::{Shape, net};
 
 /// Adds what extends a name, where it is signed, and gives the place of its value.
-pub fn build_name(
-    ops: &mut Code,
-    site: &Site<'_, '_>,
-    name: &[u8],
-    context: Shape,
-) -> Result<usize, OutOfMemory>
+pub fn build_name(ops: &mut Code, site: &Site<'_, '_>, name: &[u8], context: Shape) -> Placed
     requires { CanBuild site.now ops.old context.length (Name name.now) }
     ensures { IfOk result (IsBuilt site.now ops.old ops.new context (Name name.now)) }
 {
@@ -37,7 +31,7 @@ pub fn build_bit(
     name: &[u8],
     low: u32,
     context: Shape,
-) -> Result<usize, OutOfMemory>
+) -> Placed
     requires { CanBuild site.now ops.old context.length (Bit name.now low) }
     ensures { IfOk result (IsBuilt site.now ops.old ops.new context (Bit name.now low)) }
 {
@@ -55,7 +49,7 @@ pub fn build_part(
     high: u32,
     low: u32,
     context: Shape,
-) -> Result<usize, OutOfMemory>
+) -> Placed
     requires { CanBuild site.now ops.old context.length (Part name.now high low) }
     ensures { IfOk result (IsBuilt site.now ops.old ops.new context (Part name.now high low)) }
 {
@@ -66,12 +60,7 @@ pub fn build_part(
 }
 
 /// Adds a number, and gives the place of its value.
-pub fn build_literal(
-    ops: &mut Code,
-    site: &Site<'_, '_>,
-    number: &Sized,
-    context: Shape,
-) -> Result<usize, OutOfMemory>
+pub fn build_literal(ops: &mut Code, site: &Site<'_, '_>, number: &Sized, context: Shape) -> Placed
     requires { CanBuild site.now ops.old context.length (Literal number.now) }
     ensures { IfOk result (IsBuilt site.now ops.old ops.new context (Literal number.now)) }
 {

@@ -1,4 +1,5 @@
 -- What private contracts cite.
+pub mod Beginning
 pub mod Driving
 pub mod Played
 pub mod Resting

@@ -5,7 +5,6 @@ ghost use Rattle.vl_ast.specs.Steps.{IsFirstRow};
 ghost use Rattle.vl_ast.specs.Windows.{Sample};
 ghost use Rattle.vl_eval.specs.Machine.{IsReady, row_of, source_of};
 ghost use Rattle.vl_replay.specs.Sampled.{Sampled, numbers_of};
-ghost use Rattle.vl_replay.specs.inner.Played.{IsDelay, IsScoreOf, IsWindow};
 
 use crate::playing::{Score, delay_of, play_sample, score_of, window_of};
 use crate::resting::play_ahead;
@@ -34,6 +33,7 @@ pub struct Replay {
 
 impl Replay {
     ghost use Rattle.vl_replay.specs.Replays.{StandsBefore, module_of, stimulus_of};
+    ghost use Rattle.vl_replay.specs.inner.Beginning.{CanBegin};
 
     /// Takes all memory of a replay, and passes the clocks before the first that sample 0 waits for.
     /// The machine is in row 0, as `Machine::new` leaves it, and the stimulus has the columns of its
@@ -80,14 +80,7 @@ impl Replay {
 
     /// Takes the memory for numbers, and passes the clocks before the first that sample 0 waits for.
     fn begin(&mut self, alloc: Global) -> Result<(), OutOfMemory>
-        requires ready { IsReady self.old.machine }
-        requires row { IsFirstRow (module_of self.old) (λ name. 0) (λ name. 0)
-            (row_of self.old.machine) }
-        requires outputs { length (output_ports (module_of self.old)) < 2 ^ 32 }
-        requires score { IsScoreOf (module_of self.old) self.old.score }
-        requires few { (stimulus_of self.old).lines ≤ 50000000 }
-        requires delay { IsDelay self.old.score self.old.delay }
-        requires window { IsWindow self.old.score self.old.delay self.old.window }
+        requires { CanBegin self.old }
         ensures stands { OnOk result (StandsBefore self.new 0) }
         ensures source { OnOk result (module_of self.new ≡ module_of self.old) }
         ensures stimulus { OnOk result (stimulus_of self.new ≡ stimulus_of self.old) }

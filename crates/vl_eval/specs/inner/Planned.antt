@@ -85,7 +85,8 @@ pub record AreCaptured (m : Module) (scope : Scope) (slots : List ℕ) (passed :
   pub each : (name : List ℕ) (first : Sized) (condition : Option Expr) (value : Expr) → Contains passed (Always name first condition value)
       → (c : Capture) × Contains captures c × IsCaptured m scope slots after c name first condition value
   pub only : (c : Capture) → Contains captures c
-      → (name : List ℕ) × (first : Sized) × (condition : Option Expr) × (value : Expr) × Contains passed (Always name first condition value) × IsCaptured m scope slots after c name first condition value
+      → (name : List ℕ) × (first : Sized) × (condition : Option Expr) × (value : Expr) × Contains passed (Always name first condition value)
+      × IsCaptured m scope slots after c name first condition value
 
 -- the assignment at the place that a number has
 abbrev pub as_assignment : Option ModItem → Option (List ℕ × Expr)

@@ -1,4 +1,4 @@
-use Rattle.std.proofs.Common.{◌≡◌, ◌+◌, [], ◌++◌, ℕ, List, IfOk, take, refl, sym, ap, subst, ◌∙◌, arith}
+use Rattle.std.proofs.Common.{◌≡◌, ◌+◌, [], ℕ, List, IfOk, take, refl, sym, ap, subst, ◌∙◌, arith}
 use Rattle.vl_ast.specs.declared.expressions.Expr.{Expr}
 use Rattle.vl_ast.specs.declared.expressions.Expr.TheVariants.{Name, Bit, Part, Concat, Repeat, AsSigned, Unary, Binary, Shift, Choose}
 use Rattle.vl_ast.specs.Context.{own_length}
@@ -11,10 +11,10 @@ use Rattle.vl_eval.specs.inner.Shown.{Pushed}
 use Rattle.vl_eval.specs.inner.Site.{ArePlaced, Built, CanBuild, IsBuilt}
 use Rattle.std.proofs.lemmas.Bool.{not-false, not-true}
 use Rattle.std.proofs.lemmas.Result.{IfOk-weaker}
-use Rattle.vl_eval.proofs.Operands.{sound-unary, names-unary, sound-as-signed, length-as-signed, names-as-signed, sound-as-unsigned, names-as-unsigned, sound-binary, names-binary, sound-shift, length-shift, names-shift, sound-choose, length-choose, names-choose, sound-repeat, length-repeat, sign-repeat, names-repeat, sound-concat, length-concat, sign-concat, names-concat}
+use Rattle.vl_eval.proofs.Operands.{sound-unary, names-unary, sound-as-signed, length-as-signed, names-as-signed, sound-as-unsigned, names-as-unsigned, sound-binary, names-binary, sound-shift, length-shift, names-shift, sound-choose, length-choose, sound-repeat, length-repeat, sign-repeat, names-repeat, sound-concat, names-concat}
 use Rattle.vl_eval.proofs.Rooms.{room-in, unary-room, left-context-room, right-context-room}
-use Rattle.vl_eval.proofs.SideBySide.{Copied, Joined, beside-grows, built-copies, built-no-parts, built-parts, copied-more, copied-one, copies-few, joined-all, joined-more, lengths-more, one-copy, part-in, part-placed, part-size, part-sound, parts-few, parts-more, shows-alone-too, value-at}
-use Rattle.vl_eval.proofs.Builds.{built-unary, built-binary, built-as-signed, built-as-signed-plain, built-as-unsigned, built-shift, built-choice, grows-more, grows-none, placed-left, placed-right, placed-later}
+use Rattle.vl_eval.proofs.SideBySide.{Copied, Joined, beside-grows, built-copies, built-no-parts, built-parts, concat-alone, copied-more, copied-one, copied-room, copies-few, joined-all, joined-more, lengths-more, part-in, part-placed, part-size, part-sound, parts-few, parts-more, shows-alone-too, value-at}
+use Rattle.vl_eval.proofs.Builds.{built-unary, built-binary, built-as-signed, built-as-signed-plain, built-as-unsigned, built-shift, built-choice, grows-more, grows-none, placed-choose, placed-left, placed-right, placed-later}
 use Rattle.vl_eval.proofs.building.+build.Given as given
 use Rattle.vl_eval.proofs.building.+build.Goals as goal
 
@@ -128,30 +128,25 @@ build_binary-returns t c =
 pub build_choice-build_alone-requires : goal.build_choice-build_alone-requires
 build_choice-build_alone-requires t c =
     let site = c.args.site.now in
-    let nets = nets_in site.scope.now in
-    let all = placed site c.args.ops.now _ _ (names-choose nets c.args.test.now c.args.chosen.now c.args.other.now) c.requires.placed in
-    let first = placed-left c.meaning_by_layer.ensures.value site.base site.scope.now site.slots.now c.args.ops.now (names_read c.args.test.now) (names_read c.args.chosen.now ++ names_read c.args.other.now) all in
-    (omega arith, record { sound = (sound-choose nets c.args.test.now c.args.chosen.now c.args.other.now c.requires.sound).0; placed = first })
+    let all = placed-choose c.meaning_by_layer.ensures.value site.base site.scope.now site.slots.now c.args.ops.now c.args.test.now c.args.chosen.now c.args.other.now c.requires.placed in
+    (omega arith, record { sound = (sound-choose (nets_in site.scope.now) c.args.test.now c.args.chosen.now c.args.other.now c.requires.sound).0; placed = all.0 })
 
 pub build_choice-build-requires : goal.build_choice-build-requires
 build_choice-build-requires t c =
     let site = c.args.site.now in
-    let nets = nets_in site.scope.now in
-    let all = placed site c.args.ops.now _ _ (names-choose nets c.args.test.now c.args.chosen.now c.args.other.now) c.requires.placed in
-    let rest = placed-right c.meaning_by_layer.ensures.value site.base site.scope.now site.slots.now c.args.ops.now (names_read c.args.test.now) (names_read c.args.chosen.now ++ names_read c.args.other.now) all in
-    let mine = placed-left c.meaning_by_layer.ensures.value site.base site.scope.now site.slots.now c.args.ops.now (names_read c.args.chosen.now) (names_read c.args.other.now) rest in
-    let l = length-choose nets c.args.test.now c.args.chosen.now c.args.other.now in
-    (omega arith, record { sound = (sound-choose nets c.args.test.now c.args.chosen.now c.args.other.now c.requires.sound).1; longer = omega (arith, l, c.requires.longer); most = c.requires.most; placed = placed-later c.meaning_by_layer.ensures.value site.base site.scope.now site.slots.now c.args.ops.now c.build_alone.new.ops (names_read c.args.chosen.now) c.in_ok-tested.ensures.built.grows mine })
+    let all = placed-choose c.meaning_by_layer.ensures.value site.base site.scope.now site.slots.now c.args.ops.now c.args.test.now c.args.chosen.now c.args.other.now c.requires.placed in
+    let l = length-choose (nets_in site.scope.now) c.args.test.now c.args.chosen.now c.args.other.now in
+    let tested = placed-later c.meaning_by_layer.ensures.value site.base site.scope.now site.slots.now c.args.ops.now c.build_alone.new.ops (names_read c.args.chosen.now) c.in_ok-tested.ensures.built.grows all.1 in
+    (omega arith, record { sound = (sound-choose (nets_in site.scope.now) c.args.test.now c.args.chosen.now c.args.other.now c.requires.sound).1; longer = omega (arith, l, c.requires.longer); most = c.requires.most; placed = tested })
 
 pub build_choice-build-requires-2 : goal.build_choice-build-requires-2
 build_choice-build-requires-2 t c =
     let site = c.args.site.now in
-    let nets = nets_in site.scope.now in
-    let all = placed site c.args.ops.now _ _ (names-choose nets c.args.test.now c.args.chosen.now c.args.other.now) c.requires.placed in
-    let rest = placed-right c.meaning_by_layer.ensures.value site.base site.scope.now site.slots.now c.args.ops.now (names_read c.args.test.now) (names_read c.args.chosen.now ++ names_read c.args.other.now) all in
-    let mine = placed-right c.meaning_by_layer.ensures.value site.base site.scope.now site.slots.now c.args.ops.now (names_read c.args.chosen.now) (names_read c.args.other.now) rest in
-    let l = length-choose nets c.args.test.now c.args.chosen.now c.args.other.now in
-    (omega arith, record { sound = (sound-choose nets c.args.test.now c.args.chosen.now c.args.other.now c.requires.sound).2; longer = omega (arith, l, c.requires.longer); most = c.requires.most; placed = placed-later c.meaning_by_layer.ensures.value site.base site.scope.now site.slots.now c.build_alone.new.ops c.build.new.ops (names_read c.args.other.now) c.in_ok-first.ensures.grows (placed-later c.meaning_by_layer.ensures.value site.base site.scope.now site.slots.now c.args.ops.now c.build_alone.new.ops (names_read c.args.other.now) c.in_ok-tested.ensures.built.grows mine) })
+    let all = placed-choose c.meaning_by_layer.ensures.value site.base site.scope.now site.slots.now c.args.ops.now c.args.test.now c.args.chosen.now c.args.other.now c.requires.placed in
+    let l = length-choose (nets_in site.scope.now) c.args.test.now c.args.chosen.now c.args.other.now in
+    let grows = grows-more site.base c.args.ops.now c.build_alone.new.ops c.build.new.ops c.in_ok-tested.ensures.built.grows c.in_ok-first.ensures.grows in
+    let first = placed-later c.meaning_by_layer.ensures.value site.base site.scope.now site.slots.now c.args.ops.now c.build.new.ops (names_read c.args.other.now) grows all.2 in
+    (omega arith, record { sound = (sound-choose (nets_in site.scope.now) c.args.test.now c.args.chosen.now c.args.other.now c.requires.sound).2; longer = omega (arith, l, c.requires.longer); most = c.requires.most; placed = first })
 
 pub build_choice-returns : goal.build_choice-returns
 build_choice-returns t c =
@@ -198,30 +193,23 @@ build_copies-loop-copy-init t c =
 pub build_copies-overflow_add-length : goal.build_copies-overflow_add-length
 build_copies-overflow_add-length t c =
     let site = c.args.site.now in
-    let by_layer = c.meaning_by_layer.ensures.value in
-    let nets = nets_in site.scope.now in
-    let own = own_length nets c.args.part.now in
-    let ok = sound-repeat nets c.args.count c.args.part.now c.requires.sound in
-    let few = copies-few by_layer site.base site.scope.now site.slots.now c.loop-copy._copy c.args.count own c.loop-copy-test.true ok.2 in
-    let more = one-copy by_layer site.base site.scope.now site.slots.now c.loop-copy._copy own in
-    omega (arith, few, more, (c.loop-copy.invariant.copied by_layer).long, c.in_ok-own.ensures.length)
+    let room = copied-room c.meaning_by_layer.ensures.value site.base site.scope.now site.slots.now c.args.ops.now c.loop-copy.ops c.loop-copy.joined c.loop-copy.length c.loop-copy._copy c.args.count c.args.part.now c.requires.sound c.loop-copy-test.true (c.loop-copy.invariant.copied c.meaning_by_layer.ensures.value) in
+    omega (arith, room, c.in_ok-own.ensures.length)
 
 pub build_copies-loop-copy-preserved : goal.build_copies-loop-copy-preserved
 build_copies-loop-copy-preserved t c =
     let site = c.args.site.now in
     let by_layer = c.meaning_by_layer.ensures.value in
-    let nets = nets_in site.scope.now in
-    let own = own_length nets c.args.part.now in
-    let ok = sound-repeat nets c.args.count c.args.part.now c.requires.sound in
-    let few = copies-few by_layer site.base site.scope.now site.slots.now c.loop-copy._copy c.args.count own c.loop-copy-test.true ok.2 in
-    let more = one-copy by_layer site.base site.scope.now site.slots.now c.loop-copy._copy own in
+    let ok = sound-repeat (nets_in site.scope.now) c.args.count c.args.part.now c.requires.sound in
+    let few = copies-few by_layer site.base site.scope.now site.slots.now c.loop-copy._copy c.args.count (own_length (nets_in site.scope.now) c.args.part.now) c.loop-copy-test.true ok.2 in
     let copied = c.loop-copy.invariant.copied by_layer in
+    let room = copied-room by_layer site.base site.scope.now site.slots.now c.args.ops.now c.loop-copy.ops c.loop-copy.joined c.loop-copy.length c.loop-copy._copy c.args.count c.args.part.now c.requires.sound c.loop-copy-test.true copied in
     let value = value-at by_layer site.base site.scope.now site.slots.now c.args.ops.now c.build_alone.new.ops c.loop-copy.ops c.in_ok-own.own.slot c.args.part.now c.in_ok-own.own.shape ok.1
     c.in_ok-own.ensures.length c.in_ok-own.ensures.sign c.in_ok-own.ensures.built c.loop-copy.invariant.later in
     record {
       later = grows-more site.base c.build_alone.new.ops c.loop-copy.ops c.beside.new.ops c.loop-copy.invariant.later
           (beside-grows by_layer site.base site.scope.now site.slots.now c.loop-copy.ops c.beside.new.ops c.loop-copy.joined c.in_ok-joined.joined c.in_ok-own.own.slot c.loop-copy.length c.in_ok-own.own.shape.length
-          copied.shows.below value.here.below (omega (arith, few, more, copied.long, c.in_ok-own.ensures.length)) c.in_ok-joined.ensures);
+          copied.shows.below value.here.below (omega (arith, room, c.in_ok-own.ensures.length)) c.in_ok-joined.ensures);
       copied = λ b. copied-more b site.base site.scope.now site.slots.now c.args.ops.now c.loop-copy.ops c.beside.new.ops c.loop-copy.joined c.in_ok-joined.joined c.in_ok-own.own.slot c.loop-copy.length c.loop-copy._copy
           c.args.part.now c.in_ok-own.own.shape ok.1 few c.in_ok-own.ensures.length
           (value-at b site.base site.scope.now site.slots.now c.args.ops.now c.build_alone.new.ops c.loop-copy.ops c.in_ok-own.own.slot c.args.part.now c.in_ok-own.own.shape ok.1
@@ -271,12 +259,11 @@ build_parts-build_alone-requires t c =
 pub build_parts-overflow_add-length : goal.build_parts-overflow_add-length
 build_parts-overflow_add-length t c =
     let site = c.args.site.now in
-    let by_layer = c.meaning_by_layer.ensures.value in
-    let nets = nets_in site.scope.now in
     let parts = c.args.parts.now in
-    let few = parts-few by_layer site.base site.scope.now site.slots.now parts c.loop-part.part-index c.part-item.result (sound-concat nets parts c.requires.sound).1 c.loop-part-test.true c.part-item.is in
-    let more = lengths-more by_layer site.base site.scope.now site.slots.now (take c.loop-part.part-index parts) c.part-item.result in
-    omega (arith, few, more, (c.loop-part.invariant by_layer).long, c.in_ok-own.ensures.length)
+    let joined = c.loop-part.invariant c.meaning_by_layer.ensures.value in
+    let few = parts-few c.meaning_by_layer.ensures.value site.base site.scope.now site.slots.now parts c.loop-part.part-index c.part-item.result (sound-concat (nets_in site.scope.now) parts c.requires.sound).1 c.loop-part-test.true c.part-item.is in
+    let more = lengths-more c.meaning_by_layer.ensures.value site.base site.scope.now site.slots.now (take c.loop-part.part-index parts) c.part-item.result in
+    omega (arith, few, more, joined.long, c.in_ok-own.ensures.length)
 
 pub build_parts-loop-part-preserved : goal.build_parts-loop-part-preserved
 build_parts-loop-part-preserved t c = λ b.
@@ -307,13 +294,8 @@ build_parts-returns-then-length-eq0-clause-built t c = λ context.
 pub build_parts-returns-then-length-eq0-clause-own : goal.build_parts-returns-then-length-eq0-clause-own
 build_parts-returns-then-length-eq0-clause-own t c =
     let site = c.args.site.now in
-    let by_layer = c.meaning_by_layer.ensures.value in
-    let nets = nets_in site.scope.now in
-    let parts = c.args.parts.now in
-    let joined = joined-all by_layer site.base site.scope.now site.slots.now c.args.ops.now c.loop-part.ops c.loop-part.joined c.loop-part.length c.loop-part.part-index parts (omega (arith, c.loop-part-test.false)) (c.loop-part.invariant by_layer) in
-    let l = length-concat nets parts in
-    shows-alone-too by_layer site.base site.scope.now site.slots.now c.args.ops.now c.push.new.ops (Concat parts) c.unsigned.result
-    (c.unsigned.ensures.length ∙ joined.long ∙ sym l) (sign-concat nets parts) (let few = (sound-concat nets parts c.requires.sound).1 in omega (arith, l, few)) c.unsigned.ensures.sign
+    let joined = joined-all c.meaning_by_layer.ensures.value site.base site.scope.now site.slots.now c.args.ops.now c.loop-part.ops c.loop-part.joined c.loop-part.length c.loop-part.part-index c.args.parts.now (omega (arith, c.loop-part-test.false)) (c.loop-part.invariant c.meaning_by_layer.ensures.value) in
+    concat-alone c.meaning_by_layer.ensures.value site.base site.scope.now site.slots.now c.args.ops.now c.push.new.ops c.args.parts.now c.unsigned.result c.requires.sound (c.unsigned.ensures.length ∙ joined.long) c.unsigned.ensures.sign
     (λ width signed. build_parts-returns-then-length-eq0-clause-built t c (record { length = width; signed = signed }))
 
 pub build_parts-returns-clause-built : goal.build_parts-returns-clause-built
@@ -328,13 +310,8 @@ build_parts-returns-clause-built t c = λ context.
 pub build_parts-returns-clause-own : goal.build_parts-returns-clause-own
 build_parts-returns-clause-own t c =
     let site = c.args.site.now in
-    let by_layer = c.meaning_by_layer.ensures.value in
-    let nets = nets_in site.scope.now in
-    let parts = c.args.parts.now in
-    let joined = joined-all by_layer site.base site.scope.now site.slots.now c.args.ops.now c.loop-part.ops c.loop-part.joined c.loop-part.length c.loop-part.part-index parts (omega (arith, c.loop-part-test.false)) (c.loop-part.invariant by_layer) in
-    let l = length-concat nets parts in
-    shows-alone-too by_layer site.base site.scope.now site.slots.now c.args.ops.now c.loop-part.ops (Concat parts) c.unsigned-2.result
-    (c.unsigned-2.ensures.length ∙ joined.long ∙ sym l) (sign-concat nets parts) (let few = (sound-concat nets parts c.requires.sound).1 in omega (arith, l, few)) c.unsigned-2.ensures.sign
+    let joined = joined-all c.meaning_by_layer.ensures.value site.base site.scope.now site.slots.now c.args.ops.now c.loop-part.ops c.loop-part.joined c.loop-part.length c.loop-part.part-index c.args.parts.now (omega (arith, c.loop-part-test.false)) (c.loop-part.invariant c.meaning_by_layer.ensures.value) in
+    concat-alone c.meaning_by_layer.ensures.value site.base site.scope.now site.slots.now c.args.ops.now c.loop-part.ops c.args.parts.now c.unsigned-2.result c.requires.sound (c.unsigned-2.ensures.length ∙ joined.long) c.unsigned-2.ensures.sign
     (λ width signed. build_parts-returns-clause-built t c (record { length = width; signed = signed }))
 
 pub build-returns-in_ok-alone-in-Concat : goal.build-returns-in_ok-alone-in-Concat
