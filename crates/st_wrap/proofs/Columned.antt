@@ -18,7 +18,7 @@ use Rattle.st_wrap.specs.inner.Renamed.{wires_of}
 use Rattle.st_wrap.specs.inner.Wrapped.{made_of}
 use Rattle.st_wrap.proofs.Held.{HasInput}
 use Rattle.st_wrap.proofs.Late.{HasOutput}
-use Rattle.st_wrap.proofs.Structure.{held-there, input-port, input-there, late-there, output-port, output-there, wire-there}
+use Rattle.st_wrap.proofs.Structure.{declared-there, driven-there, input-port, output-port, wire-there}
 use Rattle.fx_io.proofs.Places.{fold-start}
 
 -- ---- lists
@@ -83,19 +83,19 @@ module _ (core : Module) (counters : Counters) (inputs outputs : List Column) wh
   has-input column c w = record {
     port = input-port core counters inputs outputs column c;
     wire = wire-there core counters inputs outputs _ w;
-    held = held-there core counters inputs outputs column c _ (head-in _ []);
-    assigned = input-there core counters inputs outputs column c _ (0, omega arith, refl);
-    clocked = input-there core counters inputs outputs column c _ (1, omega arith, refl);
+    held = (declared-there core counters inputs outputs).input column c _ (head-in _ []);
+    assigned = (driven-there core counters inputs outputs).input column c _ (0, omega arith, refl);
+    clocked = (driven-there core counters inputs outputs).input column c _ (1, omega arith, refl);
   }
 
   pub has-output : (column : Column) → Contains outputs column → Contains (wires_of core) (Wire column.signed column.width (inner_name column.inner)) → HasOutput (made_of core counters inputs outputs) column
   has-output column c w = record {
     port = output-port core counters inputs outputs column c;
     wire = wire-there core counters inputs outputs _ w;
-    stages = λ place low. late-there core counters inputs outputs column c _ (map-in (stage_declared column) (range_with_len 0 column.late) place (from-zero place low));
-    steps = λ place low. output-there core counters inputs outputs column c _
+    stages = λ place low. (declared-there core counters inputs outputs).output column c _ (map-in (stage_declared column) (range_with_len 0 column.late) place (from-zero place low));
+    steps = λ place low. (driven-there core counters inputs outputs).output column c _
         (Contains-append_left (map (stage_driven column) (range_with_len 0 column.late)) _ _ (map-in (stage_driven column) (range_with_len 0 column.late) place (from-zero place low)));
-    shown = output-there core counters inputs outputs column c _
+    shown = (driven-there core counters inputs outputs).output column c _
         (Contains-append_right (map (stage_driven column) (range_with_len 0 column.late)) (Assign column.name (Name (stage_name column column.late)) ∷ []) _ (head-in _ []));
   } where
     from-zero : (place : ℕ) → place < column.late → Contains (range_with_len 0 column.late) place

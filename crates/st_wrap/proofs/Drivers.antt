@@ -26,7 +26,7 @@ use Rattle.st_wrap.proofs.Driven.{all-driven-once, column-port}
 use Rattle.st_wrap.proofs.Once.{all-declared-once}
 use Rattle.st_wrap.proofs.Placed.{EachDrives, core_part, declared-alone, declared_part, drives-alone, drives-append, drives-at, drives-flat, drives-ports, drives-renamed, helds, late_mentions, lates, mentions-are, output-unshared, ports_part}
 use Rattle.st_wrap.proofs.Reading.{control_mentions, held_mentions, stage_mentions}
-use Rattle.st_wrap.proofs.Structure.{control-there, core-there, flag-there, held-there, late-there, output-port, wire-of, wire-there}
+use Rattle.st_wrap.proofs.Structure.{core-there, declared-there, flag-there, output-port, wire-of, wire-there}
 
 module _ (core : Module) (sound : BreaksNone core) (stallable : is_stallable core ≡ true) (names : List (List ℕ)) (named : AreColumnNames core names) (counters : Counters) where
   abbrev o : Module
@@ -53,7 +53,7 @@ module _ (core : Module) (sound : BreaksNone core) (stallable : is_stallable cor
   may-by c d h m = ap (may_drive_it c) (declared-is d h) ∙ m
 
   control-at : (i : ModItem) → Contains (control_declared counters) i → (d : Declared) → Contains (item_mentions i) (Declares d) → Contains (mentions (wrapped core names counters)) (Declares d)
-  control-at i h d c = item-mention i (Declares d) (control-there core counters (inputs_of core names) (outputs_of core names) i h) c
+  control-at i h d c = item-mention i (Declares d) ((declared-there core counters (inputs_of core names) (outputs_of core names)).front i h) c
 
   flag-at : (port : Port) → Contains (ports_of (inputs_of core names) (outputs_of core names)) port → port.input ≡ false → May false port.name
   flag-at port h off = may-by false (port_declared port) (port-mention port h) (ap (λ (b : Bool). may_drive false (if b then InputPort else OutputPort)) off)
@@ -100,13 +100,13 @@ module _ (core : Module) (sound : BreaksNone core) (stallable : is_stallable cor
       let w = wire-of core counters (inputs_of core names) (outputs_of core names) p.0 p.1 p.3 in
       let inner : May false (inner_name column.inner) =
       subst (λ n. May false (inner_name n)) p.4 (may-by false _ (item-mention _ _ (wire-there core counters (inputs_of core names) (outputs_of core names) _ w) (head-in _ [])) refl) in
-      (inner, (may-by true _ (item-mention _ _ (held-there core counters (inputs_of core names) (outputs_of core names) column c _ (head-in _ [])) (head-in _ [])) refl, tt))
+      (inner, (may-by true _ (item-mention _ _ ((declared-there core counters (inputs_of core names) (outputs_of core names)).input column c _ (head-in _ [])) (head-in _ [])) refl, tt))
 
   late-may : (column : Column) → Contains (outputs_of core names) column → EachDrives May (late_mentions column)
   late-may column c =
       drives-append May (flat_map (stage_mentions column) (range_with_len 0 column.late)) (Drives false column.name ∷ Reads (stage_name column column.late) ∷ [])
       (drives-flat May (stage_mentions column) (range_with_len 0 column.late) (λ place h.
-      (may-by true _ (item-mention _ _ (late-there core counters (inputs_of core names) (outputs_of core names) column c _ (map-in (stage_declared column) (range_with_len 0 column.late) place h)) (head-in _ [])) refl, tt)))
+      (may-by true _ (item-mention _ _ ((declared-there core counters (inputs_of core names) (outputs_of core names)).output column c _ (map-in (stage_declared column) (range_with_len 0 column.late) place h)) (head-in _ [])) refl, tt)))
       (flag-at (output_port (column_port column)) (output-port core counters (inputs_of core names) (outputs_of core names) column c) refl, tt)
 
   -- what the core drives, it may

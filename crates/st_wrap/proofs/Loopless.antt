@@ -34,7 +34,7 @@ use Rattle.st_wrap.proofs.Lettered.{inner-letter, inner-same, inner-shared, lett
 use Rattle.st_wrap.proofs.Named.{in-range, output-name}
 use Rattle.st_wrap.proofs.Once.{late_names}
 use Rattle.st_wrap.proofs.Reading.{reads-both, reads-chosen, reads-counted, reads-due, reads-Name, reads-renamed, reads-unless, reads-zero}
-use Rattle.st_wrap.proofs.Structure.{core-there, front-there, flag-there, input-port, input-there, output-there, signal-there}
+use Rattle.st_wrap.proofs.Structure.{core-there, driven-there, flag-there, front-there, input-port}
 
 module _ (core : Module) (sound : BreaksNone core) (stallable : is_stallable core ≡ true) (names : List (List ℕ)) (named : AreColumnNames core names) (counters : Counters)
     (driven : undriven (wrapped core names counters) ≡ None) (once : doubly (wrapped core names counters) ≡ None)
@@ -89,13 +89,13 @@ module _ (core : Module) (sound : BreaksNone core) (stallable : is_stallable cor
   two-of x z y c d h = ⊎_elim (λ e. subst Cold e c) (λ t. one-of z y d t) (cons-cases x y (z ∷ []) h)
 
   signal : (name : List ℕ) (value : Expr) → Contains (control_driven counters) (Assign name value) → ((x : List ℕ) → Contains (names_read value) x → Cold x) → Cold name
-  signal name value h reads = cold-assigned name value (signal-there core counters (inputs_of core names) (outputs_of core names) (Assign name value) h) reads
+  signal name value h reads = cold-assigned name value ((driven-there core counters (inputs_of core names) (outputs_of core names)).front (Assign name value) h) reads
 
   cold-phase : Cold phase_name
-  cold-phase = cold-clocked phase_name _ _ _ (signal-there core counters (inputs_of core names) (outputs_of core names) _ (8, omega arith, refl))
+  cold-phase = cold-clocked phase_name _ _ _ ((driven-there core counters (inputs_of core names) (outputs_of core names)).front _ (8, omega arith, refl))
 
   cold-wait : Cold wait_name
-  cold-wait = cold-clocked wait_name _ _ _ (signal-there core counters (inputs_of core names) (outputs_of core names) _ (9, omega arith, refl))
+  cold-wait = cold-clocked wait_name _ _ _ ((driven-there core counters (inputs_of core names) (outputs_of core names)).front _ (9, omega arith, refl))
 
   cold-begin : Cold begin_name
   cold-begin = signal begin_name (is_zero phase_name) (0, omega arith, refl) (λ x c. one-of phase_name x cold-phase (subst (λ ns. Contains ns x) (reads-zero phase_name) c))
@@ -130,12 +130,12 @@ module _ (core : Module) (sound : BreaksNone core) (stallable : is_stallable cor
   cold-control n h = in-drives Cold n h cold-begin cold-end cold-due cold-fed cold-open cold-enable cold-ready cold-valid cold-phase cold-wait
 
   cold-held : (column : Column) → Contains (inputs_of core names) column → Cold (held_name column.name)
-  cold-held column c = cold-clocked (held_name column.name) _ _ _ (input-there core counters (inputs_of core names) (outputs_of core names) column c _ (1, omega arith, refl))
+  cold-held column c = cold-clocked (held_name column.name) _ _ _ ((driven-there core counters (inputs_of core names) (outputs_of core names)).input column c _ (1, omega arith, refl))
 
   cold-inner : (column : Column) → Contains (inputs_of core names) column → Cold (inner_name column.inner)
   cold-inner column c =
       cold-assigned (inner_name column.inner) (Choose (Name begin_name) (Name column.name) (Name (held_name column.name)))
-      (input-there core counters (inputs_of core names) (outputs_of core names) column c _ (0, omega arith, refl))
+      ((driven-there core counters (inputs_of core names) (outputs_of core names)).input column c _ (0, omega arith, refl))
       (λ x r. three x (subst (λ ns. Contains ns x) (reads-chosen begin_name column.name (held_name column.name)) r))
     where
       three : (x : List ℕ) → Contains (begin_name ∷ column.name ∷ held_name column.name ∷ []) x → Cold x
@@ -218,7 +218,7 @@ module _ (core : Module) (sound : BreaksNone core) (stallable : is_stallable cor
   output-step : (k : ℕ) → k < length (first ∷ others) → (column : Column) → Contains (outputs_of core names) column → name_at k ≡ column.name → name_at (next k) ≡ stage_name column column.late
   output-step k below column c e =
       let a = assigned-at k below column.name e in
-      let h = output-there core counters (inputs_of core names) (outputs_of core names) column c (Assign column.name (Name (stage_name column column.late)))
+      let h = (driven-there core counters (inputs_of core names) (outputs_of core names)).output column c (Assign column.name (Name (stage_name column column.late)))
       (Contains-append_right (map (stage_driven column) (range_with_len 0 column.late)) (Assign column.name (Name (stage_name column column.late)) ∷ []) _ (head-in _ [])) in
       let same = one-assign (wrapped core names counters) driven once column.name a.value (Name (stage_name column column.late)) a.assigned h in
       ⊎_elim (λ e. sym e) (λ t. absurd (none-in (name_at (next k)) t))
@@ -227,7 +227,7 @@ module _ (core : Module) (sound : BreaksNone core) (stallable : is_stallable cor
   cold-late : (column : Column) → Contains (outputs_of core names) column → (place : ℕ) → place < column.late → Cold (late_name column.name (place + 1))
   cold-late column c place low =
       let e : 0 + place ≡ place = omega arith in
-      cold-clocked (late_name column.name (place + 1)) _ _ _ (output-there core counters (inputs_of core names) (outputs_of core names) column c (stage_driven column place)
+      cold-clocked (late_name column.name (place + 1)) _ _ _ ((driven-there core counters (inputs_of core names) (outputs_of core names)).output column c (stage_driven column place)
       (Contains-append_left (map (stage_driven column) (range_with_len 0 column.late)) _ (stage_driven column place)
       (map-in (stage_driven column) (range_with_len 0 column.late) place (subst (λ n. Contains (range_with_len 0 column.late) n) e (range-in 0 column.late place low)))))
 

@@ -38,7 +38,7 @@ use Rattle.st_wrap.proofs.Fine.{IsFine, double, fine-Binary, fine-Choose, fine-N
 use Rattle.st_wrap.proofs.Named.{in-range}
 use Rattle.st_wrap.proofs.Placed.{output-of}
 use Rattle.st_wrap.proofs.Sound.{item-sound}
-use Rattle.st_wrap.proofs.Structure.{embeds, has-control, held-there, input-port, late-there, wire-of, wire-there}
+use Rattle.st_wrap.proofs.Structure.{declared-there, embeds, has-control, input-port, wire-of, wire-there}
 
 -- ---- nothing is found
 
@@ -89,6 +89,17 @@ module _ (m : Module) (narrow : too_wide m ≡ None) where
       (Contains-append_right (map port_part m.ports) (map (item_part m) m.items) (item_part m i) (map-in (item_part m) m.items i h))
 
 -- ---- items that are sound
+
+-- how wide the signals and the counters are
+record AreWide (nets : List ℕ → Net) (counters : Counters) : Type 0 where
+  begin : (nets begin_name).width ≡ 1
+  end : (nets end_name).width ≡ 1
+  due : (nets due_name).width ≡ 1
+  fed : (nets fed_name).width ≡ 1
+  opened : (nets open_name).width ≡ 1
+  enable : (nets enable_name).width ≡ 1
+  phase : (nets phase_name).width ≡ counters.phase.width
+  wait : (nets wait_name).width ≡ counters.wait.width
 
 abbrev IsSoundIn : (List ℕ → Net) → ModItem → Type 0
 IsSoundIn nets i = is_sound_item nets i ≡ true
@@ -194,29 +205,17 @@ module _ (core : Module) (sound : BreaksNone core) (stallable : is_stallable cor
   abbrev bit_of : Net → ℕ
   bit_of n = n.width
 
-  w-begin : (nets_of (wrapped core names counters) begin_name).width ≡ 1
-  w-begin = ap bit_of (begin-net (wrapped core names counters) counters large has)
-
-  w-end : (nets_of (wrapped core names counters) end_name).width ≡ 1
-  w-end = ap bit_of (end-net (wrapped core names counters) counters large has)
-
-  w-due : (nets_of (wrapped core names counters) due_name).width ≡ 1
-  w-due = ap bit_of (due-net (wrapped core names counters) counters large has)
-
-  w-fed : (nets_of (wrapped core names counters) fed_name).width ≡ 1
-  w-fed = ap bit_of (fed-net (wrapped core names counters) counters large has)
-
-  w-open : (nets_of (wrapped core names counters) open_name).width ≡ 1
-  w-open = ap bit_of (open-net (wrapped core names counters) counters large has)
-
-  w-enable : (nets_of (wrapped core names counters) enable_name).width ≡ 1
-  w-enable = ap bit_of (enable-net (wrapped core names counters) counters large has)
-
-  w-phase : (nets_of (wrapped core names counters) phase_name).width ≡ counters.phase.width
-  w-phase = ap bit_of (phase-net (wrapped core names counters) counters large has)
-
-  w-wait : (nets_of (wrapped core names counters) wait_name).width ≡ counters.wait.width
-  w-wait = ap bit_of (wait-net (wrapped core names counters) counters large has)
+  wide : AreWide (nets_of (wrapped core names counters)) counters
+  wide = record {
+    begin = ap bit_of (begin-net (wrapped core names counters) counters large has);
+    end = ap bit_of (end-net (wrapped core names counters) counters large has);
+    due = ap bit_of (due-net (wrapped core names counters) counters large has);
+    fed = ap bit_of (fed-net (wrapped core names counters) counters large has);
+    opened = ap bit_of (open-net (wrapped core names counters) counters large has);
+    enable = ap bit_of (enable-net (wrapped core names counters) counters large has);
+    phase = ap bit_of (phase-net (wrapped core names counters) counters large has);
+    wait = ap bit_of (wait-net (wrapped core names counters) counters large has);
+  }
 
   w-in : (nets_of (wrapped core names counters) (codes "in_valid")).width ≡ 1
   w-in = ap bit_of (net-port (wrapped core names counters) counters large has in_flag has.in_valid)
@@ -237,18 +236,18 @@ module _ (core : Module) (sound : BreaksNone core) (stallable : is_stallable cor
   fine-phase =
       let w : ℕ = counters.phase.width in
       let some = counts.phase_room.some in
-      fine-Choose nets (Name end_name) (number w 0) (Binary Add (Name phase_name) (number w 1)) 1 w (one end_name w-end)
+      fine-Choose nets (Name end_name) (number w 0) (Binary Add (Name phase_name) (number w 1)) 1 w (one end_name wide.end)
       (fine-number nets w 0 some phase-low (pow_pos w))
       (fine-Binary nets Add (Name phase_name) (number w 1) w w w (let m : max w w ≡ w = omega arith in m) phase-low
-      (fine-Name nets phase_name w w-phase phase-low) (fine-number nets w 1 some phase-low (one-of w some)))
+      (fine-Name nets phase_name w wide.phase phase-low) (fine-number nets w 1 some phase-low (one-of w some)))
 
   fine-wait : Fine counters.wait.width (next_wait counters.wait)
   fine-wait =
       let w : ℕ = counters.wait.width in
       let some = counts.wait_room.some in
-      fine-Choose nets (Name wait_name) (Binary Subtract (Name wait_name) (number w 1)) (number w 0) w w (fine-Name nets wait_name w w-wait wait-low)
+      fine-Choose nets (Name wait_name) (Binary Subtract (Name wait_name) (number w 1)) (number w 0) w w (fine-Name nets wait_name w wide.wait wait-low)
       (fine-Binary nets Subtract (Name wait_name) (number w 1) w w w (let m : max w w ≡ w = omega arith in m) wait-low
-      (fine-Name nets wait_name w w-wait wait-low) (fine-number nets w 1 some wait-low (one-of w some)))
+      (fine-Name nets wait_name w wide.wait wait-low) (fine-number nets w 1 some wait-low (one-of w some)))
       (fine-number nets w 0 some wait-low (pow_pos w))
 
   is-fine : (w : ℕ) (e : Expr) → Fine w e → is_sound (nets_of (wrapped core names counters)) e ≡ true
@@ -258,26 +257,26 @@ module _ (core : Module) (sound : BreaksNone core) (stallable : is_stallable cor
   control-sound =
       let phase-some = counts.phase_room.some in
       let wait-some = counts.wait_room.some in (
-        is-fine 1 (is_zero phase_name) (fine-zero nets phase_name counters.phase.width w-phase phase-low),
+        is-fine 1 (is_zero phase_name) (fine-zero nets phase_name counters.phase.width wide.phase phase-low),
         (
           is-fine 1 (is_last counters.phase) (fine-Binary nets Equal (Name phase_name) (number counters.phase.width counters.phase.most) counters.phase.width counters.phase.width 1 refl (omega arith)
-              (fine-Name nets phase_name counters.phase.width w-phase phase-low) (fine-number nets counters.phase.width counters.phase.most phase-some phase-low counts.phase_room.room)),
+              (fine-Name nets phase_name counters.phase.width wide.phase phase-low) (fine-number nets counters.phase.width counters.phase.most phase-some phase-low counts.phase_room.room)),
           (
-            is-fine 1 is_due_now (fine-Binary nets Both (Name end_name) (is_zero wait_name) 1 1 1 refl (omega arith) (one end_name w-end) (fine-zero nets wait_name counters.wait.width w-wait wait-low)),
+            is-fine 1 is_due_now (fine-Binary nets Both (Name end_name) (is_zero wait_name) 1 1 1 refl (omega arith) (one end_name wide.end) (fine-zero nets wait_name counters.wait.width wide.wait wait-low)),
             (
-              is-fine 1 (unless begin_name (codes "in_valid")) (fine-Binary nets Either (is_zero begin_name) (Name (codes "in_valid")) 1 1 1 refl (omega arith) (fine-zero nets begin_name 1 w-begin (omega arith)) (one (codes "in_valid") w-in)),
+              is-fine 1 (unless begin_name (codes "in_valid")) (fine-Binary nets Either (is_zero begin_name) (Name (codes "in_valid")) 1 1 1 refl (omega arith) (fine-zero nets begin_name 1 wide.begin (omega arith)) (one (codes "in_valid") w-in)),
               (
-                is-fine 1 (unless due_name (codes "out_ready")) (fine-Binary nets Either (is_zero due_name) (Name (codes "out_ready")) 1 1 1 refl (omega arith) (fine-zero nets due_name 1 w-due (omega arith)) (one (codes "out_ready") w-out)),
+                is-fine 1 (unless due_name (codes "out_ready")) (fine-Binary nets Either (is_zero due_name) (Name (codes "out_ready")) 1 1 1 refl (omega arith) (fine-zero nets due_name 1 wide.due (omega arith)) (one (codes "out_ready") w-out)),
                 (
-                  is-fine 1 (both fed_name open_name) (fine-both nets fed_name open_name w-fed w-open),
+                  is-fine 1 (both fed_name open_name) (fine-both nets fed_name open_name wide.fed wide.opened),
                   (
-                    is-fine 1 (both begin_name open_name) (fine-both nets begin_name open_name w-begin w-open),
+                    is-fine 1 (both begin_name open_name) (fine-both nets begin_name open_name wide.begin wide.opened),
                     (
-                      is-fine 1 (both due_name fed_name) (fine-both nets due_name fed_name w-due w-fed),
+                      is-fine 1 (both due_name fed_name) (fine-both nets due_name fed_name wide.due wide.fed),
                       (
-                        (λ i. is-number counters.phase.width 0 phase-some phase-low (pow_pos counters.phase.width) i && is-fine 1 (Name enable_name) (one enable_name w-enable) i && is-fine counters.phase.width (next_phase counters.phase) fine-phase i),
+                        (λ i. is-number counters.phase.width 0 phase-some phase-low (pow_pos counters.phase.width) i && is-fine 1 (Name enable_name) (one enable_name wide.enable) i && is-fine counters.phase.width (next_phase counters.phase) fine-phase i),
                         (
-                          (λ i. is-number counters.wait.width counters.wait.most wait-some wait-low counts.wait_room.room i && is-fine 1 (moving end_name) (fine-both nets enable_name end_name w-enable w-end) i && is-fine counters.wait.width (next_wait counters.wait) fine-wait i),
+                          (λ i. is-number counters.wait.width counters.wait.most wait-some wait-low counts.wait_room.room i && is-fine 1 (moving end_name) (fine-both nets enable_name end_name wide.enable wide.end) i && is-fine counters.wait.width (next_wait counters.wait) fine-wait i),
                           tt,
                         ),
                       ),
@@ -303,10 +302,10 @@ module _ (core : Module) (sound : BreaksNone core) (stallable : is_stallable cor
       (d-net _ (in-port (wrapped core names counters) large.driven large.once (input_port (column_port column)) (input-port core counters (inputs_of core names) (outputs_of core names) column c))) p.1 in
       let h : Fine column.width (Name (held_name column.name)) = fine-Name nets (held_name column.name) column.width
       (d-net _ (reg-declared (wrapped core names counters) large.driven large.once column.signed column.width (held_name column.name)
-      (held-there core counters (inputs_of core names) (outputs_of core names) column c _ (head-in _ [])))) p.1 in (
+      ((declared-there core counters (inputs_of core names) (outputs_of core names)).input column c _ (head-in _ [])))) p.1 in (
         is-fine column.width (Choose (Name begin_name) (Name column.name) (Name (held_name column.name)))
-            (fine-Choose nets (Name begin_name) (Name column.name) (Name (held_name column.name)) 1 column.width (one begin_name w-begin) u h),
-        ((λ i. is-number column.width 0 p.0 p.1 (pow_pos column.width) i && is-fine 1 (moving begin_name) (fine-both nets enable_name begin_name w-enable w-begin) i && is-fine column.width (Name column.name) u i), tt),
+            (fine-Choose nets (Name begin_name) (Name column.name) (Name (held_name column.name)) 1 column.width (one begin_name wide.begin) u h),
+        ((λ i. is-number column.width 0 p.0 p.1 (pow_pos column.width) i && is-fine 1 (moving begin_name) (fine-both nets enable_name begin_name wide.enable wide.begin) i && is-fine column.width (Name column.name) u i), tt),
       )
 
   stage-fine : (column : Column) → Contains (outputs_of core names) column → (k : ℕ) → k ≤ column.late → Fine column.width (Name (stage_name column k))
@@ -325,7 +324,7 @@ module _ (core : Module) (sound : BreaksNone core) (stallable : is_stallable cor
     later place less =
         let e : 0 + place ≡ place = omega arith in
         d-net _ (reg-declared (wrapped core names counters) large.driven large.once column.signed column.width (late_name column.name (place + 1))
-        (late-there core counters (inputs_of core names) (outputs_of core names) column c _
+        ((declared-there core counters (inputs_of core names) (outputs_of core names)).output column c _
         (map-in (stage_declared column) (range_with_len 0 column.late) place (subst (λ n. Contains (range_with_len 0 column.late) n) e (range-in 0 column.late place less)))))
 
     width : (nets_of (wrapped core names counters) (stage_name column k)).width ≡ column.width
@@ -344,7 +343,7 @@ module _ (core : Module) (sound : BreaksNone core) (stallable : is_stallable cor
       have-append (IsSoundIn nets) (map (stage_driven column) (range_with_len 0 column.late)) (Assign column.name (Name (stage_name column column.late)) ∷ [])
       (have-map (IsSoundIn nets) (stage_driven column) (range_with_len 0 column.late) (λ place h.
       let low = (in-range 0 column.late place h).1 in
-      (λ i. is-number column.width 0 p.0 p.1 (pow_pos column.width) i && is-fine 1 (moving end_name) (fine-both nets enable_name end_name w-enable w-end) i
+      (λ i. is-number column.width 0 p.0 p.1 (pow_pos column.width) i && is-fine 1 (moving end_name) (fine-both nets enable_name end_name wide.enable wide.end) i
       && is-fine column.width (Name (stage_name column place)) (stage-fine column c place (omega (arith, low))) i)))
       (is-fine column.width (Name (stage_name column column.late)) (stage-fine column c column.late (omega arith)), tt)
 

@@ -34,7 +34,7 @@ use Rattle.st_wrap.proofs.Named.{column_name, declared_in, in-each}
 use Rattle.st_wrap.proofs.Once.{control_names, declared-list, flag_names, front_names, held_names, in-control, in-wire, in_names, late_names, out_names, own_declared, port_name, wire_names, wires}
 use Rattle.st_wrap.proofs.Placed.{are-known, core_part, declared_part, mentions-are, own_part, ports_part}
 use Rattle.st_wrap.proofs.Reading.{renamed_mention}
-use Rattle.st_wrap.proofs.Structure.{front-there, flag-there, input-port, input-there, output-there, signal-there}
+use Rattle.st_wrap.proofs.Structure.{driven-there, flag-there, front-there, input-port}
 use Rattle.st_wrap.proofs.Worded.{named-mention}
 
 declared-kind : (d e : Declared) → Declares d ≡ Declares e → d.kind ≡ e.kind
@@ -72,7 +72,7 @@ module _ (core : Module) (sound : BreaksNone core) (stallable : is_stallable cor
   has-by c n h = seen (is_driver_of n) (mentions (wrapped core names counters)) (Drives c n) h ((bytes_eq-Decides n n).1 refl)
 
   signal-has : (i : ModItem) (c : Bool) (n : List ℕ) → Contains (control_driven counters) i → Contains (item_mentions i) (Drives c n) → Has n
-  signal-has i c n h d = has-by c n (item-mention core sound stallable names named counters i (Drives c n) (signal-there core counters (inputs_of core names) (outputs_of core names) i h) d)
+  signal-has i c n h d = has-by c n (item-mention core sound stallable names named counters i (Drives c n) ((driven-there core counters (inputs_of core names) (outputs_of core names)).front i h) d)
 
   second-in : (x y : Mention) (xs : List Mention) → Contains (x ∷ y ∷ xs) y
   second-in x y xs = tail-in x y (y ∷ xs) (head-in y xs)
@@ -96,20 +96,20 @@ module _ (core : Module) (sound : BreaksNone core) (stallable : is_stallable cor
 
   input-has : (column : Column) → Contains (inputs_of core names) column → Has (inner_name column.inner)
   input-has column c = has-by false (inner_name column.inner) (item-mention core sound stallable names named counters _ (Drives false (inner_name column.inner))
-      (input-there core counters (inputs_of core names) (outputs_of core names) column c _ (0, omega arith, refl)) (head-in _ _))
+      ((driven-there core counters (inputs_of core names) (outputs_of core names)).input column c _ (0, omega arith, refl)) (head-in _ _))
 
   held-has : (column : Column) → Contains (inputs_of core names) column → Has (held_name column.name)
   held-has column c = has-by true (held_name column.name) (item-mention core sound stallable names named counters _ (Drives true (held_name column.name))
-      (input-there core counters (inputs_of core names) (outputs_of core names) column c _ (1, omega arith, refl)) (second-in _ _ _))
+      ((driven-there core counters (inputs_of core names) (outputs_of core names)).input column c _ (1, omega arith, refl)) (second-in _ _ _))
 
   late-has : (column : Column) → Contains (outputs_of core names) column → (place : ℕ) → Contains (range_with_len 0 column.late) place → Has (late_name column.name (place + 1))
   late-has column c place h = has-by true (late_name column.name (place + 1)) (item-mention core sound stallable names named counters (stage_driven column place) (Drives true (late_name column.name (place + 1)))
-      (output-there core counters (inputs_of core names) (outputs_of core names) column c (stage_driven column place)
+      ((driven-there core counters (inputs_of core names) (outputs_of core names)).output column c (stage_driven column place)
       (Contains-append_left (map (stage_driven column) (range_with_len 0 column.late)) _ (stage_driven column place) (map-in (stage_driven column) (range_with_len 0 column.late) place h))) (second-in _ _ _))
 
   output-has : (column : Column) → Contains (outputs_of core names) column → Has column.name
   output-has column c = has-by false column.name (item-mention core sound stallable names named counters _ (Drives false column.name)
-      (output-there core counters (inputs_of core names) (outputs_of core names) column c _
+      ((driven-there core counters (inputs_of core names) (outputs_of core names)).output column c _
       (Contains-append_right (map (stage_driven column) (range_with_len 0 column.late)) _ _ (head-in _ []))) (head-in _ _))
 
   -- a wire of a port of the core

@@ -12,7 +12,7 @@ use Rattle.vl_ast.specs.Conditions.{BreaksNone, IsAcyclic, is_clk_at_fault, is_r
 use Rattle.vl_ast.specs.Control.{is_bit_input, is_stallable}
 use Rattle.vl_ast.specs.Context.{Net}
 use Rattle.vl_ast.specs.Header.{bit_input, input_port, output_port}
-use Rattle.vl_ast.specs.Nets.{Declared, Declares, PlainWire, Register, declaration_of, mentions, place_of, port_declared}
+use Rattle.vl_ast.specs.Nets.{Declared, Declares, Kind, PlainWire, Register, declaration_of, mentions, place_of, port_declared}
 use Rattle.vl_ast.proofs.Facts.{Declaration, OfPort, OfReg, OfWire, declaration-by, in-port, is-declared, listed-mention, mention-listed, reg-declared, wire-declared}
 use Rattle.vl_ast.proofs.GatedSound.{neither}
 use Rattle.vl_ast.proofs.Places.{flat-in, head-in, map-in}
@@ -27,6 +27,23 @@ use Rattle.st_wrap.specs.inner.Renamed.{core_items, renamed_item, wires_for, wir
 use Rattle.st_wrap.specs.inner.Wrapped.{declared_items, driven_items, made_of, ports_of}
 use Rattle.st_wrap.proofs.Controlled.{HasControl, in_flag, out_flag}
 use Rattle.st_wrap.proofs.Embedded.{Embeds, IsThere}
+
+-- a module has some items, and those that are made of each column of two lists
+pub record HasParts (m : Module) (inputs outputs : List Column) (first : List ModItem) (of_input of_output : Column → List ModItem) : Type 0 where
+  pub front : (i : ModItem) → Contains first i → Contains m.items i
+  pub input : (column : Column) → Contains inputs column → (i : ModItem) → Contains (of_input column) i → Contains m.items i
+  pub output : (column : Column) → Contains outputs column → (i : ModItem) → Contains (of_output column) i → Contains m.items i
+
+has-parts : (m : Module) (inputs outputs : List Column) (front : List ModItem) (of_input of_output : Column → List ModItem)
+    → ((i : ModItem) → Contains (front ++ (flat_map of_input inputs ++ flat_map of_output outputs)) i → Contains m.items i) → HasParts m inputs outputs front of_input of_output
+has-parts m inputs outputs front of_input of_output within =
+    let ins = flat_map of_input inputs in
+    let outs = flat_map of_output outputs in
+    record {
+      front = λ i h. within i (Contains-append_left front (ins ++ outs) i h);
+      input = λ column c i h. within i (Contains-append_right front (ins ++ outs) i (Contains-append_left ins outs i (flat-in of_input inputs column i c h)));
+      output = λ column c i h. within i (Contains-append_right front (ins ++ outs) i (Contains-append_right ins outs i (flat-in of_output outputs column i c h)));
+    }
 
 module _ (core : Module) (counters : Counters) (inputs outputs : List Column) where
   abbrev made : Module
@@ -50,14 +67,8 @@ module _ (core : Module) (counters : Counters) (inputs outputs : List Column) wh
   behind-wires : (i : ModItem) → Contains (control_declared counters ++ (held ++ late)) i → Contains (made_of core counters inputs outputs).items i
   behind-wires i h = in-declared i (Contains-append_right (wires_of core) (control_declared counters ++ (held ++ late)) i h)
 
-  pub control-there : (i : ModItem) → Contains (control_declared counters) i → Contains (made_of core counters inputs outputs).items i
-  control-there i h = behind-wires i (Contains-append_left (control_declared counters) (held ++ late) i h)
-
-  pub held-there : (column : Column) → Contains inputs column → (i : ModItem) → Contains (held_declared column) i → Contains (made_of core counters inputs outputs).items i
-  held-there column c i h = behind-wires i (Contains-append_right (control_declared counters) (held ++ late) i (Contains-append_left held late i (flat-in held_declared inputs column i c h)))
-
-  pub late-there : (column : Column) → Contains outputs column → (i : ModItem) → Contains (late_declared column) i → Contains (made_of core counters inputs outputs).items i
-  late-there column c i h = behind-wires i (Contains-append_right (control_declared counters) (held ++ late) i (Contains-append_right held late i (flat-in late_declared outputs column i c h)))
+  pub declared-there : HasParts (made_of core counters inputs outputs) inputs outputs (control_declared counters) held_declared late_declared
+  declared-there = has-parts (made_of core counters inputs outputs) inputs outputs (control_declared counters) held_declared late_declared behind-wires
 
   pub core-there : (i : ModItem) → Contains core.items i → Contains (made_of core counters inputs outputs).items (renamed_item i)
   core-there i h = in-later (renamed_item i) (Contains-append_left (core_items core) (driven_items counters inputs outputs) (renamed_item i) (map-in renamed_item core.items i h))
@@ -65,20 +76,8 @@ module _ (core : Module) (counters : Counters) (inputs outputs : List Column) wh
   in-driven : (i : ModItem) → Contains (driven_items counters inputs outputs) i → Contains (made_of core counters inputs outputs).items i
   in-driven i h = in-later i (Contains-append_right (core_items core) (driven_items counters inputs outputs) i h)
 
-  abbrev inner_driven : List ModItem
-  inner_driven = flat_map held_driven inputs
-
-  abbrev outer_driven : List ModItem
-  outer_driven = flat_map late_driven outputs
-
-  pub signal-there : (i : ModItem) → Contains (control_driven counters) i → Contains (made_of core counters inputs outputs).items i
-  signal-there i h = in-driven i (Contains-append_left (control_driven counters) (inner_driven ++ outer_driven) i h)
-
-  pub input-there : (column : Column) → Contains inputs column → (i : ModItem) → Contains (held_driven column) i → Contains (made_of core counters inputs outputs).items i
-  input-there column c i h = in-driven i (Contains-append_right (control_driven counters) (inner_driven ++ outer_driven) i (Contains-append_left inner_driven outer_driven i (flat-in held_driven inputs column i c h)))
-
-  pub output-there : (column : Column) → Contains outputs column → (i : ModItem) → Contains (late_driven column) i → Contains (made_of core counters inputs outputs).items i
-  output-there column c i h = in-driven i (Contains-append_right (control_driven counters) (inner_driven ++ outer_driven) i (Contains-append_right inner_driven outer_driven i (flat-in late_driven outputs column i c h)))
+  pub driven-there : HasParts (made_of core counters inputs outputs) inputs outputs (control_driven counters) held_driven late_driven
+  driven-there = has-parts (made_of core counters inputs outputs) inputs outputs (control_driven counters) held_driven late_driven in-driven
 
   -- ---- ports
 
@@ -125,8 +124,8 @@ module _ (core : Module) (counters : Counters) (inputs outputs : List Column) wh
 
   pub has-control : is_stallable core ≡ true → HasControl (made_of core counters inputs outputs) counters
   has-control stallable = record {
-    declared = λ i h. control-there i h;
-    driven = λ i h. signal-there i h;
+    declared = λ i h. declared-there.front i h;
+    driven = λ i h. driven-there.front i h;
     enable =
         let p = bit-port (codes "clk_enable") core.ports stallable in
         let off : is_shared p.0.name ≡ false = ap is_shared p.2 in
@@ -177,23 +176,20 @@ module _ (core : Module) (counters : Counters) (inputs outputs : List Column) wh
         there-as d (port_declared (bit_input name)) (in-port (made_of core counters inputs outputs) large.driven large.once (bit_input name) there)
         (sym kept ∙ ap inner_name (sym same)) (sym (shared-net name p d h same))
 
+    -- a wire or a register, by its declarations
+    moved : (d : Declared) → Contains (mentions core) (Declares d) → (kind : Kind) (net : Net) → Contains (mentions core) (Declares (record { name = d.name; kind = kind; net = net }))
+        → Contains (mentions (made_of core counters inputs outputs)) (Declares (record { name = inner_name d.name; kind = kind; net = net })) → IsThere (made_of core counters inputs outputs) d
+    moved d h kind net mine theirs =
+        let it : Declared = record { name = d.name; kind = kind; net = net } in
+        let its = is-declared core small.acyclic.driven small.acyclic.once it mine in
+        let same : d ≡ it = some-same (sym (is-declared core small.acyclic.driven small.acyclic.once d h) ∙ its) in
+        there-as d (record { name = inner_name d.name; kind = kind; net = net }) theirs refl (ap (λ (e : Declared). e.net) (sym same))
+
     by-declaration : (d : Declared) → Contains (mentions core) (Declares d) → Declaration core small.acyclic.driven small.acyclic.once d → IsThere (made_of core counters inputs outputs) d
-    by-declaration d h (OfWire signed width there kind) =
-        let net : Net = record { width = width; signed = signed } in
-        let it : Declared = record { name = d.name; kind = PlainWire; net = net } in
-        let its = is-declared core small.acyclic.driven small.acyclic.once it (wire-declared core small.acyclic.driven small.acyclic.once signed width d.name there) in
-        let same : d ≡ it = some-same (sym (is-declared core small.acyclic.driven small.acyclic.once d h) ∙ its) in
-        there-as d (record { name = inner_name d.name; kind = PlainWire; net = net })
-        (wire-declared (made_of core counters inputs outputs) large.driven large.once signed width (inner_name d.name) (core-there _ there))
-        refl (ap (λ (e : Declared). e.net) (sym same))
-    by-declaration d h (OfReg signed width there kind) =
-        let net : Net = record { width = width; signed = signed } in
-        let it : Declared = record { name = d.name; kind = Register; net = net } in
-        let its = is-declared core small.acyclic.driven small.acyclic.once it (reg-declared core small.acyclic.driven small.acyclic.once signed width d.name there) in
-        let same : d ≡ it = some-same (sym (is-declared core small.acyclic.driven small.acyclic.once d h) ∙ its) in
-        there-as d (record { name = inner_name d.name; kind = Register; net = net })
-        (reg-declared (made_of core counters inputs outputs) large.driven large.once signed width (inner_name d.name) (core-there _ there))
-        refl (ap (λ (e : Declared). e.net) (sym same))
+    by-declaration d h (OfWire signed width there kind) = moved d h PlainWire (record { width = width; signed = signed })
+        (wire-declared core small.acyclic.driven small.acyclic.once signed width d.name there) (wire-declared (made_of core counters inputs outputs) large.driven large.once signed width (inner_name d.name) (core-there _ there))
+    by-declaration d h (OfReg signed width there kind) = moved d h Register (record { width = width; signed = signed })
+        (reg-declared core small.acyclic.driven small.acyclic.once signed width d.name there) (reg-declared (made_of core counters inputs outputs) large.driven large.once signed width (inner_name d.name) (core-there _ there))
     by-declaration d h (OfPort port there same) = ⊎_elim
         (λ on. ⊎_elim
         (λ clk. shared d h (codes "clk") (bit-port (codes "clk") core.ports clk-bit) (front-there (bit_input (codes "clk")) (0, omega arith, refl)) refl (sym (ap (λ (e : Declared). e.name) same) ∙ (bytes_eq-Decides port.name (codes "clk")).0 clk))

@@ -1,5 +1,6 @@
 pub mod Names
 pub mod Pace
+pub mod Promised
 pub mod Header
 pub mod Handshake
 pub mod Transfers

@@ -40,11 +40,7 @@ fn declare_reg(
 }
 
 /// Declares the signals and the counters.
-pub fn declare_control(
-    alloc: Global,
-    counters: Counters,
-    items: &mut ModItems,
-) -> Result<(), OutOfMemory>
+pub fn declare(alloc: Global, counters: Counters, items: &mut ModItems) -> Result<(), OutOfMemory>
     ensures { OnOk result (items.new ≡ items.old ++ control_declared counters) }
 {
     declare_wire(alloc, b"fx_begin", items)?;
@@ -107,21 +103,11 @@ fn next_wait(alloc: Global, wait: Counter) -> Result<Expr, OutOfMemory>
     )
 }
 
-fn put_assignments(
-    alloc: Global,
-    counters: Counters,
-    items: &mut ModItems,
-) -> Result<(), OutOfMemory>
-    ensures { OnOk result (items.new ≡ items.old ++ signals_driven counters.phase) }
+fn put_assignments(alloc: Global, phase: Counter, items: &mut ModItems) -> Result<(), OutOfMemory>
+    ensures { OnOk result (items.new ≡ items.old ++ signals_driven phase) }
 {
     assign(alloc, b"fx_begin", is_zero(alloc, b"fx_phase"), items)?;
-    let last = with_number(
-        alloc,
-        BinOp::Equal,
-        b"fx_phase",
-        counters.phase.width,
-        counters.phase.most,
-    );
+    let last = with_number(alloc, BinOp::Equal, b"fx_phase", phase.width, phase.most);
     assign(alloc, b"fx_end", last, items)?;
     assign(alloc, b"fx_due", is_due(alloc), items)?;
     let fed = unless(alloc, b"fx_begin", b"in_valid");
@@ -167,14 +153,10 @@ fn put_wait(alloc: Global, wait: Counter, items: &mut ModItems) -> Result<(), Ou
 }
 
 /// Drives the signals and the counters.
-pub fn drive_control(
-    alloc: Global,
-    counters: Counters,
-    items: &mut ModItems,
-) -> Result<(), OutOfMemory>
+pub fn drive(alloc: Global, counters: Counters, items: &mut ModItems) -> Result<(), OutOfMemory>
     ensures { OnOk result (items.new ≡ items.old ++ control_driven counters) }
 {
-    put_assignments(alloc, counters, items)?;
+    put_assignments(alloc, counters.phase, items)?;
     put_handshake(alloc, items)?;
     put_phase(alloc, counters.phase, items)?;
     put_wait(alloc, counters.wait, items)

@@ -94,11 +94,12 @@ fn renamed_item(alloc: Global, item: &ModItem) -> Result<ModItem, OutOfMemory>
             first,
             condition,
             value,
-        } => {
-            let name = inner_name(alloc, name.bytes());
-            let condition = renamed_condition(alloc, condition);
-            clocked(name, *first, condition, renamed(alloc, value))
-        }
+        } => clocked(
+            inner_name(alloc, name.bytes()),
+            *first,
+            renamed_condition(alloc, condition),
+            renamed(alloc, value),
+        ),
     }
 }
 

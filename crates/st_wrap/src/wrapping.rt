@@ -1,18 +1,10 @@
 //! The module with valid and ready round a core.
 ghost use Rattle.std.specs.Prelude.{◌≡◌, ◌++◌, [], codes, List, ℕ, true, IfOk, OnOk, length};
-ghost use Rattle.vl_ast.specs.Conditions.{BreaksNone};
-ghost use Rattle.vl_ast.specs.Control.{is_stallable};
-ghost use Rattle.vl_ast.specs.Grammar.{Spells};
-ghost use Rattle.vl_ast.specs.Multiplications.{multiplications};
-ghost use Rattle.vl_ast.specs.Spelling.{spelling};
-ghost use Rattle.vl_ast.specs.Stalls.{KeepsBits};
-ghost use Rattle.st_wrap.specs.Carried.{CarriesTransfers, FollowsCore, ShakesHands};
-ghost use Rattle.st_wrap.specs.Header.{HasStreamHeader};
-ghost use Rattle.st_wrap.specs.Names.{AreColumnNames};
+ghost use Rattle.st_wrap.specs.Promised.{AreColumnNames, BreaksNone, CarriesTransfers, FollowsCore, HasStreamHeader, KeepsBits, ShakesHands, Spells, is_stallable, multiplications, spelling};
 ghost use Rattle.st_wrap.specs.inner.Wrapped.{items_of, made_of, IsWrapped};
 
 use crate::columns::{Column, input_columns, output_columns, output_names};
-use crate::control::{declare_control, drive_control};
+use crate::control;
 use crate::header::put_ports;
 use crate::pace::{Counters, counters_for};
 use crate::registers::{Part, put_parts};
@@ -119,11 +111,11 @@ fn put_items(
         ≡ items.old ++ items_of core.now counters inputs.now outputs.now) }
 {
     put_wires(alloc, core, items)?;
-    declare_control(alloc, counters, items)?;
+    control::declare(alloc, counters, items)?;
     put_parts(alloc, Part::Held, inputs, items)?;
     put_parts(alloc, Part::Late, outputs, items)?;
     put_core(alloc, core, items)?;
-    drive_control(alloc, counters, items)?;
+    control::drive(alloc, counters, items)?;
     put_parts(alloc, Part::HeldDriven, inputs, items)?;
     put_parts(alloc, Part::LateDriven, outputs, items)
 }

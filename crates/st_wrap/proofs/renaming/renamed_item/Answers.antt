@@ -21,6 +21,6 @@ returns-in-Assign c =
 
 pub returns-in-Always : goal.returns-in-Always
 returns-in-Always c =
-    let name = subst (λ (text : List ℕ). IfOk c.inner_name-name.result (λ made. made ≡ inner_name text)) c.bytes-in-Always.ensures c.inner_name-name.ensures in
+    let name = subst (λ (text : List ℕ). IfOk c.inner_name-in-Always.result (λ made. made ≡ inner_name text)) c.bytes-in-Always.ensures c.inner_name-in-Always.ensures in
     subst (λ (item : ModItem). IfOk c.clocked.result (λ made. made ≡ renamed_item item)) (sym c.in-Always.is)
-    (c.clocked.ensures _ _ _ _ refl name c.renamed_condition-condition.ensures c.renamed-in-Always.ensures)
+    (c.clocked.ensures _ _ _ _ refl name c.renamed_condition.ensures c.renamed-in-Always.ensures)

@@ -19,8 +19,8 @@ returns c =
     let held : List ModItem = flat_map held_declared ins in
     let late : List ModItem = flat_map late_declared outs in
     let control : List ModItem = control_declared counters in
-    let begun = put-before c.declare_control.new.items c.put_parts.new.items mid held late c.in_ok-put_parts.ensures c.in_ok-put_parts-2.ensures in
-    let above = put-before c.put_wires.new.items c.declare_control.new.items mid control (held ++ late) c.in_ok-declare_control.ensures begun in
+    let begun = put-before c.declare.new.items c.put_parts.new.items mid held late c.in_ok-put_parts.ensures c.in_ok-put_parts-2.ensures in
+    let above = put-before c.put_wires.new.items c.declare.new.items mid control (held ++ late) c.in_ok-declare.ensures begun in
     let declared : mid ≡ old ++ declared_items core counters ins outs = put-before old c.put_wires.new.items mid (wires_of core) (control ++ (held ++ late)) c.in_ok-put_wires.ensures above in
     let fresh : List ModItem = flat_map held_driven ins in
     let shown : List ModItem = flat_map late_driven outs in
@@ -29,5 +29,5 @@ returns c =
     on_ok_weaker c.put_parts-4.result (λ put.
     put-before old mid end (declared_items core counters ins outs) (core_items core ++ driven_items counters ins outs) declared
     (put-before mid c.put_core.new.items end (core_items core) (driven_items counters ins outs) c.in_ok-put_core.ensures
-    (put-before c.put_core.new.items c.drive_control.new.items end driving (fresh ++ shown) c.in_ok-drive_control.ensures
-    (put-before c.drive_control.new.items c.put_parts-3.new.items end fresh shown c.in_ok-put_parts-3.ensures put)))) c.put_parts-4.ensures
+    (put-before c.put_core.new.items c.drive.new.items end driving (fresh ++ shown) c.in_ok-drive.ensures
+    (put-before c.drive.new.items c.put_parts-3.new.items end fresh shown c.in_ok-put_parts-3.ensures put)))) c.put_parts-4.ensures

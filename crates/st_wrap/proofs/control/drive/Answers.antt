@@ -3,7 +3,7 @@ use Rattle.std.proofs.lemmas.List.{append_assoc}
 use Rattle.std.proofs.lemmas.Result.{on_ok_weaker}
 use Rattle.st_wrap.specs.inner.Control.{handshake_driven, phase_item, signals_driven, wait_item}
 use Rattle.fx_io.proofs.Places.{put-next}
-use Rattle.st_wrap.proofs.control.drive_control.Goals as goal
+use Rattle.st_wrap.proofs.control.drive.Goals as goal
 
 pub returns : goal.returns
 returns c =

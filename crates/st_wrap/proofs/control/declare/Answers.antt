@@ -3,7 +3,7 @@ use Rattle.std.proofs.lemmas.Result.{on_ok_weaker}
 use Rattle.vl_ast.specs.declared.modules.ModItem.TheVariants.{Wire, Reg}
 use Rattle.st_wrap.specs.inner.Names.{begin_name, end_name, due_name, fed_name, open_name, phase_name, wait_name}
 use Rattle.fx_io.proofs.Places.{put-next}
-use Rattle.st_wrap.proofs.control.declare_control.Goals as goal
+use Rattle.st_wrap.proofs.control.declare.Goals as goal
 
 pub returns : goal.returns
 returns c =
