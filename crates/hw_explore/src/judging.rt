@@ -1,24 +1,20 @@
-ghost use Rattle.std.specs.Prelude.{◌≡◌, ◌<◌, IfOk};
+ghost use Rattle.std.specs.Prelude.{◌≡◌, ◌<◌, IfErr, IfOk};
+ghost use Rattle.dg_model.specs.Faults.{IsRefusal};
 ghost use Rattle.dg_model.specs.PlanOf.{IsPlanOf};
-ghost use Rattle.dg_model.specs.declared.fault.Shown.TheVariants.{Size as SizeShown};
-ghost use Rattle.dg_model.specs.declared.rule.Rule.{Rule};
 ghost use Rattle.hw_explore.specs.Candidates.{IsFinding, IsJudged};
-ghost use Rattle.hw_explore.specs.declared.finding.Judged.TheVariants.{Bad};
 ghost use Rattle.hw_explore.specs.Range.{IsRange, pairs_of};
 ghost use Rattle.hw_explore.specs.inner.Timed.{AreTimed, IsTimed};
-ghost use Rattle.hw_latency.specs.Latency.{AreLatencies};
-ghost use Rattle.hw_sched.specs.Answer.{AreSlots, timing_of};
-ghost use Rattle.hw_sched.specs.Sizing.{IsKeptSize};
+ghost use Rattle.hw_rules.specs.Rules.{BreaksTimes};
+ghost use Rattle.hw_rules.specs.Times.{AreTimes};
 
 use crate::finding::{Finding, Judged};
 use crate::plain::without_pipelines;
 use crate::range::Range;
 use crate::timed::{BySharing, Timed};
-use dg_model::{Checked, Resolved, Rule, Shown};
+use dg_model::{CheckFault, Checked, Resolved, Rule, RuleFault, Shown};
 use fx_io::{Flags, Longs, OutOfMemory, Periods, Sizes};
 use hw_latency::Latencies;
-use hw_rules::{Times, multiplications};
-use hw_sched::{BudgetFault, SizeFault, Sizing, Slots, check_size, slots_of};
+use hw_rules::{Times, multiplications, times_by};
 use std::alloc::Global;
 
 /// A copy of latencies.
@@ -33,105 +29,64 @@ fn copy_of(alloc: Global, latencies: &Latencies) -> Result<Latencies, OutOfMemor
 }
 
 /// What a plan is worth that keeps the rules.
-fn judge_good(
-    alloc: Global,
-    checked: &Checked,
-    plan: &Resolved,
-    latencies: &Latencies,
-    slots: Slots,
-    sizing: Sizing,
-) -> Result<Judged, OutOfMemory>
+fn judge_good(checked: &Checked, plan: &Resolved, times: Times) -> Result<Judged, OutOfMemory>
     requires plan { IsPlanOf checked.now.diagram plan.now }
-    requires latencies { AreLatencies checked.now.diagram plan.now latencies.now }
-    requires slots { AreSlots checked.now.diagram plan.now latencies.now slots }
-    requires size { IsKeptSize checked.now.diagram plan.now sizing
-        (timing_of latencies.now slots.depths) }
+    requires times { AreTimes checked.now.diagram plan.now times }
     ensures { IfOk result (IsJudged checked.now.diagram plan.now) }
 {
-    let copy = match copy_of(alloc, latencies) {
-        Ok(copy) => copy,
-        Err(wanting) => {
-            drop(slots);
-            return Err(wanting);
-        }
-    };
-    let times = Times {
-        latencies: copy,
-        slots,
-        sizing,
-    };
+    let latency = times.sizing.latency;
     let owed = multiplications(checked, plan, &times);
     drop(times);
     let owed = owed?;
-    Ok(Judged::Good {
-        owed,
-        latency: sizing.latency,
-    })
+    Ok(Judged::Good { owed, latency })
 }
 
-/// What a plan is worth that breaks the rule of size.
-fn too_large(storage: u64, latency: u64) -> Judged
-    ensures { result ≡ Bad Rule.Size (SizeShown storage latency) }
+/// What a plan is worth, by its times or by the first rule that it breaks.
+fn judge_times(
+    checked: &Checked,
+    plan: &Resolved,
+    times: Result<Times, CheckFault>,
+) -> Result<Judged, OutOfMemory>
+    requires plan { IsPlanOf checked.now.diagram plan.now }
+    requires times { IfOk times (AreTimes checked.now.diagram plan.now) }
+    requires refused { IfErr times (IsRefusal (BreaksTimes checked.now.diagram plan.now)) }
+    ensures { IfOk result (IsJudged checked.now.diagram plan.now) }
 {
-    Judged::Bad {
-        rule: Rule::Size,
-        shown: Shown::Size { storage, latency },
+    match times {
+        Ok(times) => judge_good(checked, plan, times),
+        Err(CheckFault::Broken(RuleFault { rule, place, shown })) => {
+            drop(place);
+            Ok(Judged::Bad { rule, shown })
+        }
+        Err(CheckFault::OutOfMemory) => Err(OutOfMemory),
     }
 }
 
-/// What a plan is worth that keeps the rules up to that of budget.
-fn judge_size(
-    alloc: Global,
-    checked: &Checked,
-    plan: &Resolved,
-    latencies: &Latencies,
-    slots: Slots,
-) -> Result<Judged, OutOfMemory>
-    requires plan { IsPlanOf checked.now.diagram plan.now }
-    requires latencies { AreLatencies checked.now.diagram plan.now latencies.now }
-    requires slots { AreSlots checked.now.diagram plan.now latencies.now slots }
-    ensures { IfOk result (IsJudged checked.now.diagram plan.now) }
-{
-    match check_size(checked, plan, latencies, slots.ready.as_slice()) {
-        Ok(sizing) => judge_good(alloc, checked, plan, latencies, slots, sizing),
-        Err(SizeFault::Size { storage, latency }) => {
-            drop(slots);
-            Ok(too_large(storage, latency))
-        }
-        Err(SizeFault::OutOfMemory) => {
-            drop(slots);
-            Err(OutOfMemory)
-        }
-    }
-}
-
-/// What a plan is worth, by its latencies.
-fn judge(
-    alloc: Global,
-    checked: &Checked,
-    plan: &Resolved,
-    timed: &Timed,
-) -> Result<Judged, OutOfMemory>
-    requires plan { IsPlanOf checked.now.diagram plan.now }
-    requires timed { IsTimed checked.now.diagram plan.now timed.now }
-    ensures { IfOk result (IsJudged checked.now.diagram plan.now) }
-{
-    match timed {
-        Timed::Kept(latencies) => match slots_of(alloc, checked, latencies, plan) {
-            Ok(slots) => judge_size(alloc, checked, plan, latencies, slots),
-            Err(BudgetFault::Budget { period, need, have }) => Ok(Judged::Bad {
-                rule: Rule::Budget,
-                shown: Shown::Budget { period, need, have },
+impl Timed {
+    /// What the plan is worth that has these latencies.
+    fn judge(
+        &self,
+        alloc: Global,
+        checked: &Checked,
+        plan: &Resolved,
+    ) -> Result<Judged, OutOfMemory>
+        requires plan { IsPlanOf checked.now.diagram plan.now }
+        requires timed { IsTimed checked.now.diagram plan.now self.now }
+        ensures { IfOk result (IsJudged checked.now.diagram plan.now) }
+    {
+        match self {
+            Timed::Kept(latencies) => {
+                let copy = copy_of(alloc, latencies)?;
+                judge_times(checked, plan, times_by(alloc, checked, copy, plan))
+            }
+            Timed::Gaining { blocks, total } => Ok(Judged::Bad {
+                rule: Rule::Latency,
+                shown: Shown::Latency {
+                    blocks: Sizes::from_vec(blocks.as_slice().to_vec(alloc)?),
+                    total: *total,
+                },
             }),
-            Err(BudgetFault::OutOfMemory) => Err(OutOfMemory),
-        },
-        Timed::Gaining { blocks, total } => Ok(Judged::Bad {
-            rule: Rule::Latency,
-            shown: Shown::Latency {
-                blocks: Sizes::from_vec(blocks.as_slice().to_vec(alloc)?),
-                total: *total,
-            },
-        }),
+        }
     }
 }
 
@@ -151,7 +106,7 @@ pub fn found(
     let cycles = range.cycles(place);
     let multipliers = range.multipliers(place);
     let plan = without_pipelines(alloc, checked, cycles, multipliers)?;
-    let verdict = judge(alloc, checked, &plan, timed.at(cycles, multipliers));
+    let verdict = timed.at(cycles, multipliers).judge(alloc, checked, &plan);
     drop(plan);
     Ok(Finding {
         cycles,

@@ -13,11 +13,14 @@ use Rattle.hw_latency.specs.Weight.{samples}
 
 -- two lists of marks that are right agree on every block
 abbrev pub FedIsOne : Type 0
-FedIsOne = (diagram : Diagram) (attributes : Attributes) (plan : Resolved) (fed other : List Bool) (place : ℕ) → AreFed diagram attributes plan fed → AreFed diagram attributes plan other → is_marked fed place ≡ is_marked other place
+FedIsOne =
+    (diagram : Diagram) (attributes : Attributes) (plan : Resolved) (fed other : List Bool) (place : ℕ) → AreFed diagram attributes plan fed
+    → AreFed diagram attributes plan other → is_marked fed place ≡ is_marked other place
 
 -- two lists of least latencies agree on every block
 abbrev pub LatenciesAreOne : Type 0
-LatenciesAreOne = (diagram : Diagram) (plan : Resolved) (lat other : List ℕ) (place : ℕ) → IsLeastLatency diagram plan lat → IsLeastLatency diagram plan other → latency_at lat place ≡ latency_at other place
+LatenciesAreOne =
+    (diagram : Diagram) (plan : Resolved) (lat other : List ℕ) (place : ℕ) → IsLeastLatency diagram plan lat → IsLeastLatency diagram plan other → latency_at lat place ≡ latency_at other place
 
 -- a cycle of edges that gains leaves no latencies
 abbrev pub LatencyCyclesLeaveNone : Type 0
@@ -30,7 +33,9 @@ pub record ArePeriodsWithin (diagram : Diagram) (most : ℕ) : Type 0 where
 
 -- the least latencies are no greater than 65 of the longest periods for each block
 abbrev pub LatenciesAreSmall : Type 0
-LatenciesAreSmall = (diagram : Diagram) (plan : Resolved) (lat : List ℕ) (most place : ℕ) → IsPlanOf diagram plan → ArePeriodsWithin diagram most → IsLeastLatency diagram plan lat → latency_at lat place ≤ length diagram.blocks * (65 * most)
+LatenciesAreSmall =
+    (diagram : Diagram) (plan : Resolved) (lat : List ℕ) (most place : ℕ) → IsPlanOf diagram plan → ArePeriodsWithin diagram most
+    → IsLeastLatency diagram plan lat → latency_at lat place ≤ length diagram.blocks * (65 * most)
 
 -- the value of each block from which an edge leads into this one never changes
 pub record IsUnasked (diagram : Diagram) (block : ℕ) : Type 0 where

@@ -1,5 +1,8 @@
 -- By how much an edge makes its end later than its source (own; HDL Coder, delay balancing).
--- A block's output is late by its latency and its pipeline registers. An edge into a Delay outside enabled subsystems, or into a rate transition from slow to fast, is registered: its end is behind its source in any case, and makes up for so many base samples, but for a reserve. The reserve is the period of the source where a shared operation stands in its instant cone, for it comes late in its period, and else one base sample.
+-- A block's output is late by its latency and its pipeline registers. An edge into a Delay outside enabled subsystems,
+-- or into a rate transition from slow to fast, is registered: its end is behind its source in any case, and makes up
+-- for so many base samples, but for a reserve. The reserve is the period of the source where a shared operation stands
+-- in its instant cone, for it comes late in its period, and else one base sample.
 use Rattle.std.specs.Prelude.{ℕ, ◌+◌, ◌*◌, ◌&&◌, not, nat_lt, ℤ, pos, ◌-ℤ◌, Bool, true, false, if◌then◌else◌, List, map, Option, Some, None, slice_get}
 use Rattle.dg_model.specs.declared.diagram.Diagram.{Diagram}
 use Rattle.dg_model.specs.declared.diagram.Block.{Block}

@@ -24,8 +24,13 @@ pub struct Latencies {
 /// Why there are no latencies (own).
 #[derive(Drop)]
 pub enum LatencyFault {
-    /// A cycle of edges gains `total` base samples each time round; it begins with its least block.
-    Cycle { blocks: Sizes, total: i64 },
+    /// A cycle of edges leaves none.
+    Cycle {
+        /// Its blocks, from the least on.
+        blocks: Sizes,
+        /// How many base samples it gains each time round.
+        total: i64,
+    },
     /// Memory is wanting.
     OutOfMemory,
 }
@@ -42,7 +47,7 @@ impl From<OutOfMemory> for LatencyFault {
 }
 
 /// The most edges that are numbered.
-const MOST_EDGES: usize = 4_294_967_296;
+const MOST_EDGES: usize = 1 << 32;
 
 /// The least latencies that the edges of a checked diagram leave by a plan, or a cycle of edges
 /// that leaves none. Its time is linear in the edges without feedback; more than 2^32 edges are

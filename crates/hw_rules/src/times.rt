@@ -1,11 +1,16 @@
 ghost use Rattle.std.specs.Prelude.{◌≡◌, [], IfErr, IfOk};
 ghost use Rattle.dg_model.specs.Faults.{IsRefusal, fault_of};
 ghost use Rattle.dg_model.specs.PlanOf.{IsPlanOf};
-ghost use Rattle.hw_latency.specs.Latency.{AreLatencies, BreaksLatency};
-ghost use Rattle.hw_rules.specs.Rules.{BreaksBudgetFirst, BreaksSizeFirst, BreaksTimes};
+ghost use Rattle.dg_model.specs.declared.diagram.Diagram.{Diagram};
+ghost use Rattle.dg_model.specs.declared.fault.CheckFault.TheVariants.{Broken};
+ghost use Rattle.dg_model.specs.declared.resolved.Resolved.{Resolved};
+ghost use Rattle.hw_latency.specs.Latency.{AreLatencies, IsLatencyFault};
+ghost use Rattle.hw_latency.specs.declared.latencies.Latencies.{Latencies};
+ghost use Rattle.hw_rules.specs.Rules.{BreaksTimes};
 ghost use Rattle.hw_rules.specs.Times.{AreTimes};
-ghost use Rattle.hw_sched.specs.Answer.{AreSlots, timing_of};
-ghost use Rattle.hw_sched.specs.Sizing.{IsKeptSize};
+ghost use Rattle.hw_sched.specs.Answer.{AreSlots, IsBudgetFault, timing_of};
+ghost use Rattle.hw_sched.specs.Sizing.{IsSizeFault};
+ghost use Rattle.hw_sched.specs.declared.slots.Slots.{Slots};
 
 use dg_model::{CheckFault, Checked, Resolved, Rule, RuleFault, Shown};
 use fx_io::Text;
@@ -24,77 +29,89 @@ pub struct Times {
     pub sizing: Sizing,
 }
 
-/// A fault of a rule that the whole model breaks.
-fn of_model(rule: Rule, shown: Shown) -> RuleFault
-    ensures { result ≡ fault_of rule [] shown }
+/// The refusal of a model that breaks a rule as a whole.
+fn of_model(rule: Rule, shown: Shown) -> CheckFault
+    ensures { result ≡ Broken (fault_of rule [] shown) }
 {
-    RuleFault {
+    CheckFault::Broken(RuleFault {
         rule,
         place: Text::new(),
         shown,
-    }
+    })
 }
 
-/// The latencies of blocks, or the fault of the rule of latency.
-fn latencies_in(alloc: Global, checked: &Checked, plan: &Resolved) -> Result<Latencies, CheckFault>
-    requires plan { IsPlanOf checked.now.diagram plan.now }
-    ensures least { IfOk result (AreLatencies checked.now.diagram plan.now) }
-    ensures refused { IfErr result (IsRefusal (BreaksLatency checked.now.diagram plan.now)) }
+/// The refusal of a plan that leaves no latencies.
+fn of_latency(fault: LatencyFault) -> CheckFault
+    ensures { (diagram : Diagram) (plan : Resolved) → IsLatencyFault diagram plan fault
+        → IsRefusal (BreaksTimes diagram plan) result }
 {
-    match latencies_of(alloc, checked, plan) {
-        Ok(latencies) => Ok(latencies),
-        Err(LatencyFault::Cycle { blocks, total }) => Err(CheckFault::Broken(of_model(
-            Rule::Latency,
-            Shown::Latency { blocks, total },
-        ))),
-        Err(LatencyFault::OutOfMemory) => Err(CheckFault::OutOfMemory),
+    match fault {
+        LatencyFault::Cycle { blocks, total } => {
+            of_model(Rule::Latency, Shown::Latency { blocks, total })
+        }
+        LatencyFault::OutOfMemory => CheckFault::OutOfMemory,
     }
 }
 
-/// The slots of shared operations, or the fault of the rule of budget.
-fn slots_in(
+/// The refusal of a plan by which a period has too few slots.
+fn of_budget(fault: BudgetFault) -> CheckFault
+    ensures { (diagram : Diagram) (plan : Resolved) (latencies : Latencies)
+        → IsBudgetFault diagram plan latencies fault → IsRefusal (BreaksTimes diagram plan) result }
+{
+    match fault {
+        BudgetFault::Budget { period, need, have } => {
+            of_model(Rule::Budget, Shown::Budget { period, need, have })
+        }
+        BudgetFault::OutOfMemory => CheckFault::OutOfMemory,
+    }
+}
+
+/// The refusal of a plan by which the module is too large.
+fn of_size(fault: SizeFault) -> CheckFault
+    ensures { (diagram : Diagram) (plan : Resolved) (latencies : Latencies) (slots : Slots)
+        → AreSlots diagram plan latencies slots
+        → IsSizeFault diagram plan fault (timing_of latencies slots.depths)
+        → IsRefusal (BreaksTimes diagram plan) result }
+{
+    match fault {
+        SizeFault::Size { storage, latency } => {
+            of_model(Rule::Size, Shown::Size { storage, latency })
+        }
+        SizeFault::OutOfMemory => CheckFault::OutOfMemory,
+    }
+}
+
+/// The times of a checked diagram by a plan with its latencies, or the first of the rules of budget
+/// and size that is broken, or want of memory.
+pub fn times_by(
     alloc: Global,
     checked: &Checked,
-    latencies: &Latencies,
+    latencies: Latencies,
     plan: &Resolved,
-) -> Result<Slots, CheckFault>
+) -> Result<Times, CheckFault>
     requires plan { IsPlanOf checked.now.diagram plan.now }
-    requires latencies { AreLatencies checked.now.diagram plan.now latencies.now }
-    ensures slots { IfOk result (AreSlots checked.now.diagram plan.now latencies.now) }
-    ensures refused { IfErr result (IsRefusal
-        (BreaksBudgetFirst checked.now.diagram plan.now)) }
+    requires latencies { AreLatencies checked.now.diagram plan.now latencies }
+    ensures times { IfOk result (AreTimes checked.now.diagram plan.now) }
+    ensures refused { IfErr result (IsRefusal (BreaksTimes checked.now.diagram plan.now)) }
 {
-    match slots_of(alloc, checked, latencies, plan) {
-        Ok(slots) => Ok(slots),
-        Err(BudgetFault::Budget { period, need, have }) => Err(CheckFault::Broken(of_model(
-            Rule::Budget,
-            Shown::Budget { period, need, have },
-        ))),
-        Err(BudgetFault::OutOfMemory) => Err(CheckFault::OutOfMemory),
-    }
-}
-
-/// The size of the module, or the fault of the rule of size.
-fn size_in(
-    checked: &Checked,
-    plan: &Resolved,
-    latencies: &Latencies,
-    slots: &Slots,
-) -> Result<Sizing, CheckFault>
-    requires plan { IsPlanOf checked.now.diagram plan.now }
-    requires latencies { AreLatencies checked.now.diagram plan.now latencies.now }
-    requires slots { AreSlots checked.now.diagram plan.now latencies.now slots.now }
-    ensures kept { IfOk result (λ sizing. IsKeptSize checked.now.diagram plan.now sizing
-        (timing_of latencies.now slots.now.depths)) }
-    ensures refused { IfErr result (IsRefusal (BreaksSizeFirst checked.now.diagram plan.now)) }
-{
-    match check_size(checked, plan, latencies, slots.ready.as_slice()) {
-        Ok(sizing) => Ok(sizing),
-        Err(SizeFault::Size { storage, latency }) => Err(CheckFault::Broken(of_model(
-            Rule::Size,
-            Shown::Size { storage, latency },
-        ))),
-        Err(SizeFault::OutOfMemory) => Err(CheckFault::OutOfMemory),
+    let slots = match slots_of(alloc, checked, &latencies, plan) {
+        Ok(slots) => slots,
+        Err(fault) => {
+            drop(latencies);
+            return Err(of_budget(fault));
+        }
+    };
+    match check_size(checked, plan, &latencies, slots.ready.as_slice()) {
+        Ok(sizing) => Ok(Times {
+            latencies,
+            slots,
+            sizing,
+        }),
+        Err(fault) => {
+            drop(latencies);
+            drop(slots);
+            Err(of_size(fault))
+        }
     }
 }
 
@@ -105,12 +122,8 @@ pub fn times_of(alloc: Global, checked: &Checked, plan: &Resolved) -> Result<Tim
     ensures times { IfOk result (AreTimes checked.now.diagram plan.now) }
     ensures refused { IfErr result (IsRefusal (BreaksTimes checked.now.diagram plan.now)) }
 {
-    let latencies = latencies_in(alloc, checked, plan)?;
-    let slots = slots_in(alloc, checked, &latencies, plan)?;
-    let sizing = size_in(checked, plan, &latencies, &slots)?;
-    Ok(Times {
-        latencies,
-        slots,
-        sizing,
-    })
+    match latencies_of(alloc, checked, plan) {
+        Ok(latencies) => times_by(alloc, checked, latencies, plan),
+        Err(fault) => Err(of_latency(fault)),
+    }
 }

@@ -19,7 +19,7 @@ use Rattle.hw_slots.specs.declared.operation.Operation.{Operation as Cell}
 use Rattle.hw_slots.specs.declared.operation.Span.{Span}
 use Rattle.hw_slots.specs.declared.slots.Slots.{Slots as Made}
 use Rattle.hw_slots.specs.Slots.{base_slot as base_in, levels_of as levels_in, need_of as need_in, slot_of as slot_in, unit_of as unit_in}
-use Rattle.hw_slots.specs.Answer.{AreSlots as AreMade, IsShort}
+use Rattle.hw_slots.specs.Answer.{AreSlots as AreMade, IsShort, IsSlotFault}
 use Rattle.hw_sched.specs.Slots.{Timing, Operation, shared_operations, shorter_into, start_of, base_slot, level_of, levels_of, need_of, have_of, kind_of}
 use Rattle.hw_sched.specs.Budget.{IsPeriodOf, BreaksBudget}
 use Rattle.hw_sched.specs.Scheduled.{IsTimingOf}
@@ -28,12 +28,12 @@ use Rattle.hw_sched.specs.Numbered.{all_kinds, cell_of, cells_of}
 use Rattle.hw_sched.specs.Answer.{AreSlots, IsBudgetFault, timing_of}
 use Rattle.hw_sched.specs.Level.{AreDepths}
 use Rattle.hw_sched.specs.Ready.{AreReady}
-use Rattle.hw_sched.specs.declared.slots.BudgetFault.{BudgetFault}
-use Rattle.hw_sched.specs.declared.slots.BudgetFault.TheVariants.{Budget as Short, OutOfMemory}
+use Rattle.hw_slots.specs.declared.slots.SlotFault.{SlotFault}
+use Rattle.hw_slots.specs.declared.slots.SlotFault.TheVariants.{Budget as Short, OutOfMemory}
 use Rattle.hw_latency.specs.Latency.{AreLatencies}
 use Rattle.hw_sched.specs.inner.Cells.{AreCells}
 use Rattle.hw_sched.specs.inner.Spans.{AreSpans, span_of}
-use Rattle.hw_sched.specs.inner.Served.{AreBases, IsServed, IsShortFault}
+use Rattle.hw_sched.specs.inner.Served.{AreBases, IsServed}
 use Rattle.hw_sched.specs.declared.cells.Cells.{Cells}
 use Rattle.fx_io.proofs.Places.{there_map}
 use Rattle.hw_sched.proofs.Bases.{of_shared}
@@ -204,7 +204,7 @@ module _ (diagram : Diagram) (plan : Resolved) (timing : Timing) where
 
 -- a fault of these operations is one of the diagram
 pub fault_told : (diagram : Diagram) (plan : Resolved) (latencies : Latencies) (depths : List ℕ) → IsTimingOf diagram plan (timing_of latencies depths) → (multipliers : ℕ) → (0 < plan.multipliers → multipliers ≡ plan.multipliers)
-    → (made_cells : Cells) → AreCells diagram plan (timing_of latencies depths) made_cells → (spans : List Span) → AreSpans diagram plan spans → (fault : BudgetFault) → IsShortFault made_cells.operations.items multipliers spans fault → IsBudgetFault diagram plan latencies fault
+    → (made_cells : Cells) → AreCells diagram plan (timing_of latencies depths) made_cells → (spans : List Span) → AreSpans diagram plan spans → (fault : SlotFault) → IsSlotFault made_cells.operations.items multipliers spans fault → IsBudgetFault diagram plan latencies fault
 fault_told diagram plan latencies depths timed multipliers is made_cells are spans spanned (Short period need have) short = record {
   depths = depths;
   timed = timed;

@@ -8,8 +8,8 @@ use Rattle.dg_model.specs.Attributes.{attributes_of}
 use Rattle.dg_model.specs.Faults.{fault_of}
 use Rattle.hw_latency.specs.declared.latencies.Latencies.{Latencies}
 use Rattle.hw_sched.specs.declared.slots.Slots.{Slots}
-use Rattle.hw_sched.specs.declared.slots.BudgetFault.{BudgetFault}
-use Rattle.hw_sched.specs.declared.slots.BudgetFault.TheVariants.{Budget, OutOfMemory}
+use Rattle.hw_slots.specs.declared.slots.SlotFault.{SlotFault}
+use Rattle.hw_slots.specs.declared.slots.SlotFault.TheVariants.{Budget, OutOfMemory}
 use Rattle.hw_sched.specs.Slots.{Timing, Operation, shared_operations, slot_of, unit_of}
 use Rattle.hw_sched.specs.Ready.{AreReady}
 use Rattle.hw_sched.specs.Budget.{KeepsBudget, BreaksBudget}
@@ -45,6 +45,6 @@ pub record IsBudgetTold (diagram : Diagram) (plan : Resolved) (latencies : Laten
   pub breaks : BreaksBudget diagram plan (timing_of latencies depths) (fault_of Rule.Budget [] (ShownBudget period need have))
 
 -- what is answered where there are no slots: that, or want of memory
-abbrev pub IsBudgetFault : Diagram → Resolved → Latencies → BudgetFault → Type 0
+abbrev pub IsBudgetFault : Diagram → Resolved → Latencies → SlotFault → Type 0
 IsBudgetFault diagram plan latencies (Budget period need have) = IsBudgetTold diagram plan latencies period need have
 IsBudgetFault diagram plan latencies OutOfMemory = ⊤

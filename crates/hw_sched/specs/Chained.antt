@@ -59,7 +59,8 @@ use_of diagram attributes plan timing edge source element first = record {
 -- the uses by an edge: where it is registered one for each element of the reader, else one for each element of its source's port; none by a block that shows nothing
 abbrev pub uses_by : Diagram → Attributes → Resolved → Timing → LatencyEdge → ℕ → Block → Bool → List Use
 uses_by diagram attributes plan timing edge source block true =
-    map (λ element. use_of diagram attributes plan timing edge source (repeated (attributes.width_at edge.from edge.from_port) element) (initial_at attributes edge.to block element)) (numbers_from 0 (attributes.width_at edge.to 1))
+    map (λ element. use_of diagram attributes plan timing edge source (repeated (attributes.width_at edge.from edge.from_port) element)
+    (initial_at attributes edge.to block element)) (numbers_from 0 (attributes.width_at edge.to 1))
 uses_by diagram attributes plan timing edge source block false =
     map (λ element. use_of diagram attributes plan timing edge source element None) (numbers_from 0 (attributes.width_at edge.from edge.from_port))
 

@@ -43,13 +43,17 @@ is_moving Inherited.Unchanging = false
 
 -- such a block has a period
 abbrev pub MovingHavePeriods : Type 0
-MovingHavePeriods = (diagram : Diagram) (place : ℕ) (b : Block) → IsChecked diagram → slice_get diagram.blocks place ≡ Some b → is_moving (row_of b.kind).timing.inherits ≡ true → (period : ℕ) × ((attributes_of diagram).period_at place ≡ Some period)
+MovingHavePeriods =
+    (diagram : Diagram) (place : ℕ) (b : Block) → IsChecked diagram → slice_get diagram.blocks place ≡ Some b
+    → is_moving (row_of b.kind).timing.inherits ≡ true → (period : ℕ) × ((attributes_of diagram).period_at place ≡ Some period)
 
 -- ---- depths
 
 -- two lists of depths agree on every block
 abbrev pub DepthsAreOne : Type 0
-DepthsAreOne = (diagram : Diagram) (attributes : Attributes) (plan : Resolved) (depths other : List ℕ) (place : ℕ) → AreDepths diagram attributes plan depths → AreDepths diagram attributes plan other → depth_at depths place ≡ depth_at other place
+DepthsAreOne =
+    (diagram : Diagram) (attributes : Attributes) (plan : Resolved) (depths other : List ℕ) (place : ℕ) → AreDepths diagram attributes plan depths
+    → AreDepths diagram attributes plan other → depth_at depths place ≡ depth_at other place
 
 -- ---- edges
 
@@ -97,12 +101,16 @@ pub record IsServed (diagram : Diagram) (attributes : Attributes) (plan : Resolv
   pub ready : base_slot diagram attributes plan timing period (suc (level_of timing o)) ≡ ready_of diagram attributes plan timing o.block
 
 abbrev pub OperationsAreServed : Type 0
-OperationsAreServed = (diagram : Diagram) (attributes : Attributes) (plan : Resolved) (timing : Timing) (number : ℕ) (o : Operation) (period : ℕ) → AreFed diagram attributes plan timing.fed → AreDepths diagram attributes plan timing.depths
+OperationsAreServed =
+    (diagram : Diagram) (attributes : Attributes) (plan : Resolved) (timing : Timing) (number : ℕ) (o : Operation) (period : ℕ)
+    → AreFed diagram attributes plan timing.fed → AreDepths diagram attributes plan timing.depths
     → IsOperation diagram attributes plan number o → attributes.period_at o.block ≡ Some period → IsServed diagram attributes plan timing number o period
 
 -- a shared operation is of a block of a period
 abbrev pub OperationsHavePeriods : Type 0
-OperationsHavePeriods = (diagram : Diagram) (attributes : Attributes) (plan : Resolved) (number : ℕ) (o : Operation) → IsOperation diagram attributes plan number o → (period : ℕ) × (attributes.period_at o.block ≡ Some period)
+OperationsHavePeriods =
+    (diagram : Diagram) (attributes : Attributes) (plan : Resolved) (number : ℕ) (o : Operation) → IsOperation diagram attributes plan number o
+    → (period : ℕ) × (attributes.period_at o.block ≡ Some period)
 
 -- two operations of one multiplier are of one kind, and have different slots
 pub record AreApart (diagram : Diagram) (attributes : Attributes) (plan : Resolved) (timing : Timing) (number other : ℕ) (o q : Operation) : Type 0 where
@@ -110,7 +118,9 @@ pub record AreApart (diagram : Diagram) (attributes : Attributes) (plan : Resolv
   pub slots : slot_of diagram attributes plan timing number o ≢ slot_of diagram attributes plan timing other q
 
 abbrev pub SlotsDiffer : Type 0
-SlotsDiffer = (diagram : Diagram) (attributes : Attributes) (plan : Resolved) (timing : Timing) (number other : ℕ) (o q : Operation) → number ≢ other → IsOperation diagram attributes plan number o → IsOperation diagram attributes plan other q
+SlotsDiffer =
+    (diagram : Diagram) (attributes : Attributes) (plan : Resolved) (timing : Timing) (number other : ℕ) (o q : Operation) → number ≢ other
+    → IsOperation diagram attributes plan number o → IsOperation diagram attributes plan other q
     → unit_of diagram attributes plan timing number o ≡ unit_of diagram attributes plan timing other q → AreApart diagram attributes plan timing number other o q
 
 -- an operation's multiplier is one of those that the kinds have
@@ -125,11 +135,14 @@ UnitsAreUsed = (diagram : Diagram) (attributes : Attributes) (plan : Resolved) (
 
 -- no edge ends at a root input
 abbrev pub NoneIntoRoots : Type 0
-NoneIntoRoots = (diagram : Diagram) (place : ℕ) (b : Block) (number : ℕ) (edge : LatencyEdge) → IsWired diagram → slice_get diagram.blocks place ≡ Some b → (row_of b.kind).timing.inherits ≡ Inherited.Base → IsEdge diagram number edge → edge.to ≢ place
+NoneIntoRoots =
+    (diagram : Diagram) (place : ℕ) (b : Block) (number : ℕ) (edge : LatencyEdge) → IsWired diagram → slice_get diagram.blocks place ≡ Some b
+    → (row_of b.kind).timing.inherits ≡ Inherited.Base → IsEdge diagram number edge → edge.to ≢ place
 
 -- and it is ready at once
 abbrev pub RootsAreReady : Type 0
-RootsAreReady = (diagram : Diagram) (plan : Resolved) (timing : Timing) (place : ℕ) (b : Block) → IsWired diagram → AreFed diagram (attributes_of diagram) plan timing.fed → slice_get diagram.blocks place ≡ Some b
+RootsAreReady =
+    (diagram : Diagram) (plan : Resolved) (timing : Timing) (place : ℕ) (b : Block) → IsWired diagram → AreFed diagram (attributes_of diagram) plan timing.fed → slice_get diagram.blocks place ≡ Some b
     → (row_of b.kind).timing.inherits ≡ Inherited.Base → ready_of diagram (attributes_of diagram) plan timing place ≡ 0
 
 -- ---- a diagram and a plan that keep the rules
@@ -141,12 +154,15 @@ ReadyFits = (diagram : Diagram) (plan : Resolved) (timing : Timing) (place perio
 
 -- along an instant edge an output is ready no earlier than what it is made of
 abbrev pub ReadyRises : Type 0
-ReadyRises = (diagram : Diagram) (plan : Resolved) (timing : Timing) (number : ℕ) (edge : LatencyEdge) (source : ℕ) → IsScheduled diagram plan timing → IsEdge diagram number edge → IsInstant diagram (attributes_of diagram) edge
+ReadyRises =
+    (diagram : Diagram) (plan : Resolved) (timing : Timing) (number : ℕ) (edge : LatencyEdge) (source : ℕ) → IsScheduled diagram plan timing
+    → IsEdge diagram number edge → IsInstant diagram (attributes_of diagram) edge
     → (attributes_of diagram).period_at edge.from ≡ Some source → ready_of diagram (attributes_of diagram) plan timing edge.from ≤ ready_of diagram (attributes_of diagram) plan timing edge.to
 
 -- what a shared operation reads is ready with its slot
 abbrev pub OperandsAreReady : Type 0
-OperandsAreReady = (diagram : Diagram) (plan : Resolved) (timing : Timing) (number : ℕ) (edge : LatencyEdge) (source place : ℕ) (o : Operation) → IsScheduled diagram plan timing → IsEdge diagram number edge
+OperandsAreReady =
+    (diagram : Diagram) (plan : Resolved) (timing : Timing) (number : ℕ) (edge : LatencyEdge) (source place : ℕ) (o : Operation) → IsScheduled diagram plan timing → IsEdge diagram number edge
     → (attributes_of diagram).period_at edge.from ≡ Some source → IsOperation diagram (attributes_of diagram) plan place o → o.block ≡ edge.to
     → ready_of diagram (attributes_of diagram) plan timing edge.from ≤ slot_of diagram (attributes_of diagram) plan timing place o
 
@@ -157,10 +173,14 @@ latency_after plan timing source place = latency_at timing.lat place + stages_at
 -- the end of an edge is late enough: where the edge is registered by a base sample for one register at least, and by a period of the source where that isn't ready at once
 pub record IsInTime (diagram : Diagram) (plan : Resolved) (timing : Timing) (edge : LatencyEdge) (b : Block) (source own : ℕ) : Type 0 where
   pub plain : is_registered b own source ≡ false → latency_after plan timing source edge.from ≤ latency_at timing.lat edge.to
-  pub late : is_registered b own source ≡ true → latency_after plan timing source edge.from < latency_at timing.lat edge.to + behind (row_of b.kind).timing.reads (row_of b.kind).timing.delay own source
+  pub late : is_registered b own source ≡ true
+      → latency_after plan timing source edge.from < latency_at timing.lat edge.to + behind (row_of b.kind).timing.reads (row_of b.kind).timing.delay own source
   pub whole : is_registered b own source ≡ true → 0 < ready_of diagram (attributes_of diagram) plan timing edge.from
       → latency_after plan timing source edge.from + source ≤ latency_at timing.lat edge.to + behind (row_of b.kind).timing.reads (row_of b.kind).timing.delay own source
 
 abbrev pub EdgesAreInTime : Type 0
-EdgesAreInTime = (diagram : Diagram) (plan : Resolved) (timing : Timing) (number : ℕ) (edge : LatencyEdge) (b : Block) (source own : ℕ) → IsChecked diagram → IsTimingOf diagram plan timing → IsEdge diagram number edge
-    → slice_get diagram.blocks edge.to ≡ Some b → (attributes_of diagram).period_at edge.from ≡ Some source → (attributes_of diagram).period_at edge.to ≡ Some own → IsInTime diagram plan timing edge b source own
+EdgesAreInTime =
+    (diagram : Diagram) (plan : Resolved) (timing : Timing) (number : ℕ) (edge : LatencyEdge) (b : Block) (source own : ℕ) → IsChecked diagram
+    → IsTimingOf diagram plan timing → IsEdge diagram number edge
+    → slice_get diagram.blocks edge.to ≡ Some b → (attributes_of diagram).period_at edge.from ≡ Some source
+    → (attributes_of diagram).period_at edge.to ≡ Some own → IsInTime diagram plan timing edge b source own

@@ -32,7 +32,8 @@ cells_of diagram attributes plan timing = map (cell_of diagram attributes plan t
 pub record AreNumbered (diagram : Diagram) (attributes : Attributes) (plan : Resolved) (timing : Timing) : Type 0 where
   pub needs : (period : ℕ) → need_in (cells_of diagram attributes plan timing) plan.multipliers (start_of diagram attributes plan period) period ≡ need_of diagram attributes plan timing period
   pub slots : (number : ℕ) (o : Operation) → IsOperation diagram attributes plan number o
-      → slot_in (cells_of diagram attributes plan timing) plan.multipliers (start_of diagram attributes plan (samples (attributes.period_at o.block))) number (cell_of diagram attributes plan timing o) ≡ slot_of diagram attributes plan timing number o
+      → slot_in (cells_of diagram attributes plan timing) plan.multipliers
+      (start_of diagram attributes plan (samples (attributes.period_at o.block))) number (cell_of diagram attributes plan timing o) ≡ slot_of diagram attributes plan timing number o
   pub units : (number : ℕ) (o : Operation) → IsOperation diagram attributes plan number o
       → unit_in (cells_of diagram attributes plan timing) plan.multipliers number (cell_of diagram attributes plan timing o) ≡ unit_of diagram attributes plan timing number o
 

@@ -3,10 +3,9 @@ ghost use Rattle.std.specs.Prelude.{◌≡◌, ◌<◌, ◌++◌, ◌∷◌, IfO
 ghost use Rattle.dg_model.specs.declared.diagram.Diagram.{Diagram};
 ghost use Rattle.dg_model.specs.declared.resolved.Resolved.{Resolved};
 ghost use Rattle.dg_model.specs.Attributes.{attributes_of};
-ghost use Rattle.dg_model.specs.PlanOf.{IsPlanOf};
 ghost use Rattle.hw_sched.specs.Slots.{Timing, Operation as Shared, shared_operations};
 ghost use Rattle.hw_sched.specs.Answer.{timing_of};
-ghost use Rattle.hw_sched.specs.inner.Cells.{AreCells, AreCellsBut, IsSort, shared_at};
+ghost use Rattle.hw_sched.specs.inner.Cells.{AreCells, AreCellsBut, AreKnown, IsSort, shared_at};
 
 use crate::drivers::{own_width, type_into};
 use crate::keys::KindKey;
@@ -97,9 +96,7 @@ fn put_block(
     cells: &mut Cells,
     place: u32,
 ) -> Result<(), OutOfMemory>
-    requires plan { IsPlanOf checked.now.diagram plan.now }
-    requires lat { length latencies.now.lat ≡ length checked.now.diagram.blocks }
-    requires depths { length depths.now ≡ length checked.now.diagram.blocks }
+    requires known { AreKnown checked.now.diagram plan.now latencies.now depths.now }
     requires there { place < length checked.now.diagram.blocks }
     ensures { OnOk result ((rest : List Shared)
         → AreCellsBut checked.now.diagram plan.now (timing_of latencies.now depths.now)
@@ -126,9 +123,7 @@ pub fn cells_of(
     latencies: &Latencies,
     depths: &[u64],
 ) -> Result<Cells, OutOfMemory>
-    requires plan { IsPlanOf checked.now.diagram plan.now }
-    requires lat { length latencies.now.lat ≡ length checked.now.diagram.blocks }
-    requires depths { length depths.now ≡ length checked.now.diagram.blocks }
+    requires { AreKnown checked.now.diagram plan.now latencies.now depths.now }
     ensures { IfOk result
         (AreCells checked.now.diagram plan.now (timing_of latencies.now depths.now)) }
 {

@@ -3,7 +3,7 @@ ghost use Rattle.std.specs.Prelude.{◌≡◌, ◌<◌, ◌*◌, [], Some, IfOk,
 ghost use Rattle.dg_model.specs.Attributes.{attributes_of};
 ghost use Rattle.hw_sched.specs.Answer.{timing_of};
 ghost use Rattle.hw_sched.specs.Storage.{lines_in_all as lines_in_all_of, shift_of, width_of_edge};
-ghost use Rattle.hw_sched.specs.inner.Counted.{HasLatencies, IsThere, controls_line as controls_line_of, edge_of, line_at};
+ghost use Rattle.hw_sched.specs.inner.Counted.{CanCount, HasLatencies, IsThere, controls_line as controls_line_of, edge_of, line_at};
 
 use crate::drivers::own_width;
 use crate::laws::periods_are_above;
@@ -55,8 +55,7 @@ fn line_shift(
     line: Line,
     period: u32,
 ) -> Result<u64, OutOfMemory>
-    requires timed { HasLatencies checked.now.diagram plan.now latencies.now }
-    requires there { IsThere checked.now.diagram line }
+    requires line { CanCount checked.now.diagram plan.now latencies.now line }
     requires period { (attributes_of checked.now.diagram).period_at line.from ≡ Some period }
     ensures { IfOk result (λ shift.
         shift ≡ shift_of checked.now.diagram (attributes_of checked.now.diagram) plan.now
@@ -81,8 +80,7 @@ fn line_registers(
     latencies: &Latencies,
     line: Line,
 ) -> Result<u64, OutOfMemory>
-    requires timed { HasLatencies checked.now.diagram plan.now latencies.now }
-    requires there { IsThere checked.now.diagram line }
+    requires { CanCount checked.now.diagram plan.now latencies.now line }
     ensures { IfOk result (λ count.
         count ≡ line_at checked.now.diagram (attributes_of checked.now.diagram) plan.now
         (timing_of latencies.now []) (edge_of line)) }

@@ -28,10 +28,11 @@ mod spans;
 
 pub use deepening::depths;
 pub use drivers::{own_width, width_into};
+pub use hw_slots::SlotFault as BudgetFault;
 pub use laws::{
     depths_are_one, edges_are_in_time, edges_join_periods, lines_are_edges,
     operations_are_numbered, operations_are_served, periods_are_above, ready_fits, ready_rises,
     root_inputs_are_first, slots_differ, unfed_are_ready, units_are_used,
 };
 pub use sizing::{SizeFault, Sizing, check_size};
-pub use slots::{BudgetFault, Slots, slots_of};
+pub use slots::{Slots, slots_of};

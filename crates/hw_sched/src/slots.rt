@@ -1,19 +1,18 @@
-ghost use Rattle.std.specs.Prelude.{◌≡◌, ◌<◌, ◌≤◌, IfErr, IfOk, length};
+ghost use Rattle.std.specs.Prelude.{◌≡◌, ◌<◌, IfErr, IfOk};
 ghost use Rattle.hw_latency.specs.Latency.{AreLatencies};
 ghost use Rattle.dg_model.specs.PlanOf.{IsPlanOf};
-ghost use Rattle.hw_slots.specs.Answer.{AreSlots as AreMade};
 ghost use Rattle.hw_sched.specs.Answer.{AreSlots, IsBudgetFault, timing_of};
 ghost use Rattle.hw_sched.specs.Scheduled.{IsTimingOf};
-ghost use Rattle.hw_sched.specs.inner.Served.{IsServed, IsShortFault};
+ghost use Rattle.hw_sched.specs.inner.Served.{IsServed};
 
 use crate::cells::cells_of;
 use crate::deepening::depths;
 use crate::readying::ready_of;
 use crate::spans::spans_of;
 use dg_model::{Checked, Resolved};
-use fx_io::{Longs, OutOfMemory};
+use fx_io::Longs;
 use hw_latency::Latencies;
-use hw_slots::{Operation, SlotFault, Span};
+use hw_slots::SlotFault;
 use std::alloc::Global;
 
 /// When and where shared operations are served, in order of their blocks and elements, and when
@@ -29,50 +28,6 @@ pub struct Slots {
     /// By block, how many shared blocks of its period stand one behind another at the most on
     /// instant paths that end with it.
     pub depths: Longs,
-}
-
-/// Why there are no slots (own).
-#[derive(Drop)]
-pub enum BudgetFault {
-    /// The least period whose operations need more slots than it has.
-    Budget { period: u32, need: u64, have: u64 },
-    /// Memory is wanting.
-    OutOfMemory,
-}
-
-impl From<OutOfMemory> for BudgetFault {
-    ghost use Rattle.std.specs.Prelude.{◌≡◌};
-    ghost use Rattle.hw_sched.specs.declared.slots.BudgetFault.TheVariants.{OutOfMemory};
-
-    ghost from_gives = { λ _ fault. fault ≡ OutOfMemory };
-
-    fn from(_refused: OutOfMemory) -> BudgetFault {
-        BudgetFault::OutOfMemory
-    }
-}
-
-/// The slots of operations, where spans are few.
-fn serve(
-    alloc: Global,
-    operations: &[Operation],
-    spans: &[Span],
-    multipliers: u64,
-    kinds: u64,
-) -> Result<hw_slots::Slots, BudgetFault>
-    requires some { 0 < multipliers }
-    requires few { length spans.now ≤ 4097 }
-    ensures slots { IfOk result (AreMade operations.now multipliers spans.now kinds) }
-    ensures short { IfErr result (IsShortFault operations.now multipliers spans.now) }
-{
-    match hw_slots::slots_of(alloc, operations, spans, multipliers, kinds) {
-        Ok(made) => Ok(made),
-        Err(SlotFault::Budget { period, need, have }) => Err(BudgetFault::Budget {
-            period: period as u32,
-            need,
-            have,
-        }),
-        Err(SlotFault::OutOfMemory) => Err(BudgetFault::OutOfMemory),
-    }
 }
 
 /// At most how many multipliers serve a kind; without any there is no shared operation, and any
@@ -95,7 +50,7 @@ fn served(
     latencies: &Latencies,
     depths: &[u64],
     plan: &Resolved,
-) -> Result<hw_slots::Slots, BudgetFault>
+) -> Result<hw_slots::Slots, SlotFault>
     requires plan { IsPlanOf checked.now.diagram plan.now }
     requires timed { IsTimingOf checked.now.diagram plan.now (timing_of latencies.now depths.now) }
     ensures slots { IfOk result
@@ -106,7 +61,7 @@ fn served(
     let spans = spans_of(alloc, checked, plan)?;
     let multipliers = multipliers_of(plan);
     let kinds = cells.numbers.count();
-    let made = serve(
+    let made = hw_slots::slots_of(
         alloc,
         cells.operations.as_slice(),
         spans.as_slice(),
@@ -126,7 +81,7 @@ pub fn slots_of(
     checked: &Checked,
     latencies: &Latencies,
     plan: &Resolved,
-) -> Result<Slots, BudgetFault>
+) -> Result<Slots, SlotFault>
     requires plan { IsPlanOf checked.now.diagram plan.now }
     requires latencies { AreLatencies checked.now.diagram plan.now latencies.now }
     ensures slots { IfOk result (AreSlots checked.now.diagram plan.now latencies.now) }

@@ -6,7 +6,6 @@ use Rattle.std.proofs.lemmas.List.{take_all}
 use Rattle.std.proofs.lemmas.Option.{none-some, same_Some}
 use Rattle.dg_model.specs.Widths.{greatest}
 use Rattle.hw_slots.specs.declared.operation.Operation.{Operation}
-use Rattle.hw_slots.specs.declared.tally.Rung.{Rung}
 use Rattle.hw_slots.specs.Slots.{shared_out, needed, level_after, turn_of, beside}
 use Rattle.hw_slots.specs.inner.Tally.{tally_at}
 use Rattle.hw_slots.specs.inner.Made.{AreCounts, AreTurns, AreWidths, AreLevels, AreMost}
@@ -28,13 +27,13 @@ next i = omega arith
 -- ---- what a tally says after one operation more
 
 -- a number that was raised by one where the test holds
-abbrev Puts : List (Rung × ℕ) → List (Rung × ℕ) → ℕ → ℕ → ℕ → Type 0
+abbrev Puts : List ((ℕ × ℕ) × ℕ) → List ((ℕ × ℕ) × ℕ) → ℕ → ℕ → ℕ → Type 0
 Puts old new owner level number = (other later : ℕ) → tally_at new other later ≡ cond ((owner == other) && (level == later)) number (tally_at old other later)
 
-abbrev Raises : List (Rung × ℕ) → List (Rung × ℕ) → ℕ → ℕ → ℕ → Type 0
+abbrev Raises : List ((ℕ × ℕ) × ℕ) → List ((ℕ × ℕ) × ℕ) → ℕ → ℕ → ℕ → Type 0
 Raises old new owner level number = Puts old new owner level (max (tally_at old owner level) number)
 
-put_one : (old : List (Rung × ℕ)) (owner level other later number : ℕ) (test : Bool) → ((owner == other) && (level == later)) ≡ test → number ≡ tally_at old owner level + 1 → cond test number (tally_at old other later) ≡ tally_at old other later + cond test 1 0
+put_one : (old : List ((ℕ × ℕ) × ℕ)) (owner level other later number : ℕ) (test : Bool) → ((owner == other) && (level == later)) ≡ test → number ≡ tally_at old owner level + 1 → cond test number (tally_at old other later) ≡ tally_at old other later + cond test 1 0
 put_one old owner level other later number true e is =
     let parts = and_parts (owner == other) (level == later) e in
     let a : owner ≡ other = eqb-true owner other parts.0 in
@@ -43,7 +42,7 @@ put_one old owner level other later number true e is =
     omega (arith, is, same)
 put_one old owner level other later number false e is = omega arith
 
-raise_one : (old : List (Rung × ℕ)) (owner level other later number : ℕ) (test : Bool) → ((owner == other) && (level == later)) ≡ test → cond test (max (tally_at old owner level) number) (tally_at old other later) ≡ max (tally_at old other later) (cond test number 0)
+raise_one : (old : List ((ℕ × ℕ) × ℕ)) (owner level other later number : ℕ) (test : Bool) → ((owner == other) && (level == later)) ≡ test → cond test (max (tally_at old owner level) number) (tally_at old other later) ≡ max (tally_at old other later) (cond test number 0)
 raise_one old owner level other later number true e =
     let parts = and_parts (owner == other) (level == later) e in
     let a : owner ≡ other = eqb-true owner other parts.0 in
@@ -53,10 +52,10 @@ raise_one old owner level other later number false e = omega arith
 
 -- ---- counts and turns
 
-pub counts_none : (operations : List Operation) (tally : List (Rung × ℕ)) → tally ≡ [] → AreCounts (take 0 operations) tally
-counts_none operations tally none = subst (λ (entries : List (Rung × ℕ)). AreCounts (take 0 operations) entries) (sym none) (record { are = λ kind level. refl })
+pub counts_none : (operations : List Operation) (tally : List ((ℕ × ℕ) × ℕ)) → tally ≡ [] → AreCounts (take 0 operations) tally
+counts_none operations tally none = subst (λ (entries : List ((ℕ × ℕ) × ℕ)). AreCounts (take 0 operations) entries) (sym none) (record { are = λ kind level. refl })
 
-pub counts_more : (operations : List Operation) (i : ℕ) (o : Operation) (count : ℕ) (old new : List (Rung × ℕ)) → slice_get operations i ≡ Some o → count ≡ tally_at old o.kind o.level + 1 → Puts old new o.kind o.level count → AreCounts (take i operations) old → AreCounts (take (i + 1) operations) new
+pub counts_more : (operations : List Operation) (i : ℕ) (o : Operation) (count : ℕ) (old new : List ((ℕ × ℕ) × ℕ)) → slice_get operations i ≡ Some o → count ≡ tally_at old o.kind o.level + 1 → Puts old new o.kind o.level count → AreCounts (take i operations) old → AreCounts (take (i + 1) operations) new
 counts_more operations i o count old new at is puts before = subst (λ (n : ℕ). AreCounts (take n operations) new) (next i) (record {
   are = λ kind level.
       let step = count_next (λ (q : Operation). (q.kind == kind) && (q.level == level)) operations i o at in
@@ -64,7 +63,7 @@ counts_more operations i o count old new at is puts before = subst (λ (n : ℕ)
       ∙ ap (λ (n : ℕ). n + cond ((o.kind == kind) && (o.level == level)) 1 0) (before.are kind level) ∙ sym step;
 })
 
-pub counts_end : (operations : List Operation) (i : ℕ) (tally : List (Rung × ℕ)) → length operations ≤ i → AreCounts (take i operations) tally → AreCounts operations tally
+pub counts_end : (operations : List Operation) (i : ℕ) (tally : List ((ℕ × ℕ) × ℕ)) → length operations ≤ i → AreCounts (take i operations) tally → AreCounts operations tally
 counts_end operations i tally end counts = subst (λ (os : List Operation). AreCounts os tally) (take_all i operations end) counts
 
 pub turns_none : (operations : List Operation) (turns : List ℕ) → turns ≡ [] → AreTurns operations 0 turns
@@ -89,7 +88,7 @@ grown Says operations i o x xs at size before last number q below is =
 pub grown_size : (xs : List ℕ) (x i : ℕ) → length xs ≡ i → length (xs ++ x ∷ []) ≡ i + 1
 grown_size xs x i size = omega (arith, size, length-append xs (x ∷ []))
 
-pub turns_more : (operations : List Operation) (i : ℕ) (o : Operation) (turn : ℕ) (counts : List (Rung × ℕ)) (turns : List ℕ) → slice_get operations i ≡ Some o → turn ≡ tally_at counts o.kind o.level → AreCounts (take i operations) counts → AreTurns operations i turns → AreTurns operations (i + 1) (turns ++ turn ∷ [])
+pub turns_more : (operations : List Operation) (i : ℕ) (o : Operation) (turn : ℕ) (counts : List ((ℕ × ℕ) × ℕ)) (turns : List ℕ) → slice_get operations i ≡ Some o → turn ≡ tally_at counts o.kind o.level → AreCounts (take i operations) counts → AreTurns operations i turns → AreTurns operations (i + 1) (turns ++ turn ∷ [])
 turns_more operations i o turn counts turns at is count_cons before = record {
   size = grown_size turns turn i before.size;
   are = λ number q below there. grown (λ n p r. r ≡ Some (turn_of operations n p)) operations i o turn turns at before.size (λ n p less is. before.are n p less is) (ap Some (is ∙ count_cons.are o.kind o.level)) number q below there;
@@ -101,13 +100,13 @@ turns_end operations i turns end made = subst (λ (n : ℕ). AreTurns operations
 -- ---- greatest numbers
 
 -- a tally has the greatest number of those that the first operations give, at each level of each owner
-pub record AreGreatest (operations : List Operation) (f : ℕ → ℕ → Operation → ℕ) (tally : List (Rung × ℕ)) : Type 0 where
+pub record AreGreatest (operations : List Operation) (f : ℕ → ℕ → Operation → ℕ) (tally : List ((ℕ × ℕ) × ℕ)) : Type 0 where
   pub are : (owner level : ℕ) → tally_at tally owner level ≡ greatest (map (f owner level) operations)
 
-pub greatest_none : (operations : List Operation) (f : ℕ → ℕ → Operation → ℕ) (tally : List (Rung × ℕ)) → tally ≡ [] → AreGreatest (take 0 operations) f tally
+pub greatest_none : (operations : List Operation) (f : ℕ → ℕ → Operation → ℕ) (tally : List ((ℕ × ℕ) × ℕ)) → tally ≡ [] → AreGreatest (take 0 operations) f tally
 greatest_none operations f tally none = subst (AreGreatest (take 0 operations) f) (sym none) (record { are = λ owner level. refl })
 
-pub greatest_more : (operations : List Operation) (f : ℕ → ℕ → Operation → ℕ) (i : ℕ) (o : Operation) (owner level number : ℕ) (old new : List (Rung × ℕ)) → slice_get operations i ≡ Some o
+pub greatest_more : (operations : List Operation) (f : ℕ → ℕ → Operation → ℕ) (i : ℕ) (o : Operation) (owner level number : ℕ) (old new : List ((ℕ × ℕ) × ℕ)) → slice_get operations i ≡ Some o
     → ((other later : ℕ) → f other later o ≡ cond ((owner == other) && (level == later)) number 0) → Raises old new owner level number → AreGreatest (take i operations) f old → AreGreatest (take (i + 1) operations) f new
 greatest_more operations f i o owner level number old new at gives raises before = record {
   are = λ other later.
@@ -117,10 +116,10 @@ greatest_more operations f i o owner level number old new at gives raises before
       ∙ sym (greatest_next (f other later) operations i o at);
 }
 
-pub greatest_end : (operations : List Operation) (f : ℕ → ℕ → Operation → ℕ) (i : ℕ) (tally : List (Rung × ℕ)) → length operations ≤ i → AreGreatest (take i operations) f tally → AreGreatest operations f tally
+pub greatest_end : (operations : List Operation) (f : ℕ → ℕ → Operation → ℕ) (i : ℕ) (tally : List ((ℕ × ℕ) × ℕ)) → length operations ≤ i → AreGreatest (take i operations) f tally → AreGreatest operations f tally
 greatest_end operations f i tally end made = subst (λ (os : List Operation). AreGreatest os f tally) (take_all i operations end) made
 
-pub slots_given : (operations : List Operation) (multipliers : ℕ) (counts : List (Rung × ℕ)) (o : Operation) (count slots : ℕ) → AreCounts operations counts → count ≡ tally_at counts o.kind o.level → slots ≡ shared_out count multipliers
+pub slots_given : (operations : List Operation) (multipliers : ℕ) (counts : List ((ℕ × ℕ) × ℕ)) (o : Operation) (count slots : ℕ) → AreCounts operations counts → count ≡ tally_at counts o.kind o.level → slots ≡ shared_out count multipliers
     → (other later : ℕ) → needed operations multipliers other later o ≡ cond ((o.period == other) && (o.level == later)) slots 0
 slots_given operations multipliers counts o count slots count_cons is shared other later =
     ap (λ (n : ℕ). cond ((o.period == other) && (o.level == later)) n 0) (ap (λ (n : ℕ). shared_out n multipliers) (sym (count_cons.are o.kind o.level)) ∙ ap (λ (n : ℕ). shared_out n multipliers) (sym is) ∙ sym shared)
@@ -152,14 +151,14 @@ firsts_given f o owner number gives other (suc later) = later_given owner other 
 pub levels_given : (o : Operation) (after : ℕ) → after ≡ o.level + 1 → (other : ℕ) → level_after other o ≡ cond (o.period == other) after 0
 levels_given o after is other = ap (λ (n : ℕ). cond (o.period == other) n 0) (sym is)
 
-pub most_given : (operations : List Operation) (counts : List (Rung × ℕ)) (o : Operation) (count : ℕ) → AreCounts operations counts → count ≡ tally_at counts o.kind o.level → (other : ℕ) → beside operations other o ≡ cond (o.kind == other) count 0
+pub most_given : (operations : List Operation) (counts : List ((ℕ × ℕ) × ℕ)) (o : Operation) (count : ℕ) → AreCounts operations counts → count ≡ tally_at counts o.kind o.level → (other : ℕ) → beside operations other o ≡ cond (o.kind == other) count 0
 most_given operations counts o count count_cons is other = ap (λ (n : ℕ). cond (o.kind == other) n 0) (sym (count_cons.are o.kind o.level) ∙ sym is)
 
-pub are_widths : (operations : List Operation) (multipliers : ℕ) (tally : List (Rung × ℕ)) → AreGreatest operations (needed operations multipliers) tally → AreWidths operations multipliers tally
+pub are_widths : (operations : List Operation) (multipliers : ℕ) (tally : List ((ℕ × ℕ) × ℕ)) → AreGreatest operations (needed operations multipliers) tally → AreWidths operations multipliers tally
 are_widths operations multipliers tally made = record { are = made.are }
 
-pub are_levels : (operations : List Operation) (tally : List (Rung × ℕ)) → AreGreatest operations (at_first level_after) tally → AreLevels operations tally
+pub are_levels : (operations : List Operation) (tally : List ((ℕ × ℕ) × ℕ)) → AreGreatest operations (at_first level_after) tally → AreLevels operations tally
 are_levels operations tally made = record { are = λ period. made.are period 0 }
 
-pub are_most : (operations : List Operation) (tally : List (Rung × ℕ)) → AreGreatest operations (at_first (beside operations)) tally → AreMost operations tally
+pub are_most : (operations : List Operation) (tally : List ((ℕ × ℕ) × ℕ)) → AreGreatest operations (at_first (beside operations)) tally → AreMost operations tally
 are_most operations tally made = record { are = λ kind. made.are kind 0 }

@@ -9,7 +9,6 @@ use Rattle.dg_model.specs.Widths.{greatest}
 use Rattle.hw_slots.specs.declared.bases.Bases.{Bases}
 use Rattle.hw_slots.specs.declared.operation.Operation.{Operation}
 use Rattle.hw_slots.specs.declared.operation.Span.{Span}
-use Rattle.hw_slots.specs.declared.tally.Rung.{Rung}
 use Rattle.hw_slots.specs.Slots.{count_at, shared_out, needed, level_width, level_after, levels_of, base_slot, need_of, turn_of, slot_of, units_of_kind, first_unit, unit_of}
 use Rattle.hw_slots.specs.Answer.{AreStarts, AreUnits, AreBaseSlots, HasSlots, IsShort}
 use Rattle.hw_slots.specs.inner.Tally.{tally_at}
@@ -31,19 +30,19 @@ elsewhere owner other level later number before differ = cond-false ((owner == o
 there : (owner level number before : ℕ) → cond ((owner == owner) && (level == level)) number before ≡ number
 there owner level number before = cond-true ((owner == owner) && (level == level)) number before (and_from (owner == owner) (level == level) (eq-eqb owner owner refl) (eq-eqb level level refl))
 
-abbrev Puts : List (Rung × ℕ) → List (Rung × ℕ) → ℕ → ℕ → ℕ → Type 0
+abbrev Puts : List ((ℕ × ℕ) × ℕ) → List ((ℕ × ℕ) × ℕ) → ℕ → ℕ → ℕ → Type 0
 Puts old new owner level number = (other later : ℕ) → tally_at new other later ≡ cond ((owner == other) && (level == later)) number (tally_at old other later)
 
-pub bases_none : (widths tally : List (Rung × ℕ)) (start period : ℕ) → AreBasesBy widths start period 0 tally
+pub bases_none : (widths tally : List ((ℕ × ℕ) × ℕ)) (start period : ℕ) → AreBasesBy widths start period 0 tally
 bases_none widths tally start period = record { are = λ level below. absurd (omega (arith, below)) }
 
-pub base_none : (widths : List (Rung × ℕ)) (start period : ℕ) → start ≡ base_by widths start period 0
+pub base_none : (widths : List ((ℕ × ℕ) × ℕ)) (start period : ℕ) → start ≡ base_by widths start period 0
 base_none widths start period = omega arith
 
-pub base_more : (widths : List (Rung × ℕ)) (start period level slot width after : ℕ) → slot ≡ base_by widths start period level → width ≡ tally_at widths period level → after ≡ slot + width → after ≡ base_by widths start period (level + 1)
+pub base_more : (widths : List ((ℕ × ℕ) × ℕ)) (start period level slot width after : ℕ) → slot ≡ base_by widths start period level → width ≡ tally_at widths period level → after ≡ slot + width → after ≡ base_by widths start period (level + 1)
 base_more widths start period level slot width after is wide sum = omega (arith, is, wide, sum, sum_next (tally_at widths period) level)
 
-pub bases_more : (widths old new : List (Rung × ℕ)) (start period level slot : ℕ) → slot ≡ base_by widths start period level → Puts old new period level slot → AreBasesBy widths start period level old → AreBasesBy widths start period (level + 1) new
+pub bases_more : (widths old new : List ((ℕ × ℕ) × ℕ)) (start period level slot : ℕ) → slot ≡ base_by widths start period level → Puts old new period level slot → AreBasesBy widths start period level old → AreBasesBy widths start period (level + 1) new
 bases_more widths old new start period level slot is puts before = record {
   are = λ other below.
       elim (cases_lt other level) [
@@ -54,10 +53,10 @@ bases_more widths old new start period level slot is puts before = record {
       ];
 }
 
-pub elsewhere_none : (period : ℕ) (tally : List (Rung × ℕ)) → IsElsewhere period tally tally
+pub elsewhere_none : (period : ℕ) (tally : List ((ℕ × ℕ) × ℕ)) → IsElsewhere period tally tally
 elsewhere_none period tally = record { same = λ other level below. refl }
 
-pub elsewhere_more : (period level slot : ℕ) (first old new : List (Rung × ℕ)) → Puts old new period level slot → IsElsewhere period first old → IsElsewhere period first new
+pub elsewhere_more : (period level slot : ℕ) (first old new : List ((ℕ × ℕ) × ℕ)) → Puts old new period level slot → IsElsewhere period first old → IsElsewhere period first new
 elsewhere_more period level slot first old new puts before = record {
   same = λ other later below.
       puts other later ∙ elsewhere period other level later slot (tally_at old other later) (λ e. omega (arith, e, below)) ∙ before.same other later below;
@@ -65,19 +64,19 @@ elsewhere_more period level slot first old new puts before = record {
 
 -- ---- all periods
 
-based : (operations : List Operation) (multipliers : ℕ) (widths : List (Rung × ℕ)) (start period level : ℕ) → AreWidths operations multipliers widths → base_by widths start period level ≡ base_slot operations multipliers start period level
+based : (operations : List Operation) (multipliers : ℕ) (widths : List ((ℕ × ℕ) × ℕ)) (start period level : ℕ) → AreWidths operations multipliers widths → base_by widths start period level ≡ base_slot operations multipliers start period level
 based operations multipliers widths start period level wide =
     let same = sums_same (tally_at widths period) (level_width operations multipliers period) (numbers_from 0 level) (wide.are period) in
     omega (arith, same)
 
-pub needs : (operations : List Operation) (multipliers : ℕ) (widths levels : List (Rung × ℕ)) (start period count need : ℕ) → AreWidths operations multipliers widths → AreLevels operations levels → count ≡ tally_at levels period 0 → need ≡ base_by widths start period count → need ≡ need_of operations multipliers start period
+pub needs : (operations : List Operation) (multipliers : ℕ) (widths levels : List ((ℕ × ℕ) × ℕ)) (start period count need : ℕ) → AreWidths operations multipliers widths → AreLevels operations levels → count ≡ tally_at levels period 0 → need ≡ base_by widths start period count → need ≡ need_of operations multipliers start period
 needs operations multipliers widths levels start period count need wide many is sum =
     sum ∙ based operations multipliers widths start period count wide ∙ ap (base_slot operations multipliers start period) (is ∙ many.are period)
 
-pub laid_none : (operations : List Operation) (multipliers : ℕ) (periods : List Span) (tally : List (Rung × ℕ)) → AreLaid operations multipliers periods 0 tally
+pub laid_none : (operations : List Operation) (multipliers : ℕ) (periods : List Span) (tally : List ((ℕ × ℕ) × ℕ)) → AreLaid operations multipliers periods 0 tally
 laid_none operations multipliers periods tally = record { bases = λ period span below at. absurd (omega (arith, below)); keeps = λ period span below at. absurd (omega (arith, below)) }
 
-pub laid_more : (operations : List Operation) (multipliers : ℕ) (periods : List Span) (widths levels old new : List (Rung × ℕ)) (place : ℕ) (span : Span) (count need : ℕ) → slice_get periods place ≡ Some span
+pub laid_more : (operations : List Operation) (multipliers : ℕ) (periods : List Span) (widths levels old new : List ((ℕ × ℕ) × ℕ)) (place : ℕ) (span : Span) (count need : ℕ) → slice_get periods place ≡ Some span
     → AreWidths operations multipliers widths → AreLevels operations levels → count ≡ tally_at levels place 0 → need ≡ base_by widths span.start place count → AreBasesBy widths span.start place (count + 1) new → IsElsewhere place old new → need ≤ span.have
     → AreLaid operations multipliers periods place old → AreLaid operations multipliers periods (place + 1) new
 laid_more operations multipliers periods widths levels old new place span count need at wide many is sum made other keeps before = record {
@@ -101,7 +100,7 @@ laid_more operations multipliers periods widths levels old new place span count 
   ];
 }
 
-pub is_short : (operations : List Operation) (multipliers : ℕ) (periods : List Span) (widths levels old : List (Rung × ℕ)) (place : ℕ) (span : Span) (count need : ℕ) → slice_get periods place ≡ Some span
+pub is_short : (operations : List Operation) (multipliers : ℕ) (periods : List Span) (widths levels old : List ((ℕ × ℕ) × ℕ)) (place : ℕ) (span : Span) (count need : ℕ) → slice_get periods place ≡ Some span
     → AreWidths operations multipliers widths → AreLevels operations levels → count ≡ tally_at levels place 0 → need ≡ base_by widths span.start place count → span.have < need → AreLaid operations multipliers periods place old → IsShort operations multipliers periods place need span.have
 is_short operations multipliers periods widths levels old place span count need at wide many is sum short before = record {
   span = span;
@@ -163,18 +162,18 @@ bases_end operations multipliers periods bases laid many = record {
       ap (λ (n : ℕ). tally_at bases.firsts period (min level n)) few ∙ made ∙ base_stays operations multipliers span.start period level;
 }
 
-pub laid_end : (operations : List Operation) (multipliers : ℕ) (periods : List Span) (tally : List (Rung × ℕ)) → AreLaid operations multipliers periods (length periods) tally → (period : ℕ) → HasSlots operations multipliers periods period
+pub laid_end : (operations : List Operation) (multipliers : ℕ) (periods : List Span) (tally : List ((ℕ × ℕ) × ℕ)) → AreLaid operations multipliers periods (length periods) tally → (period : ℕ) → HasSlots operations multipliers periods period
 laid_end operations multipliers periods tally made period span at = made.keeps period span (slice_get_within periods period span at) at
 
 -- ---- the multipliers of kinds
 
-pub firsts_none : (most : List (Rung × ℕ)) (multipliers : ℕ) (tally : List (Rung × ℕ)) → AreFirstBy most multipliers 0 tally
+pub firsts_none : (most : List ((ℕ × ℕ) × ℕ)) (multipliers : ℕ) (tally : List ((ℕ × ℕ) × ℕ)) → AreFirstBy most multipliers 0 tally
 firsts_none most multipliers tally = record { are = λ kind below. absurd (omega (arith, below)) }
 
-pub first_more : (most : List (Rung × ℕ)) (multipliers kind first units after : ℕ) → first ≡ first_by most multipliers kind → units ≡ min multipliers (tally_at most kind 0) → after ≡ first + units → after ≡ first_by most multipliers (kind + 1)
+pub first_more : (most : List ((ℕ × ℕ) × ℕ)) (multipliers kind first units after : ℕ) → first ≡ first_by most multipliers kind → units ≡ min multipliers (tally_at most kind 0) → after ≡ first + units → after ≡ first_by most multipliers (kind + 1)
 first_more most multipliers kind first units after is one sum = omega (arith, is, one, sum, sum_next (λ (other : ℕ). min multipliers (tally_at most other 0)) kind)
 
-pub firsts_more : (most old new : List (Rung × ℕ)) (multipliers kind first : ℕ) → first ≡ first_by most multipliers kind → Puts old new kind 0 first → AreFirstBy most multipliers kind old → AreFirstBy most multipliers (kind + 1) new
+pub firsts_more : (most old new : List ((ℕ × ℕ) × ℕ)) (multipliers kind first : ℕ) → first ≡ first_by most multipliers kind → Puts old new kind 0 first → AreFirstBy most multipliers kind old → AreFirstBy most multipliers (kind + 1) new
 firsts_more most old new multipliers kind first is puts before = record {
   are = λ other below.
       elim (cases_lt other kind) [
@@ -185,7 +184,7 @@ firsts_more most old new multipliers kind first is puts before = record {
       ];
 }
 
-pub firsts_end : (operations : List Operation) (multipliers kinds : ℕ) (most tally : List (Rung × ℕ)) → AreMost operations most → AreFirstBy most multipliers kinds tally → AreFirst operations multipliers kinds tally
+pub firsts_end : (operations : List Operation) (multipliers kinds : ℕ) (most tally : List ((ℕ × ℕ) × ℕ)) → AreMost operations most → AreFirstBy most multipliers kinds tally → AreFirst operations multipliers kinds tally
 firsts_end operations multipliers kinds most tally many made = record {
   are = λ kind below.
       made.are kind below ∙ sums_same (λ (other : ℕ). min multipliers (tally_at most other 0)) (units_of_kind operations multipliers) (numbers_from 0 kind) (λ k. ap (min multipliers) (many.are k));
@@ -215,7 +214,7 @@ level_below operations i o at =
     let e : level_after o.period o ≡ o.level + 1 = cond-true (o.period == o.period) (o.level + 1) 0 (eq-eqb o.period o.period refl) in
     omega (arith, most, e)
 
-pub starts_more : (operations : List Operation) (multipliers : ℕ) (periods : List Span) (bases : List (Rung × ℕ)) (turns starts : List ℕ) (i base start : ℕ) → i < length operations
+pub starts_more : (operations : List Operation) (multipliers : ℕ) (periods : List Span) (bases : List ((ℕ × ℕ) × ℕ)) (turns starts : List ℕ) (i base start : ℕ) → i < length operations
     → base ≡ tally_at bases (get_or operations i none).period (get_or operations i none).level → start ≡ base + get_or turns i 0 / multipliers
     → AreTurns operations (length operations) turns → AreLaid operations multipliers periods (length periods) bases → AreStarts operations multipliers periods i starts → AreStarts operations multipliers periods (i + 1) (starts ++ start ∷ [])
 starts_more operations multipliers periods bases turns starts i base start inside is sum turned laid before =
@@ -234,7 +233,7 @@ starts_more operations multipliers periods bases turns starts i base start insid
 pub units_none : (operations : List Operation) (multipliers kinds : ℕ) (units : List ℕ) → units ≡ [] → AreUnits operations multipliers kinds 0 units
 units_none operations multipliers kinds units none = subst (AreUnits operations multipliers kinds 0) (sym none) (record { size = refl; are = λ number o below at is. absurd (omega (arith, below)) })
 
-pub units_more : (operations : List Operation) (multipliers kinds : ℕ) (firsts : List (Rung × ℕ)) (turns units : List ℕ) (i first unit : ℕ) → i < length operations → first ≡ tally_at firsts (get_or operations i none).kind 0 → unit ≡ first + get_or turns i 0 % multipliers
+pub units_more : (operations : List Operation) (multipliers kinds : ℕ) (firsts : List ((ℕ × ℕ) × ℕ)) (turns units : List ℕ) (i first unit : ℕ) → i < length operations → first ≡ tally_at firsts (get_or operations i none).kind 0 → unit ≡ first + get_or turns i 0 % multipliers
     → AreTurns operations (length operations) turns → AreFirst operations multipliers kinds firsts → AreUnits operations multipliers kinds i units → AreUnits operations multipliers kinds (i + 1) (units ++ unit ∷ [])
 units_more operations multipliers kinds firsts turns units i first unit inside is sum turned begun before =
     let o : Operation = get_or operations i none in

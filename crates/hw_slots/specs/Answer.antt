@@ -13,7 +13,8 @@ use Rattle.hw_slots.specs.inner.Tally.{tally_at}
 -- the slots of the first operations
 pub record AreStarts (operations : List Operation) (multipliers : ℕ) (periods : List Span) (count : ℕ) (starts : List ℕ) : Type 0 where
   pub size : length starts ≡ count
-  pub are : (number : ℕ) (o : Operation) (span : Span) → number < count → slice_get operations number ≡ Some o → slice_get periods o.period ≡ Some span → slice_get starts number ≡ Some (slot_of operations multipliers span.start number o)
+  pub are : (number : ℕ) (o : Operation) (span : Span) → number < count → slice_get operations number ≡ Some o
+      → slice_get periods o.period ≡ Some span → slice_get starts number ≡ Some (slot_of operations multipliers span.start number o)
 
 -- the multipliers of the first operations, where kinds have numbers below this one
 pub record AreUnits (operations : List Operation) (multipliers kinds count : ℕ) (units : List ℕ) : Type 0 where

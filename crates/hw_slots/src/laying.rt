@@ -52,11 +52,11 @@ pub fn bases_of(
         let period = place as u64;
         let need = lay_out(&mut bases, widths, period, levels.get(period, 0), start)?;
         if need > have {
-            return Err(SlotFault::Budget {
-                period: place,
-                need,
-                have,
-            });
+            let Ok(period) = u32::try_from(place) else {
+                // word: the number of a period, of 32 bits
+                return Err(SlotFault::OutOfMemory);
+            };
+            return Err(SlotFault::Budget { period, need, have });
         }
     }
     Ok(bases)

@@ -1,6 +1,6 @@
-ghost use Rattle.std.specs.Prelude.{◌<◌, IfOk, length};
+ghost use Rattle.std.specs.Prelude.{IfOk, length};
 ghost use Rattle.hw_slots.specs.Answer.{AreStarts, AreUnits};
-ghost use Rattle.hw_slots.specs.inner.Made.{AreFirst, AreLaid, AreTurns};
+ghost use Rattle.hw_slots.specs.inner.Made.{AreFirst, AreLaid, CanPlace};
 
 use crate::operation::{Operation, Span};
 use crate::tally::{Tally, total};
@@ -16,8 +16,7 @@ pub fn starts_of(
     turns: &[u64],
     bases: &Tally,
 ) -> Result<Longs, OutOfMemory>
-    requires some { 0 < multipliers }
-    requires turns { AreTurns operations.now (length operations.now) turns.now }
+    requires turns { CanPlace operations.now multipliers turns.now }
     requires bases { AreLaid operations.now multipliers periods.now (length periods.now) bases.now }
     ensures { IfOk result (λ starts.
         AreStarts operations.now multipliers periods.now (length operations.now) starts) }
@@ -41,8 +40,7 @@ pub fn units_of(
     turns: &[u64],
     firsts: &Tally,
 ) -> Result<Longs, OutOfMemory>
-    requires some { 0 < multipliers }
-    requires turns { AreTurns operations.now (length operations.now) turns.now }
+    requires turns { CanPlace operations.now multipliers turns.now }
     requires firsts { AreFirst operations.now multipliers kinds firsts.now }
     ensures { IfOk result (λ units.
         AreUnits operations.now multipliers kinds (length operations.now) units) }

@@ -28,8 +28,8 @@ pub struct Slots {
 #[derive(Drop)]
 pub enum SlotFault {
     /// The first period whose operations need more slots than it has.
-    Budget { period: usize, need: u64, have: u64 },
-    /// Memory is wanting, or a number is 2^64 or more.
+    Budget { period: u32, need: u64, have: u64 },
+    /// Memory is wanting, a period's number is 2^32 or more, or another number is 2^64 or more.
     OutOfMemory,
 }
 
@@ -67,26 +67,28 @@ fn bases_by(
     bases
 }
 
-/// The multiplier of each operation, by their turns.
-fn units_by(
-    alloc: Global,
-    operations: &[Operation],
-    multipliers: u64,
-    kinds: u64,
-    made: &Turns,
-) -> Result<Longs, OutOfMemory>
-    requires { CanServe operations.now multipliers made.now }
-    ensures { IfOk result (λ units.
-        AreUnits operations.now multipliers kinds (length operations.now) units) }
-{
-    let most = most_of(alloc, operations, &made.counts)?;
-    let firsts = firsts_of(alloc, &most, multipliers, kinds);
-    drop(most);
-    let firsts = firsts?;
-    let turns = made.turns.as_slice();
-    let units = units_of(alloc, operations, multipliers, kinds, turns, &firsts);
-    drop(firsts);
-    units
+impl Turns {
+    /// The multiplier of each operation, where each of `kinds` kinds has at most so many.
+    fn units(
+        &self,
+        alloc: Global,
+        operations: &[Operation],
+        multipliers: u64,
+        kinds: u64,
+    ) -> Result<Longs, OutOfMemory>
+        requires { CanServe operations.now multipliers self.now }
+        ensures { IfOk result (λ units.
+            AreUnits operations.now multipliers kinds (length operations.now) units) }
+    {
+        let most = most_of(alloc, operations, &self.counts)?;
+        let firsts = firsts_of(alloc, &most, multipliers, kinds);
+        drop(most);
+        let firsts = firsts?;
+        let turns = self.turns.as_slice();
+        let units = units_of(alloc, operations, multipliers, kinds, turns, &firsts);
+        drop(firsts);
+        units
+    }
 }
 
 /// When and where operations are served, by their turns.
@@ -113,7 +115,7 @@ fn slots_by(
         &levels,
     )?;
     let starts = starts_of(alloc, operations, periods, multipliers, turns, &bases)?;
-    let units = units_by(alloc, operations, multipliers, kinds, made)?;
+    let units = made.units(alloc, operations, multipliers, kinds)?;
     let bases = Bases::new(bases, levels);
     Ok(Slots {
         starts,

@@ -7,25 +7,17 @@ use std::alloc::Global;
 use std::collections::BTreeMap;
 use std::marker::Model;
 
-/// A level of a kind or of a period.
-#[derive(Clone, Copy, PartialEq, Eq, PartialOrd, Ord)]
-pub struct Rung {
-    pub owner: u64,
-    pub level: u64,
-}
-
 /// A number at each level of kinds or of periods, 0 where none was put (own). Contracts see the
-/// entries.
+/// entries, by owner and level.
 #[derive(Drop)]
 pub struct Tally {
-    by_rung: BTreeMap<Rung, u64>,
+    by_rung: BTreeMap<(u64, u64), u64>,
 }
 
 impl Model for Tally {
     ghost use Rattle.std.specs.Prelude.{ℕ, List};
-    ghost use Rattle.hw_slots.specs.declared.tally.Rung.{Rung};
 
-    ghost Value = { List (Rung × ℕ) };
+    ghost Value = { List ((ℕ × ℕ) × ℕ) };
 
     ghost view = { λ tally. tally.by_rung.entries };
 }
@@ -44,8 +36,7 @@ impl Tally {
     pub fn get(&self, owner: u64, level: u64) -> u64
         ensures { result ≡ tally_at self.now owner level }
     {
-        let rung = Rung { owner, level };
-        self.by_rung.get(&rung).copied().unwrap_or(0)
+        self.by_rung.get(&(owner, level)).copied().unwrap_or(0)
     }
 
     /// Puts a number there, in place of any that it had.
@@ -54,8 +45,7 @@ impl Tally {
             ≡ (if (owner == other) && (level == later) then number
             else tally_at self.old other later)) }
     {
-        let rung = Rung { owner, level };
-        let _ = self.by_rung.insert(rung, number)?;
+        let _ = self.by_rung.insert((owner, level), number)?;
         Ok(())
     }
 

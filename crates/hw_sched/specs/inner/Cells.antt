@@ -3,6 +3,8 @@ use Rattle.std.specs.Prelude.{◌≡◌, ℕ, nat_lt, if◌then◌else◌, List,
 use Rattle.dg_model.specs.declared.diagram.Diagram.{Diagram}
 use Rattle.dg_model.specs.declared.resolved.Resolved.{Resolved}
 use Rattle.dg_model.specs.Attributes.{attributes_of}
+use Rattle.dg_model.specs.PlanOf.{IsPlanOf}
+use Rattle.hw_latency.specs.declared.latencies.Latencies.{Latencies}
 use Rattle.hw_latency.specs.Shared.{is_shared}
 use Rattle.hw_latency.specs.Weight.{samples}
 use Rattle.hw_sched.specs.declared.cells.Cells.{Cells}
@@ -20,6 +22,12 @@ number_in kinds kind = if nat_lt 0 (count_by (is_same_kind kind) kinds) then Som
 pub record AreKinds (kinds : List OperationKind) (numbers : KindNumbers) : Type 0 where
   pub found : (kind : OperationKind) → number_at numbers.by_kind.entries kind ≡ number_in kinds kind
   pub count : numbers.count ≡ length kinds
+
+-- what operations are numbered by: a plan of the diagram, and a latency and a depth of each block
+pub record AreKnown (diagram : Diagram) (by : Resolved) (late : Latencies) (deep : List ℕ) : Type 0 where
+  pub plan : IsPlanOf diagram by
+  pub lat : length late.lat ≡ length diagram.blocks
+  pub depths : length deep ≡ length diagram.blocks
 
 -- this is what the operations of a block have in common
 pub record IsSort (diagram : Diagram) (timing : Timing) (place : ℕ) (sort : Sort) : Type 0 where

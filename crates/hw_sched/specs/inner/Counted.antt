@@ -41,6 +41,11 @@ pub record IsThere (diagram : Diagram) (line : Line) : Type 0 where
   pub port : 1 ≤ line.from_port
   pub width : line.from_port - 1 < length (slice_index_or (widths_of diagram) line.from [])
 
+-- its registers are counted by a plan and its latencies
+pub record CanCount (diagram : Diagram) (plan : Resolved) (latencies : Latencies) (line : Line) : Type 0 where
+  pub timed : HasLatencies diagram plan latencies
+  pub there : IsThere diagram line
+
 -- the registers of an edge's line
 abbrev pub line_at : Diagram → Attributes → Resolved → Timing → LatencyEdge → ℕ
 line_at diagram attributes plan timing edge = line_of diagram attributes plan timing edge (attributes.period_at edge.from)

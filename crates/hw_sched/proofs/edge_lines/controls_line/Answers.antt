@@ -10,11 +10,14 @@ use Rattle.std.proofs.lemmas.Result.{IfOk-weaker}
 use Rattle.hw_sched.proofs.Widths.{control_line_there}
 use Rattle.hw_sched.proofs.edge_lines.controls_line.Goals as goal
 
-pub line_registers-requires-clause-there : goal.line_registers-requires-clause-there
-line_registers-requires-clause-there c =
+pub line_registers-requires : goal.line_registers-requires
+line_registers-requires c =
     let block = c.block_at.result.now in
     let control = control_parts (asks_ever (row_of block.kind).timing.asks) block.enable c.in-Some.control (sym c.control_of.ensures ∙ c.in-Some.is) in
-    control_line_there c.args.checked.now.diagram c.keeps_rules.ensures.checked c.args.place c.in-Some.control block c.block_at.ensures control.1
+    record {
+      timed = c.requires.timed;
+      there = control_line_there c.args.checked.now.diagram c.keeps_rules.ensures.checked c.args.place c.in-Some.control block c.block_at.ensures control.1;
+    }
 
 pub returns-in_default : goal.returns-in_default
 returns-in_default c =

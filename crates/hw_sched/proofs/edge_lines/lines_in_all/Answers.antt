@@ -13,10 +13,13 @@ use Rattle.hw_sched.proofs.edge_lines.lines_in_all.Goals as goal
 abbrev none : Edge
 none = record { from = 0; from_port = 0; to = 0; to_port = 0 }
 
-pub line_registers-requires-clause-there : goal.line_registers-requires-clause-there
-line_registers-requires-clause-there c =
+pub line_registers-requires : goal.line_registers-requires
+line_registers-requires c =
     let es = c.as_slice-edges.ensures ∙ ap (λ (d : Diagram). d.edges) c.diagram-diagram.ensures in
-    line_there c.args.checked.now.diagram c.keeps_rules.ensures.checked c.loop-edge.edge-index _ (item_read c.args.checked.now.diagram.edges c.as_slice-edges.result.now c.loop-edge.edge-index none es c.loop-edge-test.true)
+    record {
+      timed = c.requires;
+      there = line_there c.args.checked.now.diagram c.keeps_rules.ensures.checked c.loop-edge.edge-index _ (item_read c.args.checked.now.diagram.edges c.as_slice-edges.result.now c.loop-edge.edge-index none es c.loop-edge-test.true);
+    }
 
 pub loop-place-preserved : goal.loop-place-preserved
 loop-place-preserved c =
