@@ -1,35 +1,33 @@
 -- The times and waves of the Gain's diagram, with two pipeline registers behind the Gain, and the table that they show.
-use Rattle.std.proofs.Common.{◌≡◌, ℕ, zero, suc, ◌*◌, ◌<◌, ◌≤◌, ◌||◌, pos, ◌*ℤ◌, true, false, [], ◌∷◌, get_or, Some, None, slice_get, sym, subst, refl, arith}
+use Rattle.std.proofs.Common.{◌≡◌, ℕ, zero, suc, ◌<◌, ◌≤◌, ◌||◌, pos, ◌*ℤ◌, false, [], ◌∷◌, get_or, Option, Some, None, slice_get, sym, subst, refl, arith}
 use Rattle.std.specs.Prelude.{int_lt}
 use Rattle.std.proofs.Math.Dec.{lit<}
 use Rattle.std.proofs.Math.Nat.{mod-one}
 use Rattle.std.proofs.lemmas.Option.{none-some, same_Some}
-use Rattle.fx_type.specs.declared.rounding.Rounding.TheVariants.{Floor}
-use Rattle.fx_type.specs.Conversion.{Converts}
 use Rattle.dg_model.specs.declared.diagram.Block.{Block}
 use Rattle.dg_model.specs.declared.nested.Target.{Target}
 use Rattle.dg_model.specs.declared.nested.Target.TheVariants.{Port, Enable}
 use Rattle.dg_model.specs.declared.op.Op.TheVariants.{Pass, Gain as OpGain}
 use Rattle.dg_model.specs.Equation.{Equation}
 use Rattle.dg_model.specs.Faults.{AllKeep}
-use Rattle.dg_model.specs.Hits.{Hits, last_hit}
-use Rattle.dg_model.specs.declared.row.Inherited.{Inherited}
+use Rattle.dg_model.specs.Hits.{Hits}
 use Rattle.dg_model.specs.Operation.{stored_truth}
-use Rattle.dg_model.specs.Signals.{Stimulus, Table}
-use Rattle.dg_model.specs.Solves.{IsShown, IsStimulus, Solves}
+use Rattle.dg_model.specs.Signals.{Attributes, Stimulus, Table}
+use Rattle.dg_model.specs.Solves.{IsStimulus}
 use Rattle.dg_model.specs.Wires.{driver_of}
 use Rattle.hw_net.specs.Registers.{Wave}
 use Rattle.hw_shows.specs.Timing.{Timing, latency_after}
 use Rattle.hw_shows.specs.Timed.{Feeds, IsInTime, IsTimed, lag_into}
 use Rattle.hw_shows.specs.Series.{span_at, IsEnabledSeries}
-use Rattle.hw_shows.specs.Waves.{Waves, IsMadeAs, IsPiped, IsOfferedAt, AreBuilt, AreDriven}
+use Rattle.hw_shows.specs.Waves.{Waves, IsOfferedAt, AreBuilt}
 use Rattle.hw_shows.specs.Laws.{IsDesign}
-use Rattle.hw_shows.proofs.Trying.{wave_of, tried_shows, tried_range, tried_line, tried_same}
+use Rattle.hw_shows.proofs.Trying.{wave_of, tried_line, tried_same}
 use Rattle.dg_model.proofs.Examples.{stores_small}
 use Rattle.hw_shows.proofs.Small.{int8, int16, int16_full, kept, input_of, output, edge_of, each_by, order_of_six}
-use Rattle.hw_shows.proofs.ByBlocks.{Moves, IsAtOnce, IsDriven, Fits, timed_by, driven_by, given_by, input_fits, no_input_fits, designed, undesigned}
+use Rattle.hw_shows.proofs.ByBlocks.{AreMade, ArePiped, AreRight, DoStay, timed_by, given_by, designed, undesigned}
 use Rattle.hw_shows.proofs.ByPorts.{InTime, plain_in_time, no_ends_in_time, one_port_in_time, outside, port_offered, AreOfferedTo, no_ports_offered, one_port_offered}
-use Rattle.hw_shows.proofs.GainChecked.{test, gain, delay, blocks, diagram, attributes, propagated, ordered}
+use Rattle.hw_shows.proofs.GainChecked.{test, gain, delay, blocks, columns, diagram, ordered, tried}
+use Rattle.hw_shows.proofs.TriedRules.{attributes_in}
 use Rattle.hw_shows.proofs.GainIntoDelay.{gains, controls, delays, stage, control, enable, state, moved, pipeline, states, not_states}
 
 abbrev timing : Timing
@@ -41,16 +39,10 @@ timing = record {
   slot = λ block element. None;
 }
 
--- ---- its times
-ready_is : (block period : ℕ) → attributes.period_at block ≡ Some period → 0 < period * 1
-ready_is zero period e = let same : 1 ≡ period = same_Some 1 period e in omega arith
-ready_is (suc zero) period e = let same : 1 ≡ period = same_Some 1 period e in omega arith
-ready_is (suc (suc zero)) period e = let same : 1 ≡ period = same_Some 1 period e in omega arith
-ready_is (suc (suc (suc zero))) period e = let same : 1 ≡ period = same_Some 1 period e in omega arith
-ready_is (suc (suc (suc (suc zero)))) period e = let same : 1 ≡ period = same_Some 1 period e in omega arith
-ready_is (suc (suc (suc (suc (suc zero))))) period e = let same : 1 ≡ period = same_Some 1 period e in omega arith
-ready_is (suc (suc (suc (suc (suc (suc block)))))) period e = absurd (none-some period e)
+abbrev attributes : Attributes
+attributes = attributes_in diagram columns
 
+-- ---- its times
 abbrev Arrives : ℕ → Block → Target → Type 0
 Arrives block b target = InTime diagram attributes timing block b target
 
@@ -78,21 +70,8 @@ arrive = each_by (λ (k : ℕ) (x : Block). (target : Target) → Arrives k x ta
     at_delay
     (outside diagram attributes timing 5 output refl (one_port_in_time diagram attributes timing 5 output refl (into 5 output 4 refl refl refl refl (omega arith))))
 
-moves : AllKeep diagram (Moves attributes)
-moves = each_by (Moves attributes) blocks
-    (λ is. (1, refl)) (λ is. (1, refl)) (λ is. (1, refl)) (λ is. (1, refl)) (λ is. (1, refl)) (λ is. (1, refl))
-
-at_once : AllKeep diagram (IsAtOnce timing)
-at_once = each_by (IsAtOnce timing) blocks
-    (λ is. (refl, refl))
-    (λ is. (refl, refl))
-    (λ is. (refl, refl))
-    (λ is. (refl, refl))
-    (λ is. let other : Inherited.Moving ≡ Inherited.Base = is in cc)
-    (λ is. let other : Inherited.Moving ≡ Inherited.Base = is in cc)
-
 pub timed : IsTimed diagram attributes timing
-timed = timed_by diagram attributes timing ready_is arrive moves at_once (λ block element slot e. absurd (none-some slot e)) (λ block element e. refl)
+timed = timed_by diagram columns timing refl refl arrive (λ block element slot e. absurd (none-some slot e)) (λ block element e. refl)
 
 -- ---- its waves, with any registers of the Delay
 abbrev steps : (ℕ → Wave) → ℕ → ℕ → Wave
@@ -138,7 +117,7 @@ waves registers = record {
 abbrev Offered : ℕ → Block → Type 0
 Offered block b = AreOfferedTo diagram attributes timing 6 (waves state) block b
 
-offered : (block : ℕ) (b : Block) → slice_get blocks block ≡ Some b → Offered block b
+offered : AllKeep diagram Offered
 offered = each_by Offered blocks
     (no_ports_offered diagram attributes timing 6 (waves state) 0 (input_of 1 1 (lit< tt)) refl)
     (no_ports_offered diagram attributes timing 6 (waves state) 1 (input_of 2 1 (lit< tt)) refl)
@@ -162,33 +141,18 @@ enabled = each_by (λ (k : ℕ) (x : Block). (from : ℕ) → Feeds diagram k x 
     (tried_line 6 (record { cycles = 1; own = record { period = 1; latency = 0 }; reader = record { period = 1; latency = 2 } }) control enable refl (omega arith)))
     (λ from feeds. absurd (none-some from feeds.0))
 
--- each number is converted
-converted : (c : ℕ) → c < 6 → Converts (stage 0 c *ℤ pos 1) int16 int8 Floor true (stage 0 c)
-converted zero below = kept 5 (lit< tt)
-converted (suc zero) below = kept 6 (lit< tt)
-converted (suc (suc zero)) below = kept 7 (lit< tt)
-converted (suc (suc (suc zero))) below = kept 1 (lit< tt)
-converted (suc (suc (suc (suc zero)))) below = kept 2 (lit< tt)
-converted (suc (suc (suc (suc (suc zero))))) below = kept 3 (lit< tt)
-converted (suc (suc (suc (suc (suc (suc c)))))) below = absurd (omega arith)
-
-abbrev Made : ℕ → Block → Type 0
-Made block b = (port element : ℕ) → IsMadeAs diagram attributes timing 6 (waves state) b.kind block b port element
-
-made : (block : ℕ) (b : Block) → slice_get blocks block ≡ Some b → Made block b
-made = each_by Made blocks
+-- each block is made
+made : AllKeep diagram (AreMade diagram attributes timing 6 (waves state))
+made = each_by (AreMade diagram attributes timing 6 (waves state)) blocks
     (λ port element. record { at = λ c below. refl })
     (λ port element. record { at = λ c below. refl })
     (λ port element. tried_same 6 control (λ c. stored_truth (int_lt (pos 0) (control c) || false)) refl)
-    (λ port element. record { op = OpGain (pos 1) int8; is = (pos 1, stores_small 1 (lit< tt) (lit< tt), refl); gives = λ c below. (int16, int16_full, converted c below) })
+    (λ port element. record { op = OpGain (pos 1) int8; is = (pos 1, stores_small 1 (lit< tt) (lit< tt), refl); gives = λ c below. (int16, int16_full, kept 6 (λ k. stage 0 k *ℤ pos 1) (stage 0) refl c below) })
     (λ port element. (stores_small 9 (lit< tt) (lit< tt), (record { at = λ c below. refl }, λ period is. subst (λ (p : ℕ). IsEnabledSeries 6 (span_at timing p 4) 1 false (pos 9) enable (stage 2) state) (same_Some 1 period is) states)))
     (λ port element. record { op = Pass; is = refl; gives = λ c below. refl })
 
-abbrev Piped : ℕ → Block → Type 0
-Piped block b = (port element : ℕ) → IsPiped diagram attributes timing 6 (waves state) (attributes.period_at block) block port element
-
-piped : (block : ℕ) (b : Block) → slice_get blocks block ≡ Some b → Piped block b
-piped = each_by Piped blocks
+piped : AllKeep diagram (ArePiped diagram attributes timing 6 (waves state))
+piped = each_by (ArePiped diagram attributes timing 6 (waves state)) blocks
     (λ port element. (record { at = λ c below. refl }, record { begins = record { at = λ c below. refl }; takes = λ k below. absurd (omega arith) }))
     (λ port element. (record { at = λ c below. refl }, record { begins = record { at = λ c below. refl }; takes = λ k below. absurd (omega arith) }))
     (λ port element. (record { at = λ c below. refl }, record { begins = record { at = λ c below. refl }; takes = λ k below. absurd (omega arith) }))
@@ -210,91 +174,40 @@ not_built is = not_states ((is.blocks 4 delay 1 0 (record { block_is = refl; por
 
 -- ---- the table
 abbrev table : Table
-table zero port element t = gains t
-table (suc zero) port element t = controls t
-table (suc (suc zero)) port element t = controls t
-table (suc (suc (suc zero))) port element t = gains t
-table (suc (suc (suc (suc block)))) port element t = delays t
+table = λ block port element. get_or (gains ∷ controls ∷ controls ∷ gains ∷ delays ∷ delays ∷ []) block delays
 
 abbrev stimulus : Stimulus
-stimulus zero element t = pos 0
-stimulus (suc zero) element t = gains t
-stimulus (suc (suc number)) element t = controls t
+stimulus = λ number element. get_or (gains ∷ gains ∷ controls ∷ []) number controls
 
-abbrev IsRight : ℕ → ℕ → ℕ → ℕ → Type 0
-IsRight block port element t = Equation diagram attributes stimulus table block port element t (table block port element t)
+pub given : IsStimulus diagram attributes stimulus 3
+given = given_by stimulus 3 diagram attributes (λ number element t. refl) refl
 
-tests : (port element t : ℕ) → t < 3 → IsRight 2 port element t
-tests port element zero below = refl
-tests port element (suc zero) below = refl
-tests port element (suc (suc zero)) below = refl
-tests port element (suc (suc (suc t))) below = absurd (omega arith)
-
-scales : (port element t : ℕ) → t < 3 → IsRight 3 port element t
-scales port element zero below = (OpGain (pos 1) int8, (pos 1, stores_small 1 (lit< tt) (lit< tt), refl), (int16, int16_full, kept 5 (lit< tt)))
-scales port element (suc zero) below = (OpGain (pos 1) int8, (pos 1, stores_small 1 (lit< tt) (lit< tt), refl), (int16, int16_full, kept 6 (lit< tt)))
-scales port element (suc (suc zero)) below = (OpGain (pos 1) int8, (pos 1, stores_small 1 (lit< tt) (lit< tt), refl), (int16, int16_full, kept 7 (lit< tt)))
-scales port element (suc (suc (suc t))) below = absurd (omega arith)
-
-holds : (port element t : ℕ) → t < 3 → IsRight 4 port element t
+holds : (port element t : ℕ) → t < 3 → Equation diagram attributes stimulus table 4 port element t (delays t)
 holds port element zero below = stores_small 9 (lit< tt) (lit< tt)
 holds port element (suc zero) below = refl
 holds port element (suc (suc zero)) below = refl
 holds port element (suc (suc (suc t))) below = absurd (omega arith)
 
-at_hits : (block : ℕ) (b : Block) (port element t : ℕ) → IsShown diagram attributes block b port element → t < 3 → Hits (attributes.period_at block) t → IsRight block port element t
-at_hits zero b port element t shown below hit = refl
-at_hits (suc zero) b port element t shown below hit = refl
-at_hits (suc (suc zero)) b port element t shown below hit = tests port element t below
-at_hits (suc (suc (suc zero))) b port element t shown below hit = scales port element t below
-at_hits (suc (suc (suc (suc zero)))) b port element t shown below hit = holds port element t below
-at_hits (suc (suc (suc (suc (suc zero))))) b port element t shown below hit = (Pass, refl, refl)
-at_hits (suc (suc (suc (suc (suc (suc block)))))) b port element t shown below hit = absurd (none-some b shown.block_is)
+at_hits : AllKeep diagram (AreRight diagram attributes stimulus 3 table)
+at_hits = each_by (AreRight diagram attributes stimulus 3 table) blocks
+    (λ port element t below hit. refl)
+    (λ port element t below hit. refl)
+    (λ port element t below hit. (tried_same 3 controls (λ s. stored_truth (int_lt (pos 0) (controls s) || false)) refl).at t below)
+    (λ port element t below hit. (OpGain (pos 1) int8, (pos 1, stores_small 1 (lit< tt) (lit< tt), refl), (int16, int16_full, kept 3 (λ s. gains s *ℤ pos 1) gains refl t below)))
+    (λ port element t below hit. holds port element t below)
+    (λ port element t below hit. (Pass, refl, refl))
 
 -- each base sample is a hit
-between_hits : (block : ℕ) (b : Block) (port element t : ℕ) → IsShown diagram attributes block b port element → t < 3 → ¬ Hits (attributes.period_at block) t
-    → table block port element t ≡ table block port element (last_hit (attributes.period_at block) t)
-between_hits zero b port element t shown below miss = absurd (miss (mod-one t))
-between_hits (suc zero) b port element t shown below miss = absurd (miss (mod-one t))
-between_hits (suc (suc zero)) b port element t shown below miss = absurd (miss (mod-one t))
-between_hits (suc (suc (suc zero))) b port element t shown below miss = absurd (miss (mod-one t))
-between_hits (suc (suc (suc (suc zero)))) b port element t shown below miss = absurd (miss (mod-one t))
-between_hits (suc (suc (suc (suc (suc zero))))) b port element t shown below miss = absurd (miss (mod-one t))
-between_hits (suc (suc (suc (suc (suc (suc block)))))) b port element t shown below miss = absurd (none-some b shown.block_is)
+each_sample : AllKeep diagram (λ (k : ℕ) (x : Block). attributes.period_at k ≡ Some 1)
+each_sample = each_by (λ (k : ℕ) (x : Block). attributes.period_at k ≡ Some 1) blocks refl refl refl refl refl refl
 
-pub solves : Solves diagram attributes stimulus 3 table
-solves = record { at_hits = at_hits; between_hits = between_hits }
-
--- ---- the inputs
-inputs_driven : AllKeep diagram (IsDriven attributes stimulus timing 6 3 (waves state))
-inputs_driven = each_by (IsDriven attributes stimulus timing 6 3 (waves state)) blocks
-    (λ number element t c is early soon seen. subst (λ (k : ℕ). inputs k c ≡ stimulus k element t) (same_Some 1 number is) ((tried_shows 6 3 1 1 0 0 gains (stage 0) refl).at t c early soon seen))
-    (λ number element t c is early soon seen. subst (λ (k : ℕ). inputs k c ≡ stimulus k element t) (same_Some 2 number is) ((tried_shows 6 3 1 1 0 0 controls control refl).at t c early soon seen))
-    (λ number element t c is early soon seen. absurd (none-some number is))
-    (λ number element t c is early soon seen. absurd (none-some number is))
-    (λ number element t c is early soon seen. absurd (none-some number is))
-    (λ number element t c is early soon seen. absurd (none-some number is))
-
-pub driven : AreDriven diagram attributes stimulus 3 1 6 (waves state)
-driven = driven_by diagram attributes stimulus timing 6 3 (waves state) inputs_driven
-
--- and are in range
-inputs_fit : AllKeep diagram (Fits attributes stimulus 3)
-inputs_fit = each_by (Fits attributes stimulus 3) blocks
-    (input_fits attributes stimulus 3 0 (input_of 1 1 (lit< tt)) 1 refl (λ element t below. tried_range int8 3 gains refl t below))
-    (input_fits attributes stimulus 3 1 (input_of 2 1 (lit< tt)) 2 refl (λ element t below. tried_range int8 3 controls refl t below))
-    (no_input_fits attributes stimulus 3 2 test refl)
-    (no_input_fits attributes stimulus 3 3 gain refl)
-    (no_input_fits attributes stimulus 3 4 delay refl)
-    (no_input_fits attributes stimulus 3 5 output refl)
-
-pub given : IsStimulus diagram attributes stimulus 3
-given = given_by diagram attributes stimulus 3 inputs_fit
+between_hits : AllKeep diagram (DoStay diagram attributes stimulus 3 table)
+between_hits block b at port element t below miss = absurd (miss (subst (λ (period : Option ℕ). Hits period t) (sym (each_sample block b at)) (mod-one t)))
 
 -- ---- all of it
 pub design : IsDesign diagram order_of_six stimulus timing 6 3 table (waves state)
-design = designed diagram attributes order_of_six stimulus timing 6 3 table (waves state) propagated ordered timed solves built driven
+design = designed diagram columns tried order_of_six stimulus timing 6 3 table (waves state) ordered timed at_hits between_hits built (λ number element t. refl) (λ number element c. refl) refl
 
 -- and with the wrong number it is none
 pub no_design : ¬ IsDesign diagram order_of_six stimulus timing 6 3 table (waves moved)
-no_design = undesigned diagram attributes order_of_six stimulus timing 6 3 table (waves moved) propagated not_built
+no_design = undesigned diagram columns tried order_of_six stimulus timing 6 3 table (waves moved) not_built

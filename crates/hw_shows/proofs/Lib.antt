@@ -20,4 +20,5 @@ pub mod SharedDesign
 pub mod SharedProduct
 pub mod Small
 pub mod States
+pub mod TriedRules
 pub mod Trying

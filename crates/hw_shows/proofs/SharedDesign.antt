@@ -1,31 +1,29 @@
 -- The times and waves of the shared product's diagram, and the table that they show.
-use Rattle.std.proofs.Common.{◌≡◌, ℕ, zero, suc, ◌*◌, ◌<◌, pos, true, true≢false, [], ◌∷◌, get_or, Option, Some, None, slice_get, sym, subst, refl, arith}
+use Rattle.std.proofs.Common.{◌≡◌, ℕ, zero, suc, ◌<◌, pos, ◌*ℤ◌, true≢false, [], ◌∷◌, get_or, Option, Some, None, slice_get, sym, subst, refl, arith}
 use Rattle.std.proofs.Math.Dec.{lit<}
 use Rattle.std.proofs.lemmas.Option.{none-some, same_Some}
-use Rattle.fx_type.specs.declared.rounding.Rounding.TheVariants.{Floor}
-use Rattle.fx_type.specs.Conversion.{Converts}
 use Rattle.dg_model.specs.declared.diagram.Block.{Block}
 use Rattle.dg_model.specs.declared.nested.Target.{Target}
 use Rattle.dg_model.specs.declared.nested.Target.TheVariants.{Port}
 use Rattle.dg_model.specs.declared.op.Op.TheVariants.{Pass, Product as OpProduct}
 use Rattle.dg_model.specs.Equation.{Equation}
 use Rattle.dg_model.specs.Faults.{AllKeep}
-use Rattle.dg_model.specs.Hits.{Hits, last_hit}
-use Rattle.dg_model.specs.declared.row.Inherited.{Inherited}
-use Rattle.dg_model.specs.Signals.{Stimulus, Table}
-use Rattle.dg_model.specs.Solves.{IsShown, IsStimulus, Solves}
+use Rattle.dg_model.specs.Hits.{Hits}
+use Rattle.dg_model.specs.Signals.{Attributes, Stimulus, Table}
+use Rattle.dg_model.specs.Solves.{IsStimulus}
 use Rattle.hw_net.specs.Registers.{Wave}
 use Rattle.hw_shows.specs.Timing.{Timing}
 use Rattle.hw_shows.specs.Timed.{IsTimed}
 use Rattle.hw_shows.specs.Series.{span_at, IsProductAt}
-use Rattle.hw_shows.specs.Waves.{Waves, IsMadeAs, IsPiped, AreBuilt, AreDriven}
+use Rattle.hw_shows.specs.Waves.{Waves, IsPiped, AreBuilt}
 use Rattle.hw_shows.specs.Laws.{IsDesign}
-use Rattle.hw_shows.proofs.Trying.{wave_of, tried_shows, tried_range, tried_line, tried_stays}
+use Rattle.hw_shows.proofs.Trying.{wave_of, tried_line, tried_stays}
 use Rattle.dg_model.proofs.Examples.{stores_small}
-use Rattle.hw_shows.proofs.Small.{int8, int16, int16_full, kept, input_of, output, edge_of, each_by, order_of_six}
-use Rattle.hw_shows.proofs.ByBlocks.{Moves, IsAtOnce, IsDriven, Fits, timed_by, driven_by, given_by, input_fits, no_input_fits, designed, undesigned}
+use Rattle.hw_shows.proofs.Small.{int16, int16_full, kept, input_of, output, edge_of, each_by, order_of_six}
+use Rattle.hw_shows.proofs.ByBlocks.{AreMade, AreRight, DoStay, timed_by, given_by, designed, undesigned}
 use Rattle.hw_shows.proofs.ByPorts.{InTime, plain_in_time, port_in_time, no_ends_in_time, one_port_in_time, outside, port_offered, AreOfferedTo, no_ports_offered, one_port_offered}
-use Rattle.hw_shows.proofs.SharedChecked.{multiplied, transition, blocks, diagram, attributes, propagated, ordered}
+use Rattle.hw_shows.proofs.SharedChecked.{multiplied, transition, blocks, columns, diagram, ordered, tried}
+use Rattle.hw_shows.proofs.TriedRules.{attributes_in}
 use Rattle.hw_shows.proofs.SharedProduct.{lefts, rights, products, slower, left, right, product, slowed, wrong, served, lined, not_lined}
 
 abbrev timing : Timing
@@ -37,16 +35,10 @@ timing = record {
   slot = λ block element. get_or (None ∷ None ∷ Some 2 ∷ []) block None;
 }
 
--- ---- its times
-ready_is : (block period : ℕ) → attributes.period_at block ≡ Some period → timing.ready block < period * 2
-ready_is zero period e = let same : 2 ≡ period = same_Some 2 period e in omega arith
-ready_is (suc zero) period e = let same : 2 ≡ period = same_Some 2 period e in omega arith
-ready_is (suc (suc zero)) period e = let same : 2 ≡ period = same_Some 2 period e in omega arith
-ready_is (suc (suc (suc zero))) period e = let same : 4 ≡ period = same_Some 4 period e in omega arith
-ready_is (suc (suc (suc (suc zero)))) period e = let same : 4 ≡ period = same_Some 4 period e in omega arith
-ready_is (suc (suc (suc (suc (suc zero))))) period e = let same : 1 ≡ period = same_Some 1 period e in omega arith
-ready_is (suc (suc (suc (suc (suc (suc block)))))) period e = absurd (none-some period e)
+abbrev attributes : Attributes
+attributes = attributes_in diagram columns
 
+-- ---- its times
 abbrev Arrives : ℕ → Block → Target → Type 0
 Arrives block b target = InTime diagram attributes timing block b target
 
@@ -76,19 +68,6 @@ arrive = each_by (λ (k : ℕ) (x : Block). (target : Target) → Arrives k x ta
     (outside diagram attributes timing 4 output refl (one_port_in_time diagram attributes timing 4 output refl into_output))
     (no_ends_in_time diagram attributes timing 5 (input_of 3 1 (lit< tt)) refl refl)
 
-moves : AllKeep diagram (Moves attributes)
-moves = each_by (Moves attributes) blocks
-    (λ is. (2, refl)) (λ is. (2, refl)) (λ is. (2, refl)) (λ is. (4, refl)) (λ is. (4, refl)) (λ is. (1, refl))
-
-at_once : AllKeep diagram (IsAtOnce timing)
-at_once = each_by (IsAtOnce timing) blocks
-    (λ is. (refl, refl))
-    (λ is. (refl, refl))
-    (λ is. let other : Inherited.OfSources ≡ Inherited.Base = is in cc)
-    (λ is. let other : Inherited.OfSources ≡ Inherited.Base = is in cc)
-    (λ is. let other : Inherited.Moving ≡ Inherited.Base = is in cc)
-    (λ is. (refl, refl))
-
 slot_is : (block slot : ℕ) → timing.slot block 0 ≡ Some slot → slot < timing.ready block
 slot_is zero slot e = absurd (none-some slot e)
 slot_is (suc zero) slot e = absurd (none-some slot e)
@@ -102,7 +81,7 @@ still_is (suc (suc zero)) e = absurd (none-some 2 (sym e))
 still_is (suc (suc (suc block))) e = refl
 
 pub timed : IsTimed diagram attributes timing
-timed = timed_by diagram attributes timing ready_is arrive moves at_once (λ block element slot e. slot_is block slot e) (λ block element e. still_is block e)
+timed = timed_by diagram columns timing refl refl arrive (λ block element slot e. slot_is block slot e) (λ block element e. still_is block e)
 
 -- ---- its waves, with any line to the transition
 abbrev entries : ℕ → Wave
@@ -154,7 +133,7 @@ into_product_offered (suc (suc zero)) from to =
     (λ element. tried_line 16 (record { cycles = 2; own = record { period = 2; latency = 0 }; reader = record { period = 2; latency = 0 } }) right right refl (omega arith))
 into_product_offered (suc (suc (suc port))) from to = absurd (omega arith)
 
-offered : (block : ℕ) (b : Block) → slice_get blocks block ≡ Some b → Offered block b
+offered : AllKeep diagram Offered
 offered = each_by Offered blocks
     (no_ports_offered diagram attributes timing 16 (waves slowed) 0 (input_of 1 2 (lit< tt)) refl)
     (no_ports_offered diagram attributes timing 16 (waves slowed) 1 (input_of 2 2 (lit< tt)) refl)
@@ -164,38 +143,16 @@ offered = each_by Offered blocks
     (λ element. tried_line 16 (record { cycles = 2; own = record { period = 4; latency = 0 }; reader = record { period = 4; latency = 0 } }) slowed slowed refl (omega arith))))
     (no_ports_offered diagram attributes timing 16 (waves slowed) 5 (input_of 3 1 (lit< tt)) refl)
 
--- each number of the product is converted
-converted : (c : ℕ) → c < 16 → Converts (product c) int16 int8 Floor true (product c)
-converted zero below = kept 0 (lit< tt)
-converted (suc zero) below = kept 0 (lit< tt)
-converted (suc (suc zero)) below = kept 0 (lit< tt)
-converted (suc (suc (suc zero))) below = kept 6 (lit< tt)
-converted (suc (suc (suc (suc zero)))) below = kept 6 (lit< tt)
-converted (suc (suc (suc (suc (suc zero))))) below = kept 6 (lit< tt)
-converted (suc (suc (suc (suc (suc (suc zero)))))) below = kept 6 (lit< tt)
-converted (suc (suc (suc (suc (suc (suc (suc zero))))))) below = kept 12 (lit< tt)
-converted (suc (suc (suc (suc (suc (suc (suc (suc zero)))))))) below = kept 12 (lit< tt)
-converted (suc (suc (suc (suc (suc (suc (suc (suc (suc zero))))))))) below = kept 12 (lit< tt)
-converted (suc (suc (suc (suc (suc (suc (suc (suc (suc (suc zero)))))))))) below = kept 12 (lit< tt)
-converted (suc (suc (suc (suc (suc (suc (suc (suc (suc (suc (suc zero))))))))))) below = kept 20 (lit< tt)
-converted (suc (suc (suc (suc (suc (suc (suc (suc (suc (suc (suc (suc zero)))))))))))) below = kept 20 (lit< tt)
-converted (suc (suc (suc (suc (suc (suc (suc (suc (suc (suc (suc (suc (suc zero))))))))))))) below = kept 20 (lit< tt)
-converted (suc (suc (suc (suc (suc (suc (suc (suc (suc (suc (suc (suc (suc (suc zero)))))))))))))) below = kept 20 (lit< tt)
-converted (suc (suc (suc (suc (suc (suc (suc (suc (suc (suc (suc (suc (suc (suc (suc zero))))))))))))))) below = kept 30 (lit< tt)
-converted (suc (suc (suc (suc (suc (suc (suc (suc (suc (suc (suc (suc (suc (suc (suc (suc c)))))))))))))))) below = absurd (omega arith)
-
-abbrev Made : ℕ → Block → Type 0
-Made block b = (port element : ℕ) → IsMadeAs diagram attributes timing 16 (waves slowed) b.kind block b port element
-
-made : (block : ℕ) (b : Block) → slice_get blocks block ≡ Some b → Made block b
-made = each_by Made blocks
+-- each block is made
+made : AllKeep diagram (AreMade diagram attributes timing 16 (waves slowed))
+made = each_by (AreMade diagram attributes timing 16 (waves slowed)) blocks
     (λ port element. record { at = λ c below. refl })
     (λ port element. record { at = λ c below. refl })
     (λ port element. record {
       full = int16;
       is_full = int16_full;
       product = λ period is. subst (λ (p : ℕ). IsProductAt 16 (span_at timing p 2) 2 left right product) (same_Some 2 period is) served;
-      converts = converted;
+      converts = kept 16 product product refl;
     })
     (λ port element. (stores_small 0 (lit< tt) (lit< tt), record { at = λ c below. refl }))
     (λ port element. record { op = Pass; is = refl; gives = λ c below. refl })
@@ -229,34 +186,15 @@ not_built is = not_lined (is.lines 3 transition 1 0 (edge_of 2 3 1) refl (omega 
 
 -- ---- the table
 abbrev table : Table
-table zero port element t = lefts t
-table (suc zero) port element t = rights t
-table (suc (suc zero)) port element t = products t
-table (suc (suc (suc zero))) port element t = slower t
-table (suc (suc (suc (suc zero)))) port element t = slower t
-table (suc (suc (suc (suc (suc block))))) port element t = pos 0
+table = λ block port element. get_or (lefts ∷ rights ∷ products ∷ slower ∷ slower ∷ []) block (wave_of [])
 
 abbrev stimulus : Stimulus
-stimulus zero element t = pos 0
-stimulus (suc zero) element t = lefts t
-stimulus (suc (suc zero)) element t = rights t
-stimulus (suc (suc (suc number))) element t = pos 0
+stimulus = λ number element. get_or (wave_of [] ∷ lefts ∷ rights ∷ []) number (wave_of [])
 
-abbrev IsRight : ℕ → ℕ → ℕ → ℕ → Type 0
-IsRight block port element t = Equation diagram attributes stimulus table block port element t (table block port element t)
+pub given : IsStimulus diagram attributes stimulus 8
+given = given_by stimulus 8 diagram attributes (λ number element t. refl) refl
 
-multiplies : (port element t : ℕ) → t < 8 → IsRight 2 port element t
-multiplies port element zero below = (OpProduct, refl, (int16, int16_full, kept 6 (lit< tt)))
-multiplies port element (suc zero) below = (OpProduct, refl, (int16, int16_full, kept 6 (lit< tt)))
-multiplies port element (suc (suc zero)) below = (OpProduct, refl, (int16, int16_full, kept 12 (lit< tt)))
-multiplies port element (suc (suc (suc zero))) below = (OpProduct, refl, (int16, int16_full, kept 12 (lit< tt)))
-multiplies port element (suc (suc (suc (suc zero)))) below = (OpProduct, refl, (int16, int16_full, kept 20 (lit< tt)))
-multiplies port element (suc (suc (suc (suc (suc zero))))) below = (OpProduct, refl, (int16, int16_full, kept 20 (lit< tt)))
-multiplies port element (suc (suc (suc (suc (suc (suc zero)))))) below = (OpProduct, refl, (int16, int16_full, kept 30 (lit< tt)))
-multiplies port element (suc (suc (suc (suc (suc (suc (suc zero))))))) below = (OpProduct, refl, (int16, int16_full, kept 30 (lit< tt)))
-multiplies port element (suc (suc (suc (suc (suc (suc (suc (suc t)))))))) below = absurd (omega arith)
-
-passes : (port element t : ℕ) → t < 8 → Hits (Some 4) t → IsRight 3 port element t
+passes : (port element t : ℕ) → t < 8 → Hits (Some 4) t → Equation diagram attributes stimulus table 3 port element t (slower t)
 passes port element zero below hit = refl
 passes port element (suc zero) below hit = absurd (omega (arith, hit))
 passes port element (suc (suc zero)) below hit = absurd (omega (arith, hit))
@@ -267,58 +205,28 @@ passes port element (suc (suc (suc (suc (suc (suc zero)))))) below hit = absurd 
 passes port element (suc (suc (suc (suc (suc (suc (suc zero))))))) below hit = absurd (omega (arith, hit))
 passes port element (suc (suc (suc (suc (suc (suc (suc (suc t)))))))) below hit = absurd (omega arith)
 
-at_hits : (block : ℕ) (b : Block) (port element t : ℕ) → IsShown diagram attributes block b port element → t < 8 → Hits (attributes.period_at block) t → IsRight block port element t
-at_hits zero b port element t shown below hit = refl
-at_hits (suc zero) b port element t shown below hit = refl
-at_hits (suc (suc zero)) b port element t shown below hit = multiplies port element t below
-at_hits (suc (suc (suc zero))) b port element t shown below hit = passes port element t below hit
-at_hits (suc (suc (suc (suc zero)))) b port element t shown below hit = (Pass, refl, refl)
-at_hits (suc (suc (suc (suc (suc zero))))) b port element t shown below hit = refl
-at_hits (suc (suc (suc (suc (suc (suc block)))))) b port element t shown below hit = absurd (none-some b shown.block_is)
+at_hits : AllKeep diagram (AreRight diagram attributes stimulus 8 table)
+at_hits = each_by (AreRight diagram attributes stimulus 8 table) blocks
+    (λ port element t below hit. refl)
+    (λ port element t below hit. refl)
+    (λ port element t below hit. (OpProduct, refl, (int16, int16_full, kept 8 (λ s. lefts s *ℤ rights s) products refl t below)))
+    (λ port element t below hit. passes port element t below hit)
+    (λ port element t below hit. (Pass, refl, refl))
+    (λ port element t below hit. refl)
 
-between_hits : (block : ℕ) (b : Block) (port element t : ℕ) → IsShown diagram attributes block b port element → t < 8 → ¬ Hits (attributes.period_at block) t
-    → table block port element t ≡ table block port element (last_hit (attributes.period_at block) t)
-between_hits zero b port element t shown below miss = tried_stays 8 (Some 2) lefts refl t below
-between_hits (suc zero) b port element t shown below miss = tried_stays 8 (Some 2) rights refl t below
-between_hits (suc (suc zero)) b port element t shown below miss = tried_stays 8 (Some 2) products refl t below
-between_hits (suc (suc (suc zero))) b port element t shown below miss = tried_stays 8 (Some 4) slower refl t below
-between_hits (suc (suc (suc (suc zero)))) b port element t shown below miss = tried_stays 8 (Some 4) slower refl t below
-between_hits (suc (suc (suc (suc (suc zero))))) b port element t shown below miss = refl
-between_hits (suc (suc (suc (suc (suc (suc block)))))) b port element t shown below miss = absurd (none-some b shown.block_is)
-
-pub solves : Solves diagram attributes stimulus 8 table
-solves = record { at_hits = at_hits; between_hits = between_hits }
-
--- ---- the inputs
-inputs_driven : AllKeep diagram (IsDriven attributes stimulus timing 16 8 (waves slowed))
-inputs_driven = each_by (IsDriven attributes stimulus timing 16 8 (waves slowed)) blocks
-    (λ number element t c is early soon seen. subst (λ (k : ℕ). inputs k c ≡ stimulus k element t) (same_Some 1 number is) ((tried_shows 16 8 2 2 0 0 lefts left refl).at t c early soon seen))
-    (λ number element t c is early soon seen. subst (λ (k : ℕ). inputs k c ≡ stimulus k element t) (same_Some 2 number is) ((tried_shows 16 8 2 2 0 0 rights right refl).at t c early soon seen))
-    (λ number element t c is early soon seen. absurd (none-some number is))
-    (λ number element t c is early soon seen. absurd (none-some number is))
-    (λ number element t c is early soon seen. absurd (none-some number is))
-    (λ number element t c is early soon seen. subst (λ (k : ℕ). inputs k c ≡ stimulus k element t) (same_Some 3 number is) ((tried_shows 16 8 2 1 0 0 (λ (s : ℕ). pos 0) (wave_of []) refl).at t c early soon seen))
-
-pub driven : AreDriven diagram attributes stimulus 8 2 16 (waves slowed)
-driven = driven_by diagram attributes stimulus timing 16 8 (waves slowed) inputs_driven
-
--- and are in range
-inputs_fit : AllKeep diagram (Fits attributes stimulus 8)
-inputs_fit = each_by (Fits attributes stimulus 8) blocks
-    (input_fits attributes stimulus 8 0 (input_of 1 2 (lit< tt)) 1 refl (λ element t below. tried_range int8 8 lefts refl t below))
-    (input_fits attributes stimulus 8 1 (input_of 2 2 (lit< tt)) 2 refl (λ element t below. tried_range int8 8 rights refl t below))
-    (no_input_fits attributes stimulus 8 2 multiplied refl)
-    (no_input_fits attributes stimulus 8 3 transition refl)
-    (no_input_fits attributes stimulus 8 4 output refl)
-    (input_fits attributes stimulus 8 5 (input_of 3 1 (lit< tt)) 3 refl (λ element t below. tried_range int8 8 (λ (s : ℕ). pos 0) refl t below))
-
-pub given : IsStimulus diagram attributes stimulus 8
-given = given_by diagram attributes stimulus 8 inputs_fit
+between_hits : AllKeep diagram (DoStay diagram attributes stimulus 8 table)
+between_hits = each_by (DoStay diagram attributes stimulus 8 table) blocks
+    (λ port element t below miss. tried_stays 8 (Some 2) lefts refl t below)
+    (λ port element t below miss. tried_stays 8 (Some 2) rights refl t below)
+    (λ port element t below miss. tried_stays 8 (Some 2) products refl t below)
+    (λ port element t below miss. tried_stays 8 (Some 4) slower refl t below)
+    (λ port element t below miss. tried_stays 8 (Some 4) slower refl t below)
+    (λ port element t below miss. refl)
 
 -- ---- all of it
 pub design : IsDesign diagram order_of_six stimulus timing 16 8 table (waves slowed)
-design = designed diagram attributes order_of_six stimulus timing 16 8 table (waves slowed) propagated ordered timed solves built driven
+design = designed diagram columns tried order_of_six stimulus timing 16 8 table (waves slowed) ordered timed at_hits between_hits built (λ number element t. refl) (λ number element c. refl) refl
 
 -- and with the wrong number it is none
 pub no_design : ¬ IsDesign diagram order_of_six stimulus timing 16 8 table (waves wrong)
-no_design = undesigned diagram attributes order_of_six stimulus timing 16 8 table (waves wrong) propagated not_built
+no_design = undesigned diagram columns tried order_of_six stimulus timing 16 8 table (waves wrong) not_built

@@ -1,10 +1,12 @@
 -- Parts of small diagrams that are worked out by hand, and the order of those whose lines all lead to later blocks. Crates above may cite this file.
-use Rattle.std.proofs.Common.{◌≡◌, ℕ, zero, suc, ◌+◌, ◌-◌, ◌%◌, ◌^◌, ◌<◌, ◌≤◌, inl, pos, Bool, true, false, List, [], ◌∷◌, length, get_or, Option, Some, None, slice_get, All, ap, sym, ◌∙◌, subst, refl, arith}
+use Rattle.std.proofs.Common.{◌≡◌, ℕ, zero, suc, ◌+◌, ◌-◌, ◌%◌, ◌^◌, ◌<◌, ◌≤◌, inl, ℤ, pos, Bool, true, false, ◌&&◌, List, [], ◌∷◌, length, get_or, Option, Some, None, slice_get, All, ap, sym, ◌∙◌, subst, refl, arith}
 use Rattle.std.specs.Prelude.{nat_lt, slice_index, IsSome, count_by}
 use Rattle.std.specs.List.{list_all}
 use Rattle.std.proofs.Math.Dec.{lit≤}
 use Rattle.std.proofs.Math.Nat.{mod_self, mod-eq_of_lt}
-use Rattle.std.proofs.lemmas.Bool.{ltb-true}
+use Rattle.std.specs.Ordering.{int_eq}
+use Rattle.std.proofs.lemmas.Bool.{and_parts, ltb-true}
+use Rattle.std.proofs.lemmas.Bool.Decides.{Decides-int_eq}
 use Rattle.std.proofs.lemmas.Int.{ints}
 use Rattle.std.proofs.lemmas.List.Sums.{AllPass-from_list_all}
 use Rattle.std.proofs.lemmas.Option.{none-some, same_Some, slice_get_within, slice_get-get_or, get_or_from_slice_get}
@@ -14,8 +16,11 @@ use Rattle.fx_type.specs.declared.kind.FxType.TheVariants.{Num}
 use Rattle.fx_type.specs.declared.spec.TypeSpec.TheVariants.{Auto, Fixed}
 use Rattle.fx_type.specs.declared.rounding.Rounding.TheVariants.{Floor}
 use Rattle.fx_type.specs.declared.decimal.Decimal.{Decimal}
+use Rattle.fx_type.specs.FxType.{InRange}
 use Rattle.fx_type.specs.FullType.{IsFullProduct}
 use Rattle.fx_type.specs.Conversion.{Converts}
+use Rattle.fx_type.specs.StoredOf.{is_in_range}
+use Rattle.fx_type.proofs.Stored.{Decides-in_range}
 use Rattle.dg_waves.specs.Rounds.{numbers_from}
 use Rattle.dg_model.specs.declared.diagram.Diagram.{Diagram}
 use Rattle.dg_model.specs.declared.diagram.Block.{Block}
@@ -35,6 +40,7 @@ use Rattle.dg_model.specs.Widths.{Widths, width_at, widths_of}
 use Rattle.dg_model.specs.TypeRounds.{Types, types_of}
 use Rattle.dg_model.specs.Periods.{known_at, periods_of, period_at}
 use Rattle.dg_model.proofs.Written.{EachByRecursion, all_of, each_of}
+use Rattle.hw_shows.proofs.Trying.{each_below, each_holds}
 
 -- ---- types and numbers
 abbrev pub int8 : FxType
@@ -50,13 +56,21 @@ int8_valid = ((lit≤ tt, lit≤ tt), le_z_yes tt, le_z_yes tt)
 pub int16_full : IsFullProduct int8 int8 int16
 int16_full = record { valid = ((lit≤ tt, lit≤ tt), le_z_yes tt, le_z_yes tt); number = tt; width = refl; frac = refl; sign = refl }
 
--- a number of it that an int8 holds is kept
-pub kept : (v : ℕ) → v < 128 → Converts (pos v) int16 int8 Floor true (pos v)
-kept v below = record {
-  rounded = pos v;
+-- numbers of it that an int8 holds are kept
+kept_one : (v : ℤ) → InRange int8 v → Converts v int16 int8 Floor true v
+kept_one v inside = record {
+  rounded = v;
   rounds = record { at_most = omega (arith, ints); next_above = omega (arith, ints) };
-  settles = record { inside = λ h. refl; below = λ h. absurd (omega (arith, ints)); above = λ h. absurd (omega (arith, ints)) };
+  settles = record { inside = λ h. refl; below = λ h. absurd (omega (arith, ints, h, inside.low)); above = λ h. absurd (omega (arith, ints, h, inside.high)) };
 }
+
+abbrev are_kept : ℕ → (ℕ → ℤ) → (ℕ → ℤ) → Bool
+are_kept n numbers results = each_below n (λ k. int_eq (numbers k) (results k) && is_in_range int8 (results k))
+
+pub kept : (n : ℕ) (numbers results : ℕ → ℤ) → are_kept n numbers results ≡ true → (k : ℕ) → k < n → Converts (numbers k) int16 int8 Floor true (results k)
+kept n numbers results is k below =
+    let parts = and_parts (int_eq (numbers k) (results k)) (is_in_range int8 (results k)) (each_holds n (λ j. int_eq (numbers j) (results j) && is_in_range int8 (results j)) is k below) in
+    subst (λ (v : ℤ). Converts v int16 int8 Floor true (results k)) (sym ((Decides-int_eq (numbers k) (results k)).0 parts.0)) (kept_one (results k) ((Decides-in_range int8 (results k)).0 parts.1))
 
 -- a whole number as a parameter
 abbrev pub decimal_of : (n : ℕ) → n < 10 ^ 18 → Decimal

@@ -1,12 +1,13 @@
 -- Waves written out as numbers are tried by computation.
 use Rattle.std.proofs.Common.{◌≡◌, ◌≢◌, ℕ, zero, suc, ◌+◌, ◌-◌, ◌*◌, ◌%◌, ◌<◌, ◌≤◌, ◌⊎◌, inl, inr, ◌==◌, ◌&&◌, Bool, true, false, true≢false, ℤ, pos, List, slice_index_or, Option, Some, min, ap, sym, ◌∙◌, ◌*ℤ◌, arith, eq-or-lt_of_le, le_of_suc-le-suc, mul-le-mul_left}
-use Rattle.std.specs.Prelude.{nat_le, nat_lt, int_le}
+use Rattle.std.specs.Prelude.{nat_le, nat_lt}
 use Rattle.std.specs.Ordering.{int_eq}
 use Rattle.std.proofs.lemmas.Bool.{and_parts, and_from, le-leb, lt-ltb, eq-eqb, eqb-true, leb-true, cases_Bool}
 use Rattle.std.proofs.lemmas.Bool.Decides.{Decides-int_eq}
 use Rattle.fx_type.specs.declared.kind.FxType.{FxType}
-use Rattle.fx_type.specs.FxType.{InRange, lowest_of, highest_of}
-use Rattle.fx_type.proofs.Found.{Decides-int_le}
+use Rattle.fx_type.specs.FxType.{InRange}
+use Rattle.fx_type.specs.StoredOf.{is_in_range}
+use Rattle.fx_type.proofs.Stored.{Decides-in_range}
 use Rattle.dg_model.specs.Hits.{last_hit}
 use Rattle.hw_net.specs.Registers.{Wave, Span, Takes, IsReg, IsEnReg}
 use Rattle.hw_net.specs.Closed.{frame_start}
@@ -37,7 +38,7 @@ abbrev pub if_so : Bool → Bool → Bool
 if_so true test = test
 if_so false test = true
 
-so : (a b : Bool) → a ≡ true → if_so a b ≡ true → b ≡ true
+pub so : (a b : Bool) → a ≡ true → if_so a b ≡ true → b ≡ true
 so true b e h = h
 so false b e h = absurd (true≢false (sym e))
 
@@ -71,10 +72,11 @@ pub tried_same : (clocks : ℕ) (wave other : Wave) → each_below clocks (λ c.
 tried_same clocks wave other e = record { at = λ c below. same_number (wave c) (other c) (each_holds clocks (λ c. int_eq (wave c) (other c)) e c below) }
 
 -- ---- what is in range
-pub tried_range : (type : FxType) (n : ℕ) (entry : ℕ → ℤ) → each_below n (λ t. int_le (lowest_of type) (entry t) && int_le (entry t) (highest_of type)) ≡ true → (t : ℕ) → t < n → InRange type (entry t)
-tried_range type n entry e t below =
-    let parts = and_parts (int_le (lowest_of type) (entry t)) (int_le (entry t) (highest_of type)) (each_holds n (λ t. int_le (lowest_of type) (entry t) && int_le (entry t) (highest_of type)) e t below) in
-    record { low = (Decides-int_le (lowest_of type) (entry t)).0 parts.0; high = (Decides-int_le (entry t) (highest_of type)).0 parts.1 }
+abbrev pub are_within : FxType → ℕ → (ℕ → ℤ) → Bool
+are_within type n entry = each_below n (λ t. is_in_range type (entry t))
+
+pub tried_range : (type : FxType) (n : ℕ) (entry : ℕ → ℤ) → are_within type n entry ≡ true → (t : ℕ) → t < n → InRange type (entry t)
+tried_range type n entry e t below = (Decides-in_range type (entry t)).0 (each_holds n (λ t. is_in_range type (entry t)) e t below)
 
 -- ---- registers
 abbrev pub takes_at : Span → ℕ → ℕ → Bool

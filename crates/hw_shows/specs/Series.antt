@@ -40,9 +40,19 @@ pub record IsChosen (clocks : ℕ) (enable enabled other wave : Wave) : Type 0 w
 -- the line from a source of one period to a reader of another, where both have periods
 abbrev pub IsLineInto : ℕ → Timing → ℕ → ℕ → ℕ → ℕ → Option ℕ → ℤ → Wave → Wave → Type 0
 IsLineInto clocks timing from source block own None first wave line =
-    IsLine clocks (record { cycles = timing.cycles; own = record { period = source; latency = latency_after timing source from }; reader = record { period = own; latency = timing.latency block } }) wave line
+    IsLine clocks (record {
+      cycles = timing.cycles;
+      own = record { period = source; latency = latency_after timing source from };
+      reader = record
+          { period = own; latency = timing.latency block };
+    }) wave line
 IsLineInto clocks timing from source block own (Some lag) first wave line =
-    IsRegistered clocks (record { cycles = timing.cycles; own = record { period = source; latency = latency_after timing source from }; reader = record { period = source; latency = timing.latency block + lag } }) first wave line
+    IsRegistered clocks (record {
+      cycles = timing.cycles;
+      own = record { period = source; latency = latency_after timing source from };
+      reader = record
+          { period = source; latency = timing.latency block + lag };
+    }) first wave line
 
 -- what an end of a block is offered of a source: the source itself where that never changes
 abbrev pub IsOffered : ℕ → Timing → ℕ → Option ℕ → ℕ → Option ℕ → (ℕ → Option ℕ) → ℤ → Wave → Wave → Type 0

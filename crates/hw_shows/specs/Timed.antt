@@ -17,7 +17,9 @@ use Rattle.dg_model.specs.Rate.{joins_periods}
 use Rattle.dg_model.specs.Solves.{shown_ports}
 use Rattle.hw_shows.specs.Timing.{Timing, IsEdgeInTime}
 
--- by how many base samples a block that reads before adds to the latency at which it is shown, or none where the edge has no registers of its own: a Delay outside enabled subsystems its length in periods of its source, a transition from slow to fast one of these
+-- by how many base samples a block that reads before adds to the latency at which it is shown, or none where the edge
+-- has no registers of its own: a Delay outside enabled subsystems its length in periods of its source, a transition
+-- from slow to fast one of these
 abbrev pub lag_of : Reading → ℕ → Option ℕ → Bool → ℕ → Option ℕ
 lag_of Reading.Now delay enable slower period = None
 lag_of Reading.Before delay None slower period = Some (delay * period)

@@ -77,7 +77,8 @@ module _ (diagram : Diagram) (attributes : Attributes) (timing : Timing) (clocks
   abbrev pub IsMultiplied : ℕ → Block → ℕ → ℕ → Option ℕ → Type 0
   IsMultiplied block b port element None = IsCarriedOut block b port element
   IsMultiplied block b port element (Some slot) =
-      IsServed block b port element slot (waves.offered block 1 element) (waves.offered block 2 element) (type_of (types_into diagram attributes block b.inputs) 0) (type_of (types_into diagram attributes block b.inputs) 1)
+      IsServed block b port element slot (waves.offered block 1 element) (waves.offered block 2 element)
+      (type_of (types_into diagram attributes block b.inputs) 0) (type_of (types_into diagram attributes block b.inputs) 1)
 
   -- a wave that a parameter's entry gives
   pub record IsParameter (list : List Decimal) (element : ℕ) (type : FxType) (wave : Wave) : Type 0 where
@@ -152,9 +153,11 @@ module _ (diagram : Diagram) (attributes : Attributes) (timing : Timing) (clocks
 
   -- the facts of a diagram's waves
   pub record AreBuilt : Type 0 where
-    pub lines : (block : ℕ) (b : Block) (port element : ℕ) (edge : Edge) → slice_get diagram.blocks block ≡ Some b → 1 ≤ shown_ports b.kind b.outputs → 1 ≤ port → port ≤ b.inputs → driver_of diagram block port ≡ Some edge
+    pub lines : (block : ℕ) (b : Block) (port element : ℕ) (edge : Edge) → slice_get diagram.blocks block ≡ Some b → 1 ≤ shown_ports b.kind b.outputs
+        → 1 ≤ port → port ≤ b.inputs → driver_of diagram block port ≡ Some edge
         → repeated (attributes.width_at edge.from edge.from_port) element < attributes.width_at edge.from edge.from_port
-        → IsOfferedAt block b (Port port) edge.from (waves.first block element) (waves.after edge.from edge.from_port (repeated (attributes.width_at edge.from edge.from_port) element)) (waves.offered block port element)
+        → IsOfferedAt block b (Port port) edge.from (waves.first block element)
+        (waves.after edge.from edge.from_port (repeated (attributes.width_at edge.from edge.from_port) element)) (waves.offered block port element)
     pub enables : (block : ℕ) (b : Block) (control : ℕ) → slice_get diagram.blocks block ≡ Some b → Feeds diagram block b Enable control
         → IsOfferedAt block b Enable control (pos 0) (waves.after control 1 0) (waves.enable block)
     pub blocks : (block : ℕ) (b : Block) (port element : ℕ) → IsShown diagram attributes block b port element → IsMadeAs b.kind block b port element

@@ -1,5 +1,5 @@
 -- Each module of the whole model's design shows the numbers of the table in a run, by what is owed of it.
-use Rattle.std.proofs.Common.{◌≡◌, ℕ, ◌+◌, ◌-◌, ◌*◌, ◌<◌, ◌≤◌, List, [], ◌∷◌, Some, map, slice_get, codes, refl, sym, subst, ◌∙◌, arith}
+use Rattle.std.proofs.Common.{◌≡◌, ℕ, ◌+◌, ◌*◌, ◌<◌, List, [], ◌∷◌, Some, map, slice_get, codes, refl, sym, subst, ◌∙◌, arith}
 use Rattle.std.proofs.Math.Dec.{lit≤}
 use Rattle.dg_model.specs.Attributes.{attributes_of}
 use Rattle.dg_model.specs.Hits.{Hits}

@@ -1,3 +1,4 @@
+pub mod Premises
 pub mod Running
 pub mod Sharing
 pub mod Shown

@@ -1,4 +1,6 @@
--- A whole model with its plan, and what both say, written out by hand: an input of two elements, a Gain that multiplies them by 3 and 5, and an output. One multiplier serves both elements, in the first two of the three clocks of a base sample, and one register stands behind each.
+-- A whole model with its plan, and what both say, written out by hand: an input of two elements, a Gain that multiplies
+-- them by 3 and 5, and an output. One multiplier serves both elements, in the first two of the three clocks of a base
+-- sample, and one register stands behind each.
 use Rattle.std.specs.Prelude.{ℕ, zero, suc, ℤ, pos, negsuc, true, false, List, [], ◌∷◌, None, codes, slice_index_or}
 use Rattle.std.proofs.Math.Dec.{lit<}
 use lib.Signed.{le_z_yes}
@@ -21,7 +23,8 @@ use Rattle.hw_sched.specs.Slots.{Timing}
 
 -- ---- the texts
 abbrev pub model_text : List ℕ
-model_text = codes "Model {\n  Name \"two\"\n  System {\n    Block {\n      BlockType Inport\n      Name \"u\"\n      OutDataTypeStr \"int8\"\n      PortDimensions \"2\"\n    }\n    Block {\n      BlockType Gain\n      Name \"G\"\n      Gain \"[3 5]\"\n      ParamDataTypeStr \"int8\"\n      OutDataTypeStr \"int16\"\n    }\n    Block {\n      BlockType Outport\n      Name \"y\"\n    }\n    Line {\n      SrcBlock \"u\"\n      SrcPort 1\n      DstBlock \"G\"\n      DstPort 1\n    }\n    Line {\n      SrcBlock \"G\"\n      SrcPort 1\n      DstBlock \"y\"\n      DstPort 1\n    }\n  }\n}\n"
+model_text =
+    codes "Model {\n  Name \"two\"\n  System {\n    Block {\n      BlockType Inport\n      Name \"u\"\n      OutDataTypeStr \"int8\"\n      PortDimensions \"2\"\n    }\n    Block {\n      BlockType Gain\n      Name \"G\"\n      Gain \"[3 5]\"\n      ParamDataTypeStr \"int8\"\n      OutDataTypeStr \"int16\"\n    }\n    Block {\n      BlockType Outport\n      Name \"y\"\n    }\n    Line {\n      SrcBlock \"u\"\n      SrcPort 1\n      DstBlock \"G\"\n      DstPort 1\n    }\n    Line {\n      SrcBlock \"G\"\n      SrcPort 1\n      DstBlock \"y\"\n      DstPort 1\n    }\n  }\n}\n"
 
 abbrev pub plan_text : List ℕ
 plan_text = codes "cycles 3\nmultipliers 1\npipeline \"G\" 1\n"

@@ -48,23 +48,15 @@ record Relates (relation : Relation) (below equal above : ℤ) : Type 0 where
   nought : Gives (Relational relation) (int8 ∷ uint8 ∷ []) Logical false (pos 0 ∷ pos 0 ∷ []) equal
   one : Gives (Relational relation) (int8 ∷ uint8 ∷ []) Logical false (pos 1 ∷ pos 0 ∷ []) above
 
-equal : Relates Eq (pos 0) (pos 1) (pos 0)
-equal = record { three = refl; four = refl; five = refl; seven_halves = refl; eight_halves = refl; nine_halves = refl; minus_one = refl; nought = refl; one = refl }
-
-different : Relates Ne (pos 1) (pos 0) (pos 1)
-different = record { three = refl; four = refl; five = refl; seven_halves = refl; eight_halves = refl; nine_halves = refl; minus_one = refl; nought = refl; one = refl }
-
-less : Relates Lt (pos 1) (pos 0) (pos 0)
-less = record { three = refl; four = refl; five = refl; seven_halves = refl; eight_halves = refl; nine_halves = refl; minus_one = refl; nought = refl; one = refl }
-
-at_most : Relates Le (pos 1) (pos 1) (pos 0)
-at_most = record { three = refl; four = refl; five = refl; seven_halves = refl; eight_halves = refl; nine_halves = refl; minus_one = refl; nought = refl; one = refl }
-
-at_least : Relates Ge (pos 0) (pos 1) (pos 1)
-at_least = record { three = refl; four = refl; five = refl; seven_halves = refl; eight_halves = refl; nine_halves = refl; minus_one = refl; nought = refl; one = refl }
-
-greater : Relates Gt (pos 0) (pos 0) (pos 1)
-greater = record { three = refl; four = refl; five = refl; seven_halves = refl; eight_halves = refl; nine_halves = refl; minus_one = refl; nought = refl; one = refl }
+related : Relates Eq (pos 0) (pos 1) (pos 0) × Relates Ne (pos 1) (pos 0) (pos 1) × Relates Lt (pos 1) (pos 0) (pos 0) × Relates Le (pos 1) (pos 1) (pos 0) × Relates Ge (pos 0) (pos 1) (pos 1) × Relates Gt (pos 0) (pos 0) (pos 1)
+related = (
+  record { three = refl; four = refl; five = refl; seven_halves = refl; eight_halves = refl; nine_halves = refl; minus_one = refl; nought = refl; one = refl },
+  record { three = refl; four = refl; five = refl; seven_halves = refl; eight_halves = refl; nine_halves = refl; minus_one = refl; nought = refl; one = refl },
+  record { three = refl; four = refl; five = refl; seven_halves = refl; eight_halves = refl; nine_halves = refl; minus_one = refl; nought = refl; one = refl },
+  record { three = refl; four = refl; five = refl; seven_halves = refl; eight_halves = refl; nine_halves = refl; minus_one = refl; nought = refl; one = refl },
+  record { three = refl; four = refl; five = refl; seven_halves = refl; eight_halves = refl; nine_halves = refl; minus_one = refl; nought = refl; one = refl },
+  record { three = refl; four = refl; five = refl; seven_halves = refl; eight_halves = refl; nine_halves = refl; minus_one = refl; nought = refl; one = refl },
+)
 
 -- ---- criteria of a Switch of 7 and 9 whose threshold is 4
 kept : (v : ℤ) → T (le_z (negsuc 127) v) → T (le_z v (pos 127)) → Converts v int8 int8 Floor false v
@@ -114,23 +106,15 @@ record Joins (gate : Op) (of_none of_first of_last of_both : ℤ) : Type 0 where
   last : Gives gate (int8 ∷ int8 ∷ []) Logical false (pos 0 ∷ pos 1 ∷ []) of_last
   both : Gives gate (int8 ∷ int8 ∷ []) Logical false (pos 2 ∷ negsuc 0 ∷ []) of_both
 
-all_are : Joins (Logic And) (pos 0) (pos 0) (pos 0) (pos 1)
-all_are = record { none = refl; first = refl; last = refl; both = refl }
-
-one_is : Joins (Logic Or) (pos 0) (pos 1) (pos 1) (pos 1)
-one_is = record { none = refl; first = refl; last = refl; both = refl }
-
-not_all : Joins (Logic Nand) (pos 1) (pos 1) (pos 1) (pos 0)
-not_all = record { none = refl; first = refl; last = refl; both = refl }
-
-none_is : Joins (Logic Nor) (pos 1) (pos 0) (pos 0) (pos 0)
-none_is = record { none = refl; first = refl; last = refl; both = refl }
-
-odd_many : Joins (Logic Xor) (pos 0) (pos 1) (pos 1) (pos 0)
-odd_many = record { none = refl; first = refl; last = refl; both = refl }
-
-even_many : Joins (Logic Nxor) (pos 1) (pos 0) (pos 0) (pos 1)
-even_many = record { none = refl; first = refl; last = refl; both = refl }
+joined : Joins (Logic And) (pos 0) (pos 0) (pos 0) (pos 1) × Joins (Logic Or) (pos 0) (pos 1) (pos 1) (pos 1) × Joins (Logic Nand) (pos 1) (pos 1) (pos 1) (pos 0) × Joins (Logic Nor) (pos 1) (pos 0) (pos 0) (pos 0) × Joins (Logic Xor) (pos 0) (pos 1) (pos 1) (pos 0) × Joins (Logic Nxor) (pos 1) (pos 0) (pos 0) (pos 1)
+joined = (
+  record { none = refl; first = refl; last = refl; both = refl },
+  record { none = refl; first = refl; last = refl; both = refl },
+  record { none = refl; first = refl; last = refl; both = refl },
+  record { none = refl; first = refl; last = refl; both = refl },
+  record { none = refl; first = refl; last = refl; both = refl },
+  record { none = refl; first = refl; last = refl; both = refl },
+)
 
 negated : Gives (Logic Not) (int8 ∷ []) Logical false (pos 0 ∷ []) (pos 1) × Gives (Logic Not) (int8 ∷ []) Logical false (negsuc 0 ∷ []) (pos 0)
 negated = (refl, refl)

@@ -1,5 +1,5 @@
 -- A design of two rates, worked by hand: P = a * b and Q = P * b in each base sample, R takes Q into every other one, and there S = R * D with D = S a hit before. Outputs y = S and z = D. All signals have three elements. Two multipliers serve each kind.
-use Rattle.std.proofs.Common.{◌≡◌, ℕ, Bool, true, false, List, [], ◌∷◌, Option, Some, None, codes, refl}
+use Rattle.std.proofs.Common.{◌≡◌, ℕ, Bool, true, false, List, [], ◌∷◌, Some, None, codes, refl}
 use Rattle.std.proofs.Math.Dec.{lit<}
 use Rattle.fx_type.specs.declared.decimal.Decimal.{Decimal}
 use Rattle.fx_type.specs.declared.rounding.Rounding.TheVariants.{Floor}
@@ -13,10 +13,9 @@ use Rattle.dg_model.specs.declared.kind.Kind.TheVariants.{Inport, Outport, Produ
 use Rattle.dg_model.specs.declared.resolved.Resolved.{Resolved}
 use Rattle.dg_model.specs.Attributes.{attributes_of}
 use Rattle.dg_model.specs.Signals.{Attributes}
-use Rattle.dg_model.specs.TypeRounds.{Types}
-use Rattle.dg_model.specs.Widths.{Widths}
 use Rattle.hw_sched.specs.Slots.{Timing}
-use Rattle.hw_shows.proofs.Small.{int8, decimal_of, edge_of, attributes_by, attributes_are}
+use Rattle.hw_shows.proofs.Small.{int8, decimal_of, edge_of}
+use Rattle.hw_shows.proofs.TriedRules.{Columns, IsTried, attributes_in, attributes_tried}
 
 -- ---- the diagram
 abbrev pub named : List ℕ → Kind → ℕ → ℕ → Block
@@ -28,7 +27,7 @@ input path number = record (named path (Inport number 3) 0 1) { result = Fixed i
 abbrev pub product : List ℕ → Block
 product path = record (named path Product 2 1) { result = Fixed int8; saturate = true }
 
-abbrev pub initial : List Decimal
+abbrev initial : List Decimal
 initial = decimal_of 1 (lit< tt) ∷ []
 
 abbrev pub two : Decimal
@@ -47,27 +46,28 @@ output path number = named path (Outport number) 1 0
 abbrev pub blocks : List Block
 blocks = input (codes "a") 1 ∷ input (codes "b") 2 ∷ product (codes "P") ∷ product (codes "Q") ∷ transition ∷ delay ∷ product (codes "S") ∷ output (codes "y") 1 ∷ output (codes "z") 2 ∷ []
 
-abbrev pub edges : List Edge
+abbrev edges : List Edge
 edges = edge_of 0 2 1 ∷ edge_of 1 2 2 ∷ edge_of 2 3 1 ∷ edge_of 1 3 2 ∷ edge_of 3 4 1 ∷ edge_of 6 5 1 ∷ edge_of 4 6 1 ∷ edge_of 5 6 2 ∷ edge_of 6 7 1 ∷ edge_of 5 8 1 ∷ []
 
 abbrev pub diagram : Diagram
 diagram = record { blocks = blocks; edges = edges }
 
 -- ---- its widths, types and periods
-abbrev pub widths : Widths
-widths = (3 ∷ []) ∷ (3 ∷ []) ∷ (3 ∷ []) ∷ (3 ∷ []) ∷ (3 ∷ []) ∷ (3 ∷ []) ∷ (3 ∷ []) ∷ (3 ∷ []) ∷ (3 ∷ []) ∷ []
+abbrev pub columns : Columns
+columns = record {
+  widths = (3 ∷ []) ∷ (3 ∷ []) ∷ (3 ∷ []) ∷ (3 ∷ []) ∷ (3 ∷ []) ∷ (3 ∷ []) ∷ (3 ∷ []) ∷ (3 ∷ []) ∷ (3 ∷ []) ∷ [];
+  types = Some int8 ∷ Some int8 ∷ Some int8 ∷ Some int8 ∷ Some int8 ∷ Some int8 ∷ Some int8 ∷ Some int8 ∷ Some int8 ∷ [];
+  periods = Some 1 ∷ Some 1 ∷ Some 1 ∷ Some 1 ∷ Some 2 ∷ Some 2 ∷ Some 2 ∷ Some 2 ∷ Some 2 ∷ [];
+}
 
-abbrev pub types : Types
-types = Some int8 ∷ Some int8 ∷ Some int8 ∷ Some int8 ∷ Some int8 ∷ Some int8 ∷ Some int8 ∷ Some int8 ∷ Some int8 ∷ []
-
-abbrev pub periods : List (Option ℕ)
-periods = Some 1 ∷ Some 1 ∷ Some 1 ∷ Some 1 ∷ Some 2 ∷ Some 2 ∷ Some 2 ∷ Some 2 ∷ Some 2 ∷ []
+pub tried : IsTried diagram columns
+tried = record { widths = refl; types = refl; periods = refl; few = refl; edges = refl; ordered = refl; blocks = refl }
 
 abbrev pub attributes : Attributes
-attributes = attributes_by diagram widths types periods
+attributes = attributes_in diagram columns
 
 pub known : attributes_of diagram ≡ attributes
-known = attributes_are diagram widths types periods refl refl refl
+known = attributes_tried diagram columns tried
 
 -- ---- plans, by their clocks, multipliers and the registers behind P, Q and S
 abbrev pub plan_of : ℕ → ℕ → ℕ → ℕ → ℕ → Resolved
