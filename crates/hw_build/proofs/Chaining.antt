@@ -140,15 +140,7 @@ answered_none before classes = record {
 
 source_later : (before after : Circuit) (one : Class) → Extends before after → IsClass before one → IsClass after one
 source_later before after one grown is = record {
-  source = record {
-    net = is.source.net;
-    is = still-there before after one.feed.hub is.source.net grown is.source.is;
-    word = is.source.word;
-    first = is.source.first;
-    some = is.source.some;
-    most = is.source.most;
-    early = is.source.early;
-  };
+  source = record { net = is.source.net; is = still-there before after one.feed.hub is.source.net grown is.source.is; word = is.source.word; first = is.source.first; some = is.source.some; most = is.source.most; early = is.source.early };
   asked = is.asked;
 }
 

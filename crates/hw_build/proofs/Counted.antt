@@ -31,7 +31,7 @@ use Rattle.hw_sched.proofs.Periods.{readable_at}
 use Rattle.hw_build.specs.Multiplied.{multiplication_name, IsMultiplied}
 use Rattle.hw_build.specs.Serving.{others, own_factors, unit_factors}
 use Rattle.hw_build.specs.declared.blocks.Setting.{Setting}
-use Rattle.hw_build.specs.declared.entries.Entry.{Entry}
+use Rattle.hw_build.specs.declared.entry.Entry.{Entry}
 use Rattle.hw_build.specs.declared.pipelines.Piped.{Piped}
 use Rattle.hw_build.specs.declared.spots.Spots.{Spots}
 use Rattle.hw_build.specs.inner.Designed.{timing_for}

@@ -25,7 +25,7 @@ use Rattle.hw_shows.specs.Timing.{Timing}
 use Rattle.hw_build.specs.Places.{Places}
 use Rattle.hw_build.specs.Serving.{others, op_factors, own_factors, unit_factors}
 use Rattle.hw_build.specs.declared.blocks.Setting.{Setting}
-use Rattle.hw_build.specs.declared.entries.Entry.{Entry}
+use Rattle.hw_build.specs.declared.entry.Entry.{Entry}
 use Rattle.hw_build.specs.inner.Designed.{timing_for, times_for}
 use Rattle.hw_build.specs.inner.Entries.{AreOffered, HasFirst, IsEntryPart, IsOwnMultiply, PutsEntry, multiply_at}
 use Rattle.hw_build.specs.inner.HubPlaces.{hubs_in_all}

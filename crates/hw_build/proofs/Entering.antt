@@ -1,5 +1,5 @@
 -- Elements that are put in: what holds of them all, by what was put behind the nets.
-use Rattle.std.proofs.Common.{◌≡◌, ℕ, ◌+◌, ◌-◌, ◌≤◌, ◌⊎◌, inl, inr, true, ℤ, List, [], length, Contains, None, ap, sym, ◌∙◌, subst, refl, arith}
+use Rattle.std.proofs.Common.{◌≡◌, ℕ, ◌+◌, ◌≤◌, ◌⊎◌, inl, inr, true, ℤ, List, [], length, Contains, None, ap, sym, ◌∙◌, subst, refl, arith}
 use Rattle.std.specs.Prelude.{◌≢◌, ⊤}
 use Rattle.std.proofs.lemmas.Option.{none-some}
 use Rattle.fx_type.specs.FxType.{IsType, InRange, is_signed, width_of}
@@ -18,7 +18,7 @@ use Rattle.hw_net.specs.Growing.{with_net}
 use Rattle.hw_net.specs.Netlist.{HasWord}
 use Rattle.hw_shows.specs.Timing.{Timing}
 use Rattle.hw_shows.specs.Series.{AreSame, steady}
-use Rattle.hw_build.specs.declared.entries.Entry.{Entry}
+use Rattle.hw_build.specs.declared.entry.Entry.{Entry}
 use Rattle.hw_build.specs.declared.parts.Word.{Word}
 use Rattle.hw_build.specs.inner.Entries.{IsEntryPart, IsOwnMultiply, IsHeldAt, IsMadeBy, PutsEntry, kept_each, keeps_entry, multiply_at}
 use Rattle.hw_share.specs.inner.Parts.{Grows}

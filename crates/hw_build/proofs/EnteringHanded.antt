@@ -18,7 +18,7 @@ use Rattle.hw_lower.specs.Lowered.{AreArgs}
 use Rattle.hw_sched.specs.Storage.{keeps_own}
 use Rattle.hw_shows.specs.Timing.{Timing}
 use Rattle.hw_build.specs.Places.{Places}
-use Rattle.hw_build.specs.declared.entries.Entry.{Entry}
+use Rattle.hw_build.specs.declared.entry.Entry.{Entry}
 use Rattle.hw_build.specs.inner.Entries.{AreOffered, HasFirst, PutsEntry, enable_types, hands_on, keeps_entry, multiply_at, operand_types}
 use Rattle.hw_build.proofs.Entering.{IsQuiet, quiet_entry}
 use Rattle.hw_build.proofs.EnteringKept.{first_operand}

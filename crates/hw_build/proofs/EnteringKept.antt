@@ -28,7 +28,7 @@ use Rattle.hw_sched.specs.Storage.{keeps_own, kept_by_role}
 use Rattle.hw_shows.specs.Timing.{Timing}
 use Rattle.hw_shows.specs.Series.{span_at, IsSeries, IsEnabledSeries}
 use Rattle.hw_build.specs.Places.{Places}
-use Rattle.hw_build.specs.declared.entries.Entry.{Entry}
+use Rattle.hw_build.specs.declared.entry.Entry.{Entry}
 use Rattle.hw_build.specs.declared.parts.Word.{Word}
 use Rattle.hw_build.specs.declared.site.Site.{Site}
 use Rattle.hw_build.specs.declared.states.Enabled.{Enabled}

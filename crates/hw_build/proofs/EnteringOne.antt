@@ -21,7 +21,7 @@ use Rattle.hw_lower.specs.Lowered.{AreArgs}
 use Rattle.hw_sched.proofs.Periods.{readable_at}
 use Rattle.hw_build.specs.Places.{Places}
 use Rattle.hw_build.specs.declared.blocks.Setting.{Setting}
-use Rattle.hw_build.specs.declared.entries.Entry.{Entry}
+use Rattle.hw_build.specs.declared.entry.Entry.{Entry}
 use Rattle.hw_build.specs.inner.Designed.{timing_for, times_for}
 use Rattle.hw_build.specs.inner.ElementsPut.{ArePlacedInOrder}
 use Rattle.hw_build.specs.inner.Entries.{HasFirst, PutsEntry, keeps_entry, operand_types}

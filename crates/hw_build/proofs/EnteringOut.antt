@@ -34,7 +34,7 @@ use Rattle.hw_sched.specs.Storage.{keeps_own, kept_by_role}
 use Rattle.hw_shows.specs.Timing.{Timing}
 use Rattle.hw_shows.specs.Series.{AreSame, steady, span_at, IsEnabledSeries, IsChosen}
 use Rattle.hw_build.specs.Places.{Places}
-use Rattle.hw_build.specs.declared.entries.Entry.{Entry}
+use Rattle.hw_build.specs.declared.entry.Entry.{Entry}
 use Rattle.hw_build.specs.declared.parts.Word.{Word}
 use Rattle.hw_build.specs.inner.Controls.{IsGate, PutsControl, any_above}
 use Rattle.hw_build.specs.inner.Entries.{AreOffered, HasFirst, IsFrameOf, PutsEntry, enable_types, enables_of, kept_each}

@@ -15,7 +15,7 @@ use Rattle.hw_net.specs.Circuit.{Circuit}
 use Rattle.hw_net.specs.Growing.{with_net}
 use Rattle.hw_net.specs.Netlist.{HasWord}
 use Rattle.hw_shows.specs.Timing.{Timing}
-use Rattle.hw_build.specs.declared.entries.Entry.{Entry}
+use Rattle.hw_build.specs.declared.entry.Entry.{Entry}
 use Rattle.hw_build.specs.inner.Entries.{PutsEntry}
 use Rattle.hw_build.proofs.Entering.{quiet_entry, const_grows, const_word, const_shows}
 use Rattle.hw_build.proofs.Making.{made_kind}

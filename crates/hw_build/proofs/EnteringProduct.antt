@@ -23,7 +23,7 @@ use Rattle.hw_sched.specs.Slots.{right_of}
 use Rattle.hw_build.specs.Places.{Places}
 use Rattle.hw_build.specs.Serving.{unit_factors}
 use Rattle.hw_build.specs.declared.blocks.Setting.{Setting}
-use Rattle.hw_build.specs.declared.entries.Entry.{Entry}
+use Rattle.hw_build.specs.declared.entry.Entry.{Entry}
 use Rattle.hw_build.specs.inner.Designed.{timing_for, times_for}
 use Rattle.hw_build.specs.inner.Entries.{HasProductAs, PutsShared}
 use Rattle.hw_build.specs.inner.HubPlaces.{hubs_in_all}

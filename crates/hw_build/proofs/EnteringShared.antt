@@ -21,7 +21,7 @@ use Rattle.hw_sched.specs.Slots.{right_of, right_type}
 use Rattle.hw_shows.specs.Timing.{Timing}
 use Rattle.hw_shows.specs.Series.{steady, span_at, IsProductAt}
 use Rattle.hw_build.specs.Places.{Places}
-use Rattle.hw_build.specs.declared.entries.Entry.{Entry}
+use Rattle.hw_build.specs.declared.entry.Entry.{Entry}
 use Rattle.hw_build.specs.inner.Entries.{HasProductAs, PutsShared}
 use Rattle.hw_build.specs.inner.Growth.{GoesOn}
 use Rattle.hw_build.specs.inner.Lowering.{IsLoweredIn, conversion_of}

@@ -26,7 +26,7 @@ use Rattle.hw_lower.specs.Lowered.{AreArgs, IsComb, IsLowered, Lowers, multiply_
 use Rattle.hw_shows.specs.Timing.{Timing}
 use Rattle.hw_shows.specs.Waves.{IsCarriedOut}
 use Rattle.hw_build.specs.Places.{Places, waves_of}
-use Rattle.hw_build.specs.declared.entries.Entry.{Entry}
+use Rattle.hw_build.specs.declared.entry.Entry.{Entry}
 use Rattle.hw_build.specs.inner.Entries.{AreOffered, IsEntryPart, IsOwnMultiply, PutsEntry, keeps_entry, multiply_at, number_behind, operand_types}
 use Rattle.hw_share.specs.inner.Parts.{Grows}
 use Rattle.hw_build.specs.inner.Growth.{InLater}

@@ -40,18 +40,9 @@ goes_narrow closed more hubs now later less goes = record {
 reopened_twice : (a b c : List Net) (k : ℕ) → IsReopened a b k → IsReopened b c k → IsReopened a c k
 reopened_twice a b c k one two =
     let same : ◌≡◌ {A = Net} one.is two.was = same_Some one.is two.was (sym one.later_there ∙ two.there) in
-    record {
-      was = one.was;
-      is = two.is;
-      old_args = one.old_args;
-      new_args = two.new_args;
-      there = one.there;
-      later_there = two.later_there;
-      old_kind = one.old_kind;
-      new_kind = two.new_kind;
-      wide = two.wide ∙ sym (ap (λ (n : Net). n.width) same) ∙ one.wide;
-      sign = two.sign ∙ sym (ap (λ (n : Net). n.signed) same) ∙ one.sign;
-    }
+    let wide : two.is.width ≡ one.was.width = two.wide ∙ sym (ap (λ (n : Net). n.width) same) ∙ one.wide in
+    let sign : two.is.signed ≡ one.was.signed = two.sign ∙ sym (ap (λ (n : Net). n.signed) same) ∙ one.sign in
+    record { was = one.was; is = two.is; old_args = one.old_args; new_args = two.new_args; there = one.there; later_there = two.later_there; old_kind = one.old_kind; new_kind = two.new_kind; wide = wide; sign = sign }
 
 -- of the nets that stand at this place
 reopened_at : (a b c d : List Net) (k : ℕ) → slice_get c k ≡ slice_get a k → slice_get d k ≡ slice_get b k → IsReopened a b k → IsReopened c d k

@@ -21,7 +21,7 @@ use Rattle.hw_sched.specs.Laws.{PeriodsAreAbove}
 use Rattle.hw_sched.proofs.Periods.{readable_at}
 use Rattle.hw_build.specs.Places.{Places}
 use Rattle.hw_build.specs.declared.blocks.Setting.{Setting}
-use Rattle.hw_build.specs.declared.entries.Entry.{Entry}
+use Rattle.hw_build.specs.declared.entry.Entry.{Entry}
 use Rattle.hw_build.specs.declared.spots.Spots.{Spots}
 use Rattle.hw_build.specs.inner.Designed.{timing_for, times_for}
 use Rattle.hw_build.specs.inner.Entries.{IsEntryAt}

@@ -125,15 +125,7 @@ module _ {diagram : Diagram} {order : List ℕ} {plan : Resolved} {times : Times
           → IsEndWant diagram (timing l) edge.to b (Port edge.to_port) edge.from p (first_at diagram edge.to element) (hub_for diagram plan times firsts (signal_edge edge) element) (record { feed = record { hub = hub; frame = frame_behind (timing l) p edge.from; first = first }; to = use_by own })
       want_is own element hub first registered period_is is hub_is has first_is =
           let flag = flag_is own registered period_is is in
-          record {
-            own = own;
-            period = period_is;
-            hub_is = hub_is;
-            frame_is = refl;
-            late = has ∙ sym flag;
-            first_is = λ late. first_is (sym flag ∙ late);
-            to_is = to_is own period_is;
-          }
+          record { own = own; period = period_is; hub_is = hub_is; frame_is = refl; late = has ∙ sym flag; first_is = λ late. first_is (sym flag ∙ late); to_is = to_is own period_is }
 
       may_ask : (net : Circuit) (element : ℕ) (want : Want) → IsEndWant diagram (timing l) edge.to b (Port edge.to_port) edge.from p (first_at diagram edge.to element) (hub_for diagram plan times firsts (signal_edge edge) element) want
           → IsHubNet net (hub_for diagram plan times firsts (signal_edge edge) element) (first_of want.feed.first) → IsWant net want

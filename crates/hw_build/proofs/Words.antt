@@ -1,5 +1,5 @@
 -- Numbers of words: what is cut to a word that has it stays, and the ranges of types are those of their words.
-use Rattle.std.proofs.Common.{◌≡◌, ℕ, suc, ◌-◌, ◌<◌, Bool, false, pos, List, [], ◌∷◌, length, Some, ap, ◌∙◌, subst, arith, refl}
+use Rattle.std.proofs.Common.{◌≡◌, ℕ, suc, ◌<◌, Bool, false, pos, List, [], ◌∷◌, length, Some, ap, ◌∙◌, subst, arith, refl}
 use Rattle.std.specs.Prelude.{slice_get, slice_index_or}
 use Rattle.std.proofs.lemmas.Option.{slice_get-get_or}
 use Rattle.fx_num.specs.Word.{InWord}

@@ -39,7 +39,9 @@ abbrev pub counter_count : List Net → ℕ
 counter_count [] = 0
 counter_count (net ∷ nets) = counts net.kind + counter_count nets
 
--- the netlist can be run and emitted; with places that are chosen before any row it shows the tables of its diagram, has its pipelines and its ports; its multiplications are those that are owed, each shared one served; and it has few registers
+-- the netlist can be run and emitted; with places that are chosen before any row it shows the tables of its diagram,
+-- has its pipelines and its ports; its multiplications are those that are owed, each shared one served; and it has few
+-- registers
 pub record IsBuilt (diagram : Diagram) (plan : Resolved) (times : Times) (netlist : Circuit) : Type 0 where
   pub runs : IsNetlist netlist
   pub emittable : IsEmittable netlist

@@ -26,9 +26,13 @@ pub record IsSameTurn (number other t u : ℕ) : Type 0 where
 
 abbrev pub OneTurnAtATime : Type 0
 OneTurnAtATime = (diagram : Diagram) (plan : Resolved) (times : Times) (number other : ℕ) (o q : Operation) (period wide t u : ℕ) → IsScheduled diagram plan times
-    → IsOperation diagram (attributes_of diagram) plan number o → IsOperation diagram (attributes_of diagram) plan other q → (attributes_of diagram).period_at o.block ≡ Some period → (attributes_of diagram).period_at q.block ≡ Some wide → t % period ≡ 0 → u % wide ≡ 0
-    → unit_of diagram (attributes_of diagram) plan times number o ≡ unit_of diagram (attributes_of diagram) plan times other q → clock_of diagram plan times number o t ≡ clock_of diagram plan times other q u → IsSameTurn number other t u
+    → IsOperation diagram (attributes_of diagram) plan number o → IsOperation diagram (attributes_of diagram) plan other q
+    → (attributes_of diagram).period_at o.block ≡ Some period → (attributes_of diagram).period_at q.block ≡ Some wide → t % period ≡ 0 → u % wide ≡ 0
+    → unit_of diagram (attributes_of diagram) plan times number o ≡ unit_of diagram (attributes_of diagram) plan times other q
+    → clock_of diagram plan times number o t ≡ clock_of diagram plan times other q u → IsSameTurn number other t u
 
 -- a checked diagram and a plan with its latencies and slots are scheduled
 abbrev pub SlotsAreScheduled : Type 0
-SlotsAreScheduled = (diagram : Diagram) (plan : Resolved) (latencies : Latencies) (slots : Slots) → IsChecked diagram → IsPlanOf diagram plan → AreSlots diagram plan latencies slots → IsScheduled diagram plan (timing_of latencies slots.depths)
+SlotsAreScheduled =
+    (diagram : Diagram) (plan : Resolved) (latencies : Latencies) (slots : Slots) → IsChecked diagram → IsPlanOf diagram plan
+    → AreSlots diagram plan latencies slots → IsScheduled diagram plan (timing_of latencies slots.depths)

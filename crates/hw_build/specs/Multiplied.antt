@@ -25,5 +25,6 @@ pub record IsMultiplied (netlist : Circuit) (name : List ℕ) : Type 0 where
 
 -- each element of a Product or Gain that isn't shared has its multiplication by this name
 pub record AreMultiplied (diagram : Diagram) (plan : Resolved) (netlist : Circuit) : Type 0 where
-  pub each : (block element : ℕ) → block < length diagram.blocks → multiplies diagram block ≡ true → is_shared diagram (attributes_of diagram) plan block ≡ false → element < (attributes_of diagram).width_at block 1
+  pub each : (block element : ℕ) → block < length diagram.blocks → multiplies diagram block ≡ true
+      → is_shared diagram (attributes_of diagram) plan block ≡ false → element < (attributes_of diagram).width_at block 1
       → IsMultiplied netlist (multiplication_name block element)

@@ -25,7 +25,8 @@ pub record IsPort (netlist : Circuit) (e : RootElement) (number latency : ℕ) (
 pub record HasPorts (diagram : Diagram) (plan : Resolved) (times : Times) (netlist : Circuit) (places : Places) : Type 0 where
   pub cycles : netlist.cycles ≡ plan.cycles
   pub input_count : length netlist.inputs ≡ length (root_inputs diagram (attributes_of diagram))
-  pub inputs : (k : ℕ) (e : RootElement) (port : NetPort) → slice_get (root_inputs diagram (attributes_of diagram)) k ≡ Some e → slice_get netlist.inputs k ≡ Some port → IsPort netlist e (places.input e.number e.element) 0 port
+  pub inputs : (k : ℕ) (e : RootElement) (port : NetPort) → slice_get (root_inputs diagram (attributes_of diagram)) k ≡ Some e
+      → slice_get netlist.inputs k ≡ Some port → IsPort netlist e (places.input e.number e.element) 0 port
   pub output_count : length netlist.outputs ≡ length (root_outputs diagram (attributes_of diagram))
   pub outputs : (k : ℕ) (e : RootElement) (port : NetPort) → slice_get (root_outputs diagram (attributes_of diagram)) k ≡ Some e → slice_get netlist.outputs k ≡ Some port
       → IsPort netlist e (places.after e.block 1 e.element) (declared_latency diagram (attributes_of diagram) plan times e.block) port

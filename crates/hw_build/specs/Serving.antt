@@ -100,6 +100,7 @@ pub record IsServedIn (diagram : Diagram) (plan : Resolved) (times : Times) (net
 
 -- every shared operation is served, and there are as many multiplications as are owed
 pub record Serves (diagram : Diagram) (plan : Resolved) (times : Times) (netlist : Circuit) : Type 0 where
-  pub each : (number : ℕ) (o : Operation) (b : Block) → IsOperation diagram (attributes_of diagram) plan number o → slice_get diagram.blocks o.block ≡ Some b → IsServedIn diagram plan times netlist number o b
+  pub each : (number : ℕ) (o : Operation) (b : Block) → IsOperation diagram (attributes_of diagram) plan number o
+      → slice_get diagram.blocks o.block ≡ Some b → IsServedIn diagram plan times netlist number o b
   pub shared : length (multipliers netlist) ≡ units_in_all diagram (attributes_of diagram) plan times
   pub own : length (others netlist) ≡ unshared diagram (attributes_of diagram) plan

@@ -24,8 +24,11 @@ pub struct Asks {
     pub wants: Vec<Want>,
 }
 
+/// What is asked stands behind the other asks, or want of memory.
+pub type Asked = Result<(), OutOfMemory>;
+
 /// Asks for a net as it is.
-fn ask_now(asks: &mut Asks, hub: u32) -> Result<(), OutOfMemory>
+fn ask_now(asks: &mut Asks, hub: u32) -> Asked
     ensures { OnOk result (AsksOne asks.old.list.items asks.new.list.items
         asks.old.wants.items asks.new.wants.items hub None) }
 {
@@ -34,7 +37,7 @@ fn ask_now(asks: &mut Asks, hub: u32) -> Result<(), OutOfMemory>
 }
 
 /// Asks for a net that is shown later.
-fn ask_later(asks: &mut Asks, want: Want) -> Result<(), OutOfMemory>
+fn ask_later(asks: &mut Asks, want: Want) -> Asked
     ensures { OnOk result (AsksOne asks.old.list.items asks.new.list.items
         asks.old.wants.items asks.new.wants.items want.feed.hub (Some want)) }
 {
@@ -51,7 +54,7 @@ fn ask_later(asks: &mut Asks, want: Want) -> Result<(), OutOfMemory>
 }
 
 /// Asks for the elements of a signal, whose nets stand one behind another, as they are.
-pub fn ask_signal(asks: &mut Asks, first: u32, width: u32) -> Result<(), OutOfMemory>
+pub fn ask_signal(asks: &mut Asks, first: u32, width: u32) -> Asked
     requires { first + width ≤ 2 ^ 32 }
     ensures { OnOk result (AsksAll asks.old.list.items asks.new.list.items
         asks.old.wants.items asks.new.wants.items (hub_from first) unasked width) }
@@ -63,13 +66,7 @@ pub fn ask_signal(asks: &mut Asks, first: u32, width: u32) -> Result<(), OutOfMe
 }
 
 /// Asks for the elements of a signal, shown later.
-pub fn ask_plain(
-    asks: &mut Asks,
-    first: u32,
-    width: u32,
-    frame: Frame,
-    to: Use,
-) -> Result<(), OutOfMemory>
+pub fn ask_plain(asks: &mut Asks, first: u32, width: u32, frame: Frame, to: Use) -> Asked
     requires { first + width ≤ 2 ^ 32 }
     ensures { OnOk result (AsksAll asks.old.list.items asks.new.list.items
         asks.old.wants.items asks.new.wants.items (hub_from first) (plain_want first frame to)
@@ -87,13 +84,7 @@ pub fn ask_plain(
 }
 
 /// Asks for a net that registers show later, which have this first.
-pub fn ask_registered(
-    asks: &mut Asks,
-    hub: u32,
-    frame: Frame,
-    first: i128,
-    to: Use,
-) -> Result<(), OutOfMemory>
+pub fn ask_registered(asks: &mut Asks, hub: u32, frame: Frame, first: i128, to: Use) -> Asked
     ensures { OnOk result (AsksOne asks.old.list.items asks.new.list.items
         asks.old.wants.items asks.new.wants.items hub (Some (record {
           feed = record { hub = hub; frame = frame; first = Some first };

@@ -11,7 +11,8 @@ ghost use Rattle.hw_build.specs.inner.Looping.{AreInputSpots, HasElements, IsBeg
 use crate::block_inputs::{BlockAt, BlockInputs, inputs_of};
 use crate::closing::close;
 use crate::design::Design;
-use crate::entries::{Entry, put_entry};
+use crate::entries::put_entry;
+use crate::entry::Made;
 use crate::full_types::full_type;
 use crate::hubs::{is_input, shown_ports, shown_width};
 use crate::labels::product_name;
@@ -51,12 +52,7 @@ fn setting_is_known<'a>(setting: Setting<'a>)
 }
 
 /// Puts in an element of a block, before its pipeline.
-fn put_one<'a>(
-    alloc: Global,
-    net: &mut Netlist,
-    element: Element<'a>,
-    inputs: &BlockInputs,
-) -> Result<Entry, OutOfMemory>
+fn put_one<'a>(alloc: Global, net: &mut Netlist, element: Element<'a>, inputs: &BlockInputs) -> Made
     requires set { IsSet element.setting }
     requires hand { IsAtHand element inputs.now }
     requires going { Stands element.setting net.old }

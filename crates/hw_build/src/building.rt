@@ -12,6 +12,7 @@ ghost use Rattle.hw_build.specs.inner.Outgoing.{AreOutputBlocks, IsSmall};
 
 use crate::blocks::{Setting, put_elements};
 use crate::design::Design;
+use crate::gathering::Ends;
 use crate::hubs::hubs_of;
 use crate::laws::{done_is_built, slots_are_scheduled};
 use crate::lining::put_lines;
@@ -46,7 +47,14 @@ fn put_nets<'a>(
     dg_model::columns_are_a_stimulus();
     dg_model::edges_stand_by_port();
     dg_model::root_elements_are_listed();
-    let operands = put_lines(alloc, net, design, firsts)?;
+    let operands = put_lines(
+        alloc,
+        net,
+        Ends {
+            design,
+            hubs: firsts,
+        },
+    )?;
     let products = match products_of(alloc, net, design, &operands) {
         Ok(products) => products,
         Err(wanting) => {

@@ -1,11 +1,12 @@
 //! The nets of elements of blocks.
-ghost use Rattle.std.specs.Prelude.{◌≡◌, true, None, IfOk};
+ghost use Rattle.std.specs.Prelude.{◌≡◌, true, IfOk};
 ghost use Rattle.dg_model.specs.declared.kind.Kind.{Kind};
 ghost use Rattle.dg_model.specs.Attributes.{attributes_of};
 ghost use Rattle.dg_model.specs.Wires.{period_into};
 ghost use Rattle.hw_build.specs.inner.Entries.{hands_on, shows_alone};
 ghost use Rattle.hw_build.specs.inner.Sites.{CanKeep, HasOperands, IsReady, IsSite, Puts};
 
+use crate::entry::{Entry, Made, plain};
 use crate::firsts::list_of;
 use crate::kept::{delayed, passed_out};
 use crate::lowering::initial;
@@ -14,33 +15,9 @@ use crate::site::Site;
 use crate::worked::{carried, op_of, tested};
 use dg_model::Kind;
 use dg_tables::operations_prepare;
-use fx_io::OutOfMemory;
 use fx_type::Decimal;
 use hw_net::Netlist;
 use std::alloc::Global;
-
-/// The nets of an element of a block.
-#[derive(Clone, Copy)]
-pub struct Entry {
-    /// What the element shows, before the pipeline of its block.
-    pub net: u32,
-    /// The first register of its state, behind which the others stand. An element without a state has
-    /// its own net here.
-    pub state: u32,
-    /// Its multiplication, if it has one of its own.
-    pub multiply: Option<u32>,
-}
-
-/// An element without a state and without a multiplication.
-pub fn plain(net: u32) -> Entry
-    ensures { result ≡ record { net = net; state = net; multiply = None } }
-{
-    Entry {
-        net,
-        state: net,
-        multiply: None,
-    }
-}
 
 /// An element that is what is offered.
 pub fn handed<'a>(net: &Netlist, site: Site<'a>) -> Entry
@@ -54,12 +31,7 @@ pub fn handed<'a>(net: &Netlist, site: Site<'a>) -> Entry
 }
 
 /// Puts in an element of a Constant.
-fn constant<'a>(
-    alloc: Global,
-    net: &mut Netlist,
-    site: Site<'a>,
-    value: &[Decimal],
-) -> Result<Entry, OutOfMemory>
+fn constant<'a>(alloc: Global, net: &mut Netlist, site: Site<'a>, value: &[Decimal]) -> Made
     requires shown { IsSite site }
     requires kind { site.one.now.kind ≡ Kind.Constant value.now }
     ensures { IfOk result (Puts site.entry net.old net.new) }
@@ -70,7 +42,7 @@ fn constant<'a>(
 }
 
 /// Puts in an element of a Ground.
-fn ground<'a>(alloc: Global, net: &mut Netlist, site: Site<'a>) -> Result<Entry, OutOfMemory>
+fn ground<'a>(alloc: Global, net: &mut Netlist, site: Site<'a>) -> Made
     requires shown { IsSite site }
     requires kind { site.one.now.kind ≡ Kind.Ground }
     ensures { IfOk result (Puts site.entry net.old net.new) }
@@ -83,7 +55,7 @@ fn ground<'a>(alloc: Global, net: &mut Netlist, site: Site<'a>) -> Result<Entry,
 }
 
 /// Puts in an element of a block that carries out no operation.
-fn put_alone<'a>(alloc: Global, net: &mut Netlist, site: Site<'a>) -> Result<Entry, OutOfMemory>
+fn put_alone<'a>(alloc: Global, net: &mut Netlist, site: Site<'a>) -> Made
     requires can { CanKeep net.old site }
     requires ready { IsReady net.old site }
     requires kind { shows_alone site.one.now.kind ≡ true }
@@ -105,7 +77,7 @@ fn put_alone<'a>(alloc: Global, net: &mut Netlist, site: Site<'a>) -> Result<Ent
 /// Puts in an element of a block. Its operands are what the ends of the block offer to it; of the
 /// control of an enabled subsystem all elements of its input, and of a block that asks whether it is
 /// enabled what enables it behind the others. A Product or a Gain is one that isn't shared.
-pub fn put_entry<'a>(alloc: Global, net: &mut Netlist, site: Site<'a>) -> Result<Entry, OutOfMemory>
+pub fn put_entry<'a>(alloc: Global, net: &mut Netlist, site: Site<'a>) -> Made
     requires can { CanKeep net.old site }
     requires ready { IsReady net.old site }
     ensures { IfOk result (Puts site.entry net.old net.new) }

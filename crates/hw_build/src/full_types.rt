@@ -1,7 +1,6 @@
 //! The types that hold every product of blocks that multiply.
 ghost use Rattle.std.specs.Prelude.{◌≡◌, ◌≤◌, true, Some, slice_get};
 ghost use Rattle.fx_type.specs.declared.kind.FxType.{FxType};
-ghost use Rattle.fx_type.specs.FxType.{IsType};
 ghost use Rattle.fx_type.specs.FullType.{IsFullProduct};
 ghost use Rattle.dg_model.specs.Attributes.{attributes_of};
 ghost use Rattle.dg_model.specs.Library.{row_of};
@@ -42,16 +41,6 @@ fn second_type(checked: &Checked, block: u32, one: &Block) -> FxType
     }
 }
 
-/// The full type of a product that has one.
-fn full_of(one: FxType, other: FxType) -> FxType
-    requires one { IsType one }
-    requires other { IsType other }
-    requires full { (full : FxType) × IsFullProduct one other full }
-    ensures { IsFullProduct one other result }
-{
-    full_product(one, other).unwrap()
-}
-
 /// The type that holds every product of a block that multiplies.
 pub fn full_type(checked: &Checked, block: u32, one: &Block) -> FxType
     requires block { slice_get checked.now.diagram.blocks block ≡ Some one.now }
@@ -65,5 +54,5 @@ pub fn full_type(checked: &Checked, block: u32, one: &Block) -> FxType
     fx_round::storing_gives_one();
     let left = type_into(checked, block, 1, one);
     let right = second_type(checked, block, one);
-    full_of(left, right)
+    full_product(left, right).unwrap()
 }

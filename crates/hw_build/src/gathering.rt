@@ -3,7 +3,7 @@ ghost use Rattle.std.specs.Prelude.{◌≡◌, ◌++◌, ◌-◌, ◌<◌, ◌�
 ghost use Rattle.hw_build.specs.declared.operands.Span.{Span};
 ghost use Rattle.hw_build.specs.inner.EndAsks.{AreLawful, CanAsk, HaveAsked, IsLineThere, IsSpan, PutsControl, PutsLine, controls_left};
 
-use crate::asks::{Asks, ask_plain, ask_signal};
+use crate::asks::{Asked, Asks, ask_plain, ask_signal};
 use crate::design::{Design, frame_after, line_use};
 use crate::hubs::shown_ports;
 use crate::laws::schedules_are_timed;
@@ -40,7 +40,7 @@ pub fn ends_are_lawful<'a>(ends: Ends<'a>)
 }
 
 /// Asks for what the end of a line is offered.
-fn line_end<'a>(asks: &mut Asks, ends: Ends<'a>, edge: Edge) -> Result<(), OutOfMemory>
+fn line_end<'a>(asks: &mut Asks, ends: Ends<'a>, edge: Edge) -> Asked
     requires can { CanAsk ends }
     requires line { IsLineThere ends.design.checked.now.diagram edge }
     ensures { OnOk result (PutsLine ends.entry asks.old asks.new edge) }
@@ -67,7 +67,7 @@ fn line_end<'a>(asks: &mut Asks, ends: Ends<'a>, edge: Edge) -> Result<(), OutOf
 }
 
 /// Asks for what enables a block, if anything does.
-fn control_end<'a>(asks: &mut Asks, ends: Ends<'a>, block: u32) -> Result<(), OutOfMemory>
+fn control_end<'a>(asks: &mut Asks, ends: Ends<'a>, block: u32) -> Asked
     requires can { CanAsk ends }
     requires there { block < length ends.design.checked.now.diagram.blocks }
     ensures { OnOk result (PutsControl ends.entry asks.old asks.new block) }
@@ -111,11 +111,7 @@ fn put_span(spans: &mut Spans, first: usize, end: usize) -> Result<(), OutOfMemo
 }
 
 /// Asks for what the ends of all lines are offered.
-pub fn gather_lines<'a>(
-    asks: &mut Asks,
-    lines: &mut Spans,
-    ends: Ends<'a>,
-) -> Result<(), OutOfMemory>
+pub fn gather_lines<'a>(asks: &mut Asks, lines: &mut Spans, ends: Ends<'a>) -> Asked
     requires can { CanAsk ends }
     requires list { asks.old.list.items ≡ [] }
     requires wants { asks.old.wants.items ≡ [] }
@@ -133,11 +129,7 @@ pub fn gather_lines<'a>(
 }
 
 /// Asks for what enables all blocks.
-pub fn gather_controls<'a>(
-    asks: &mut Asks,
-    controls: &mut Spans,
-    ends: Ends<'a>,
-) -> Result<(), OutOfMemory>
+pub fn gather_controls<'a>(asks: &mut Asks, controls: &mut Spans, ends: Ends<'a>) -> Asked
     requires can { CanAsk ends }
     requires controls { controls.old ≡ [] }
     ensures { OnOk result ((lines : List Span) (lined : ℕ)

@@ -8,7 +8,8 @@ ghost use Rattle.dg_model.specs.Wires.{period_into};
 ghost use Rattle.hw_build.specs.inner.Registering.{enables_by};
 ghost use Rattle.hw_build.specs.inner.Sites.{CanKeep, HasEnabledOperands, HasOperands, IsKept, IsSite, PassesOut, Puts, TakesAs};
 
-use crate::entries::{Entry, handed, plain};
+use crate::entries::handed;
+use crate::entry::{Entry, Made, plain};
 use crate::laws::schedules_are_timed;
 use crate::lowering::initial;
 use crate::operands::line_into;
@@ -68,7 +69,7 @@ fn keep<'a>(
     initial: &[Decimal],
     reset: bool,
     enabled: Option<Enabled>,
-) -> Result<Entry, OutOfMemory>
+) -> Made
     requires can { CanKeep net.old site }
     requires kind { site.one.now.kind ≡ Kind.Delay count initial.now reset }
     requires operands { HasEnabledOperands net.old site }
@@ -84,12 +85,7 @@ fn keep<'a>(
 }
 
 /// Puts in an element of an output port of an enabled subsystem that keeps what it had.
-fn pass_held<'a>(
-    alloc: Global,
-    net: &mut Netlist,
-    site: Site<'a>,
-    initial: &[Decimal],
-) -> Result<Entry, OutOfMemory>
+fn pass_held<'a>(alloc: Global, net: &mut Netlist, site: Site<'a>, initial: &[Decimal]) -> Made
     requires can { CanKeep net.old site }
     requires out { PassesOut net.old site false initial.now }
     ensures { IfOk result (Puts site.entry net.old net.new) }
@@ -111,12 +107,7 @@ fn pass_held<'a>(
 
 /// Puts in an element of an output port of an enabled subsystem that has its initial value where
 /// that isn't enabled.
-fn pass_reset<'a>(
-    alloc: Global,
-    net: &mut Netlist,
-    site: Site<'a>,
-    list: &[Decimal],
-) -> Result<Entry, OutOfMemory>
+fn pass_reset<'a>(alloc: Global, net: &mut Netlist, site: Site<'a>, list: &[Decimal]) -> Made
     requires shown { IsSite site }
     requires out { PassesOut net.old site true list.now }
     ensures { IfOk result (Puts site.entry net.old net.new) }
@@ -146,7 +137,7 @@ pub fn delayed<'a>(
     count: u32,
     initial: &[Decimal],
     reset: bool,
-) -> Result<Entry, OutOfMemory>
+) -> Made
     requires can { CanKeep net.old site }
     requires kind { site.one.now.kind ≡ Kind.Delay count initial.now reset }
     requires operands { HasOperands net.old site site.one.now.kind }
@@ -175,7 +166,7 @@ pub fn passed_out<'a>(
     site: Site<'a>,
     initial: &[Decimal],
     reset: bool,
-) -> Result<Entry, OutOfMemory>
+) -> Made
     requires can { CanKeep net.old site }
     requires kind { site.one.now.kind ≡ Kind.EnOut reset initial.now }
     requires operands { HasOperands net.old site site.one.now.kind }

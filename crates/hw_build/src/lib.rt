@@ -16,6 +16,7 @@ mod coefficients;
 mod controls;
 mod design;
 mod entries;
+mod entry;
 mod firsts;
 mod full_types;
 mod gathering;

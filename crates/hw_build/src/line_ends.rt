@@ -4,10 +4,9 @@ ghost use Rattle.dg_model.specs.Attributes.{attributes_of};
 ghost use Rattle.dg_model.specs.Wires.{repeated};
 ghost use Rattle.hw_build.specs.inner.Seeking.{AsksAll, hub_spread, late_want};
 
-use crate::asks::{Asks, ask_registered};
+use crate::asks::{Asked, Asks, ask_registered};
 use crate::firsts::first_entry;
 use dg_model::{Block, Checked};
-use fx_io::OutOfMemory;
 use hw_lines::Use;
 use hw_net::Frame;
 use hw_sched::own_width;
@@ -30,7 +29,7 @@ pub fn ask_late(
     width: u32,
     frame: Frame,
     to: Use,
-) -> Result<(), OutOfMemory>
+) -> Asked
     requires is { slice_get checked.now.diagram.blocks block ≡ Some one.now }
     requires fits { (element : ℕ)
         → element < (attributes_of checked.now.diagram).width_at block 1

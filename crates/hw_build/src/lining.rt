@@ -7,10 +7,8 @@ ghost use Rattle.hw_build.specs.inner.LinesPut.{AreLinesPut, StandHubs};
 
 use crate::asks::Asks;
 use crate::chains::put_asks;
-use crate::design::Design;
 use crate::gathering::{Ends, ends_are_lawful, gather_controls, gather_lines};
 use crate::operands::{Operands, Spans};
-use dg_model::PortWidths;
 use fx_io::OutOfMemory;
 use hw_net::Netlist;
 use std::alloc::Global;
@@ -22,25 +20,24 @@ use std::alloc::Global;
 pub fn put_lines<'a>(
     alloc: Global,
     net: &mut Netlist,
-    design: Design<'a>,
-    hubs: &PortWidths,
+    ends: Ends<'a>,
 ) -> Result<Operands, OutOfMemory>
-    requires designed { IsDesigned design }
-    requires cycles { net.old.cycles ≡ design.plan.now.cycles }
-    requires inputs { length net.old.inputs
-        ≤ length (root_inputs design.checked.now.diagram (attributes_of design.checked.now.diagram)) }
-    requires hubs { StandHubs design.checked.now.diagram net.old hubs.now }
-    ensures { IfOk result (λ operands. AreLinesPut design.entry.checked.now.diagram
-        design.entry.plan.now (times_for design.entry) net.old net.new hubs.now operands) }
+    requires designed { IsDesigned ends.design }
+    requires cycles { net.old.cycles ≡ ends.design.plan.now.cycles }
+    requires inputs { length net.old.inputs ≤ length (root_inputs ends.design.checked.now.diagram
+        (attributes_of ends.design.checked.now.diagram)) }
+    requires hubs { StandHubs ends.design.checked.now.diagram net.old ends.hubs.now }
+    ensures { IfOk result (λ operands. AreLinesPut ends.entry.design.checked.now.diagram
+        ends.entry.design.plan.now (times_for ends.entry.design) net.old net.new
+        ends.entry.hubs.now operands) }
 {
-    design.checked.keeps_rules();
+    ends.design.checked.keeps_rules();
     dg_model::root_elements_are_listed();
     dg_tables::operations_prepare();
     let Ok(_count) = u32::try_from(net.nets().len()) else {
         // word: how many nets there are, of 32 bits
         return Err(OutOfMemory);
     };
-    let ends = Ends { design, hubs };
     ends_are_lawful(ends);
     let mut asks = Asks {
         list: Vec::new(alloc),

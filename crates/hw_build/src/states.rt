@@ -1,8 +1,6 @@
 //! Registers one behind another, in which elements are kept.
-ghost use Rattle.std.specs.Prelude.{◌≡◌, ◌∷◌, ◌++◌, ◌<◌, ◌≤◌, [], All, IfOk, length};
-ghost use Rattle.fx_num.specs.Word.{InWord, IsWord};
-ghost use Rattle.hw_net.specs.Netlist.{HasWord};
-ghost use Rattle.hw_build.specs.inner.Registering.{PutsSeries, enables_by, register_of};
+ghost use Rattle.std.specs.Prelude.{◌≡◌, ◌∷◌, ◌++◌, [], IfOk};
+ghost use Rattle.hw_build.specs.inner.Registering.{CanPutSeries, PutsSeries, enables_by, register_of};
 
 use crate::parts::Word;
 use fx_io::OutOfMemory;
@@ -60,13 +58,7 @@ pub fn put_series(
     first: i128,
     from: u32,
 ) -> Result<Series, OutOfMemory>
-    requires cycles { 0 < net.old.cycles }
-    requires period { 0 < frame.period }
-    requires some { 1 ≤ count }
-    requires word { IsWord word.width word.signed }
-    requires from { HasWord net.old.nets from word.width word.signed }
-    requires enabled { All (λ read. read < length net.old.nets) (enables_by enabled) }
-    requires first { InWord word.width word.signed first }
+    requires { CanPutSeries net.old word frame enabled count first from }
     ensures { IfOk result (PutsSeries (register_of enabled frame slot first) net.old net.new
         (enables_by enabled ++ from ∷ []) frame word from count) }
 {

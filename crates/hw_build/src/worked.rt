@@ -1,25 +1,18 @@
 //! Elements that operations of their blocks give.
-ghost use Rattle.std.specs.Prelude.{◌≡◌, false, Some, IfOk, MatchOption, slice_get};
-ghost use Rattle.fx_type.specs.FullType.{IsFullProduct};
-ghost use Rattle.fx_type.specs.FxType.{is_signed, width_of};
+ghost use Rattle.std.specs.Prelude.{◌≡◌, false, Some, IfOk, MatchOption};
 ghost use Rattle.dg_model.specs.declared.kind.Kind.{Kind};
-ghost use Rattle.dg_model.specs.Attributes.{attributes_of};
-ghost use Rattle.dg_model.specs.Wires.{type_into};
-ghost use Rattle.hw_net.specs.Netlist.{HasWord};
-ghost use Rattle.hw_sched.specs.Slots.{right_of};
 ghost use Rattle.hw_build.specs.inner.Designed.{timing_for};
-ghost use Rattle.hw_build.specs.inner.Entries.{PutsShared, works};
+ghost use Rattle.hw_build.specs.inner.Entries.{IsFullProductAt, PutsShared, works};
 ghost use Rattle.hw_build.specs.inner.Sites.{IsOpAt, IsReady, IsSite, Puts, types_at};
 
 use crate::controls::some_above;
 use crate::design::Design;
-use crate::entries::{Entry, plain};
+use crate::entry::{Entry, Made, plain};
 use crate::firsts::list_of;
 use crate::lowering::{multiply_behind, stored};
 use crate::site::Site;
 use dg_model::{Block, Kind, Op, OpCall};
 use dg_tables::{Place, operations_prepare};
-use fx_io::OutOfMemory;
 use fx_type::FxType;
 use hw_lower::lower;
 use hw_net::Netlist;
@@ -67,12 +60,7 @@ pub fn op_of<'a>(site: Site<'a>) -> Option<Op>
 }
 
 /// Puts in an element that an operation of its block gives.
-pub fn carried<'a>(
-    alloc: Global,
-    net: &mut Netlist,
-    site: Site<'a>,
-    op: Op,
-) -> Result<Entry, OutOfMemory>
+pub fn carried<'a>(alloc: Global, net: &mut Netlist, site: Site<'a>, op: Op) -> Made
     requires ready { IsReady net.old site }
     requires op { IsOpAt site op }
     ensures { IfOk result (Puts site.entry net.old net.new) }
@@ -100,7 +88,7 @@ pub fn carried<'a>(
 }
 
 /// Puts in the element of the control of an enabled subsystem.
-pub fn tested<'a>(alloc: Global, net: &mut Netlist, site: Site<'a>) -> Result<Entry, OutOfMemory>
+pub fn tested<'a>(alloc: Global, net: &mut Netlist, site: Site<'a>) -> Made
     requires ready { IsReady net.old site }
     requires kind { site.one.now.kind ≡ Kind.EnableTest }
     ensures { IfOk result (Puts site.entry net.old net.new) }
@@ -123,13 +111,8 @@ pub fn put_shared<'a>(
     one: &Block,
     full: FxType,
     product: u32,
-) -> Result<Entry, OutOfMemory>
-    requires block { slice_get design.checked.now.diagram.blocks place.block ≡ Some one.now }
-    requires full { IsFullProduct (type_into design.checked.now.diagram
-        (attributes_of design.checked.now.diagram) place.block 1)
-        (right_of design.checked.now.diagram (attributes_of design.checked.now.diagram)
-        place.block (Some one.now)) full }
-    requires word { HasWord net.old.nets product (width_of full) (is_signed full) }
+) -> Made
+    requires { IsFullProductAt design.checked.now.diagram net.old place.block one.now full product }
     ensures { IfOk result (PutsShared design.entry.checked.now.diagram (timing_for design.entry)
         net.old net.new place.block one.now place.port place.element product) }
 {

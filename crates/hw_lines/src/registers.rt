@@ -6,17 +6,14 @@ ghost use Rattle.hw_lines.specs.inner.Parts.{IsBridged};
 use fx_io::OutOfMemory;
 use hw_net::{Frame, Net, NetKind, Netlist};
 
+/// The number of a net that was put in, or want of memory.
+pub type Put = Result<u32, OutOfMemory>;
+
 /// Puts in a register that takes a net at a slot of a frame, and has its first number before.
 ///
 /// # Errors
 /// Want of memory, also where the number of a net has no room in 32 bits.
-pub fn register_at(
-    net: &mut Netlist,
-    from: u32,
-    frame: Frame,
-    slot: u32,
-    first: i128,
-) -> Result<u32, OutOfMemory>
+pub fn register_at(net: &mut Netlist, from: u32, frame: Frame, slot: u32, first: i128) -> Put
     requires cycles { 0 < net.old.cycles }
     requires period { 0 < frame.period }
     requires from { CanHold net.old from first }
@@ -40,7 +37,7 @@ pub fn register_at(
 }
 
 /// Puts in a bridge that passes a net on in the first base samples of a frame.
-pub fn bridge_at(net: &mut Netlist, from: u32, frame: Frame, live: u32) -> Result<u32, OutOfMemory>
+pub fn bridge_at(net: &mut Netlist, from: u32, frame: Frame, live: u32) -> Put
     requires cycles { 0 < net.old.cycles }
     requires period { 0 < frame.period }
     requires live { 0 < live }

@@ -1,6 +1,6 @@
 -- Numbers cut to a word.
-use Rattle.std.proofs.Common.{◌≡◌, ℕ, ◌-◌, ◌^◌, ◌<ℤ◌, ◌≤ℤ◌, Bool, true, false, ℤ, pos, negsuc, ◌+ℤ◌, ◌-ℤ◌, ◌*ℤ◌, ap, sym, arith, subst}
-use Rattle.std.specs.Prelude.{◌≢◌, not, if◌then◌else◌, ◌&&◌}
+use Rattle.std.proofs.Common.{◌≡◌, ℕ, ◌^◌, ◌<ℤ◌, ◌≤ℤ◌, Bool, true, false, ℤ, pos, negsuc, ◌+ℤ◌, ◌-ℤ◌, ◌*ℤ◌, ap, sym, arith, subst}
+use Rattle.std.specs.Prelude.{not, if◌then◌else◌, ◌&&◌}
 use mathlib.Core.Bool.{beq}
 use Rattle.std.proofs.Common.{eqb, eqb-true, true≢false, int_lt}
 use Rattle.hw_net.specs.Operation.{truth}

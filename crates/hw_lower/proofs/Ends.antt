@@ -9,7 +9,10 @@ use Rattle.fx_num.proofs.Shifted.{shr-divided, shr_exact}
 use Rattle.fx_type.specs.declared.kind.FxType.TheVariants.{Num}
 use Rattle.fx_type.specs.Conversion.{Saturates}
 use Rattle.hw_lower.specs.declared.plan.Word.{Word}
-use Rattle.hw_lower.specs.inner.Planned.{IsHeldBelow, IsHeldAbove}
+use Rattle.hw_lower.specs.inner.Planned.{IsChosen, IsHeldBelow, IsHeldAbove}
+use Rattle.hw_lower.proofs.Cut.{less-is}
+use Rattle.hw_net.specs.Operation.{truth}
+use Rattle.std.specs.Prelude.{int_lt}
 use Rattle.hw_net.proofs.Numbers.{wrapped-is}
 use Rattle.hw_net.proofs.Words.{lowest-below}
 
@@ -100,3 +103,21 @@ passes exact high v bound f h = by_lt_z bound v (λ less. less) (λ more. absurd
 
 pub falls : (exact low v bound : ℤ) → (bound ≤ℤ v → low ≤ℤ exact) → exact <ℤ low → v <ℤ bound
 falls exact low v bound f h = by_lt_z v bound (λ less. less) (λ more. absurd (omega (arith, ints, f (omega (arith, ints, more)), h)))
+
+-- what is held at the greatest number, and at the least
+chosen-end : (test end most value made : ℤ) → IsChosen test most value made → most ≡ end → test ≡ pos 1 → made ≡ end
+chosen-end test end most value made chosen is one = chosen.any (λ e. absurd (omega (arith, ints, e, one))) ∙ is
+
+pub held-below : (word : Word) (exact v bound end most test value made : ℤ) → (exact ≤ℤ word_highest word.width word.signed) ↔ (v ≤ℤ bound) → end ≡ bound → most ≡ word_highest word.width word.signed → IsWrapped (truth (int_lt end v)) 1 false test
+    → IsChosen test most value made → IsHeldBelow word exact value made
+held-below word exact v bound end most test value made ends is most_is less chosen =
+    let high : ℤ = word_highest word.width word.signed in
+    let tells = less-is end v test less in
+    record { within = λ h. chosen.zero (tells.1 (omega (arith, ints, ends.0 h, is))); above = λ h. chosen-end test high most value made chosen most_is (tells.0 (omega (arith, ints, passes exact high v bound ends.1 h, is))) }
+
+pub held-above : (word : Word) (exact v bound end least test value made : ℤ) → (word_lowest word.width word.signed ≤ℤ exact) ↔ (bound ≤ℤ v) → end ≡ bound → least ≡ word_lowest word.width word.signed → IsWrapped (truth (int_lt v end)) 1 false test
+    → IsChosen test least value made → IsHeldAbove word exact value made
+held-above word exact v bound end least test value made ends is least_is less chosen =
+    let low : ℤ = word_lowest word.width word.signed in
+    let tells = less-is v end test less in
+    record { within = λ h. chosen.zero (tells.1 (omega (arith, ints, ends.0 h, is))); below = λ h. chosen-end test low least value made chosen least_is (tells.0 (omega (arith, ints, falls exact low v bound ends.1 h, is))) }

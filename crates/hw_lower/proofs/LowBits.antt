@@ -8,23 +8,11 @@ use Rattle.fx_num.proofs.Arithmetic.{double}
 use Rattle.hw_net.specs.Operation.{low_bits, shifted_down}
 use Rattle.hw_lower.specs.inner.Planned.{bit_of}
 use Rattle.fx_num.proofs.Words.{size-below, size-half}
-use Rattle.hw_net.proofs.Words.{only-sign}
+use Rattle.hw_net.proofs.Words.{only-sign, split-low}
 
 pub low-below : (k : ℕ) (z : ℤ) → low_bits k z < 2 ^ k
 low-below k (pos n) = mod-lt n (pow_pos k)
 low-below k (negsuc n) = omega (arith, pow_pos k)
-
--- the bits from a place up, and those below it
-pub split-low : (k v : ℕ) (z : ℤ) → low_bits (k + v) z ≡ low_bits k (shifted_down z v) * 2 ^ v + low_bits v z
-split-low k v (pos n) = mod-pow-add n k v
-split-low k v (negsuc n) =
-    let high : ℕ = n / 2 ^ v % 2 ^ k in
-    let e : 2 ^ (k + v) ≡ 2 ^ k * 2 ^ v = pow-add 2 k v in
-    let a : (2 ^ k - 1 - high) * 2 ^ v + high * 2 ^ v ≡ (2 ^ k - 1) * 2 ^ v = sym (add-mul (2 ^ k - 1 - high) high (2 ^ v)) ∙ ap (λ (i : ℕ). i * 2 ^ v) (let below : high < 2 ^ k = mod_below (n / 2 ^ v) (2 ^ k) (pow_pos k) in omega arith) in
-    let b : (2 ^ k - 1) * 2 ^ v + 1 * 2 ^ v ≡ 2 ^ k * 2 ^ v = sym (add-mul (2 ^ k - 1) 1 (2 ^ v)) ∙ ap (λ (i : ℕ). i * 2 ^ v) (let some : 0 < 2 ^ k = pow_pos k in omega arith) in
-    let c : n % 2 ^ (k + v) ≡ high * 2 ^ v + n % 2 ^ v = mod-pow-add n k v in
-    let d : n % 2 ^ v < 2 ^ v = mod_below n (2 ^ v) (pow_pos v) in
-    omega (arith, a, b, c, d, e)
 
 -- the bits between two places
 pub slice-is : (high low : ℕ) (z : ℤ) → low ≤ high → low_bits (high + 1) z / 2 ^ low ≡ low_bits (high + 1 - low) (shifted_down z low)

@@ -11,7 +11,8 @@ use Rattle.hw_net.specs.Operation.{low_bits, shifted_down}
 use Rattle.hw_lower.specs.inner.Planned.{bit_of, IsChosen, IsPastTie}
 use Rattle.fx_num.proofs.Words.{size-half}
 use Rattle.hw_net.proofs.Words.{only-sign}
-use Rattle.hw_lower.proofs.LowBits.{low-below, split-low, whole-is, bit-small}
+use Rattle.hw_lower.proofs.LowBits.{low-below, whole-is, bit-small}
+use Rattle.hw_net.proofs.Words.{split-low}
 
 -- 0 or 1
 pub two-cases : (n : ℕ) → n < 2 → (n ≡ 0) ⊎ (n ≡ 1)

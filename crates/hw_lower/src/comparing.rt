@@ -1,9 +1,9 @@
 //! Comparisons and criteria.
 ghost use Rattle.std.specs.Prelude.{◌≡◌, Bool, not, IfOk};
 ghost use Rattle.dg_model.specs.Operation.{compares, meets, stored_truth};
-ghost use Rattle.hw_net.specs.Operation.{given_by, truth};
+ghost use Rattle.hw_net.specs.Operation.{truth};
 ghost use Rattle.hw_lower.specs.inner.Planned.{IsAt, IsMade, IsPlain, CanRead, IsSwitched};
-ghost use Rattle.hw_lower.specs.inner.Planned.{bit_word, no_inputs, three};
+ghost use Rattle.hw_lower.specs.inner.Planned.{bit_word, of_two};
 ghost use Rattle.hw_lower.specs.inner.Spread.{CanSwitch};
 
 use crate::bits::{bit_word, inverse};
@@ -26,7 +26,7 @@ fn opposite(plan: &mut Plan, op: NetOp, one: Operand, other: Operand) -> Made
     requires one { IsAt plan.old one }
     requires other { IsAt plan.old other }
     ensures { IfOk result (λ made. IsMade plan.old plan.new bit_word (λ numbers. (told : Bool)
-        → given_by op no_inputs (three numbers one other other) ≡ truth told
+        → of_two op numbers one other ≡ truth told
         → numbers made.place ≡ stored_truth (not told)) made) }
 {
     let bit = binary(plan, op, one, other, bit_word())?;

@@ -1,11 +1,11 @@
 //! The operations of a block element, one after another, before they are nets.
 ghost use Rattle.std.specs.Prelude.{◌≡◌, IfOk};
-ghost use Rattle.fx_num.specs.Word.{IsWord, InWord, IsWrapped};
+ghost use Rattle.fx_num.specs.Word.{IsWord, InWord};
 ghost use Rattle.fx_type.specs.declared.kind.FxType.{FxType};
 ghost use Rattle.hw_net.specs.declared.netlist.NetOp.TheVariants.{Multiply};
-ghost use Rattle.hw_net.specs.Operation.{given_by, low_bits};
+ghost use Rattle.hw_net.specs.Operation.{low_bits};
 ghost use Rattle.hw_lower.specs.inner.Planned.{IsAt, IsPlain, IsPut, IsMade, CanRead, word_of};
-ghost use Rattle.hw_lower.specs.inner.Planned.{IsChosen, step_of, no_inputs, three};
+ghost use Rattle.hw_lower.specs.inner.Planned.{IsChosen, IsGiven, step_of};
 ghost use Rattle.std.specs.Prelude.{ℕ, ℤ, pos, false, ◌+◌, ◌-◌, ◌/◌, ◌^◌, ◌<◌, ◌≤◌};
 
 use fx_io::{OutOfMemory, Sequence};
@@ -123,9 +123,7 @@ pub fn operation(
     requires second { IsAt plan.old second }
     requires third { IsAt plan.old third }
     requires word { IsWord word.width word.signed }
-    ensures { IfOk result (λ made. IsMade plan.old plan.new word (λ numbers.
-        IsWrapped (given_by op no_inputs (three numbers first second third)) word.width word.signed
-        (numbers made.place)) made) }
+    ensures { IfOk result (IsGiven plan.old plan.new op first second third word) }
 {
     put(
         plan,
@@ -145,9 +143,7 @@ pub fn unary(plan: &mut Plan, op: NetOp, one: Operand, word: Word) -> Made
     requires parts { CanRead op one.word.width }
     requires at { IsAt plan.old one }
     requires word { IsWord word.width word.signed }
-    ensures { IfOk result (λ made. IsMade plan.old plan.new word (λ numbers.
-        IsWrapped (given_by op no_inputs (three numbers one one one)) word.width word.signed
-        (numbers made.place)) made) }
+    ensures { IfOk result (IsGiven plan.old plan.new op one one one word) }
 {
     operation(plan, op, one, one, one, word)
 }
@@ -159,9 +155,7 @@ pub fn binary(plan: &mut Plan, op: NetOp, one: Operand, other: Operand, word: Wo
     requires one { IsAt plan.old one }
     requires other { IsAt plan.old other }
     requires word { IsWord word.width word.signed }
-    ensures { IfOk result (λ made. IsMade plan.old plan.new word (λ numbers.
-        IsWrapped (given_by op no_inputs (three numbers one other other)) word.width word.signed
-        (numbers made.place)) made) }
+    ensures { IfOk result (IsGiven plan.old plan.new op one other other word) }
 {
     operation(plan, op, one, other, other, word)
 }

@@ -5,7 +5,7 @@ ghost use Rattle.fx_type.specs.declared.kind.FxType.{FxType};
 ghost use Rattle.fx_type.specs.FxType.{IsType, InRange, frac_of};
 ghost use Rattle.fx_type.specs.FullType.{IsFullSum, IsFullProduct};
 ghost use Rattle.fx_type.specs.Conversion.{Converts};
-ghost use Rattle.dg_model.specs.Operation.{operation_of, without_frac as without_frac_of, type_of, value_of};
+ghost use Rattle.dg_model.specs.Operation.{operation_of, without_frac, type_of, value_of};
 ghost use Rattle.dg_model.specs.declared.op.Op.TheVariants.{Convert};
 ghost use Rattle.dg_model.specs.Operation.{signed_sum, meets, Gives, IsConverted, CanPrepare, OpGives};
 ghost use Rattle.hw_lower.specs.inner.Planned.{IsAt, IsMade, word_of};
@@ -19,7 +19,7 @@ use crate::plan::{Made, Operand, Plan, Word, multiply, put_alone, word_of};
 use crate::relating::compared;
 use crate::settling::converted;
 use crate::sums::summed;
-use dg_model::{Criterion, Op, OpCall, sum_type};
+use dg_model::{Criterion, Op, OpCall, sum_type, without_frac};
 use fx_type::FxType;
 use hw_net::NetOp;
 
@@ -172,20 +172,6 @@ fn planned_switch(plan: &mut Plan, call: &OpCall, criterion: Criterion, threshol
     switched(plan, criterion, threshold, of)
 }
 
-/// The type with the same stored integers and frac 0.
-fn without_frac(kind: FxType) -> FxType
-    ensures { result ≡ without_frac_of kind }
-{
-    match kind {
-        FxType::Num { signed, width, .. } => FxType::Num {
-            signed,
-            width,
-            frac: 0,
-        },
-        FxType::Logical => FxType::Logical,
-    }
-}
-
 /// The stored integer of an argument converted, with both fracs taken as 0.
 fn planned_store(plan: &mut Plan, call: &OpCall) -> Made
     requires arguments { HasArguments plan.old call.now.types.now }
@@ -193,8 +179,8 @@ fn planned_store(plan: &mut Plan, call: &OpCall) -> Made
     requires types { All IsType call.now.types.now }
     requires result { IsType call.now.result }
     ensures { IfOk result (λ made. IsMade plan.old plan.new (word_of call.now.result) (λ numbers.
-        Converts (numbers 0) (without_frac_of (type_of call.now.types.now 0))
-        (without_frac_of call.now.result) call.now.rounding call.now.saturate
+        Converts (numbers 0) (without_frac (type_of call.now.types.now 0))
+        (without_frac call.now.result) call.now.rounding call.now.saturate
         (numbers made.place)) made) }
 {
     let to = without_frac(call.result);

@@ -1,10 +1,10 @@
 //! A number divided by a power of two and rounded, in its own word: the quotient rounded down, and
 //! a carry of one bit.
-ghost use Rattle.std.specs.Prelude.{◌≡◌, ◌≤◌, ◌-◌, ◌+ℤ◌, IfOk};
+ghost use Rattle.std.specs.Prelude.{◌≡◌, ◌-◌, ◌+ℤ◌, IfOk};
 ghost use Rattle.fx_type.specs.declared.rounding.Rounding.TheVariants.{Ceiling, Zero, Round};
 ghost use Rattle.fx_type.specs.declared.rounding.Rounding.TheVariants.{Nearest, Convergent};
 ghost use Rattle.hw_net.specs.Operation.{shifted_down, low_bits};
-ghost use Rattle.hw_lower.specs.inner.Planned.{IsAt, IsMade, IsPastTie, IsRounded, CanRaise, CanPassTie};
+ghost use Rattle.hw_lower.specs.inner.Planned.{IsAt, IsMade, IsPastTie, IsRounded, CanRaise, CanPassTie, CanRound};
 ghost use Rattle.hw_lower.specs.inner.Planned.{bit_word};
 
 use crate::bits::{bit, bit_word, both, lowest, truth};
@@ -14,8 +14,7 @@ use hw_net::NetOp;
 
 /// The number divided by 2 to the power `by`, rounded by the mode.
 pub fn rounded(plan: &mut Plan, from: Operand, by: u8, mode: Rounding) -> Made
-    requires at { IsAt plan.old from }
-    requires some { 1 ≤ by }
+    requires { CanRound plan.old from by }
     ensures { IfOk result (IsRounded mode plan.old plan.new from by) }
 {
     match mode {
@@ -49,8 +48,7 @@ fn raised(plan: &mut Plan, from: Operand, by: u8, carry: Operand) -> Made
 
 /// Rounded up: where a bit is lost.
 fn up(plan: &mut Plan, from: Operand, by: u8) -> Made
-    requires at { IsAt plan.old from }
-    requires some { 1 ≤ by }
+    requires { CanRound plan.old from by }
     ensures { IfOk result (IsRounded Ceiling plan.old plan.new from by) }
 {
     let low = lowest(plan, from, by)?;
@@ -60,8 +58,7 @@ fn up(plan: &mut Plan, from: Operand, by: u8) -> Made
 
 /// Rounded to 0: up where the number is negative and bits are lost.
 fn to_zero(plan: &mut Plan, from: Operand, by: u8) -> Made
-    requires at { IsAt plan.old from }
-    requires some { 1 ≤ by }
+    requires { CanRound plan.old from by }
     ensures { IfOk result (IsRounded Zero plan.old plan.new from by) }
 {
     if from.word.signed {
@@ -75,8 +72,7 @@ fn to_zero(plan: &mut Plan, from: Operand, by: u8) -> Made
 
 /// Rounded to the nearest, ties up: where the highest lost bit is set.
 fn to_nearest(plan: &mut Plan, from: Operand, by: u8) -> Made
-    requires at { IsAt plan.old from }
-    requires some { 1 ≤ by }
+    requires { CanRound plan.old from by }
     ensures { IfOk result (IsRounded Nearest plan.old plan.new from by) }
 {
     let half = bit(plan, from, by - 1)?;
@@ -86,8 +82,7 @@ fn to_nearest(plan: &mut Plan, from: Operand, by: u8) -> Made
 /// Rounded to the nearest, ties away from 0: up where the highest lost bit is set, but not from a
 /// tie of a negative number.
 fn from_zero(plan: &mut Plan, from: Operand, by: u8) -> Made
-    requires at { IsAt plan.old from }
-    requires some { 1 ≤ by }
+    requires { CanRound plan.old from by }
     ensures { IfOk result (IsRounded Round plan.old plan.new from by) }
 {
     if from.word.signed {
@@ -104,8 +99,7 @@ fn from_zero(plan: &mut Plan, from: Operand, by: u8) -> Made
 /// Rounded to the nearest, ties to even: up where the highest lost bit is set, but not from a tie
 /// above an even number.
 fn to_even(plan: &mut Plan, from: Operand, by: u8) -> Made
-    requires at { IsAt plan.old from }
-    requires some { 1 ≤ by }
+    requires { CanRound plan.old from by }
     ensures { IfOk result (IsRounded Convergent plan.old plan.new from by) }
 {
     let half = bit(plan, from, by - 1)?;

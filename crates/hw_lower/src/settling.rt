@@ -6,7 +6,7 @@ ghost use Rattle.fx_type.specs.declared.kind.FxType.{FxType};
 ghost use Rattle.fx_type.specs.declared.kind.FxType.TheVariants.{Num};
 ghost use Rattle.fx_type.specs.FxType.{IsType, frac_of};
 ghost use Rattle.fx_type.specs.Conversion.{Settles, StoresQuotient, Converts};
-ghost use Rattle.hw_lower.specs.inner.Planned.{IsAt, IsMade, IsHeldBelow, IsHeldAbove, word_of};
+ghost use Rattle.hw_lower.specs.inner.Planned.{CanHold, HoldsAbove, HoldsBelow, IsAt, IsChosen, IsMade, word_of};
 
 use crate::bits::{bit_word, truth};
 use crate::plan::{Made, Operand, Plan, Word, binary, choose, constant, unary, word_of};
@@ -60,13 +60,21 @@ fn least(up: u8, word: Word) -> i128
     }
 }
 
+/// The number where the test isn't 0, else the value.
+fn held(plan: &mut Plan, test: Operand, end: i128, value: Operand) -> Made
+    requires { CanHold plan.old test value end }
+    ensures { IfOk result (λ made. IsMade plan.old plan.new value.word (λ numbers. IsChosen
+        (numbers test.place) end (numbers value.place) (numbers made.place)) made) }
+{
+    let number = constant(plan, end, value.word)?;
+    choose(plan, test, number, value, value.word)
+}
+
 /// The greatest number of the word where the shifted number would pass it, else the given one.
 fn held_below(plan: &mut Plan, from: Operand, up: u8, value: Operand) -> Made
     requires from { IsAt plan.old from }
     requires value { IsAt plan.old value }
-    ensures { IfOk result (λ made. IsMade plan.old plan.new value.word (λ numbers.
-        IsHeldBelow value.word (numbers from.place *ℤ pos (2 ^ up)) (numbers value.place)
-        (numbers made.place)) made) }
+    ensures { IfOk result (HoldsBelow plan.old plan.new from up value) }
 {
     let bound = greatest(up, value.word);
     if bound >= highest(from.word.width, from.word.signed) {
@@ -75,17 +83,14 @@ fn held_below(plan: &mut Plan, from: Operand, up: u8, value: Operand) -> Made
     let end = constant(plan, bound, from.word)?;
     let test = binary(plan, NetOp::Less, end, from, bit_word())?;
     let most = highest(value.word.width, value.word.signed);
-    let most = constant(plan, most, value.word)?;
-    choose(plan, test, most, value, value.word)
+    held(plan, test, most, value)
 }
 
 /// The least number of the word where the shifted number would pass it, else the given one.
 fn held_above(plan: &mut Plan, from: Operand, up: u8, value: Operand) -> Made
     requires from { IsAt plan.old from }
     requires value { IsAt plan.old value }
-    ensures { IfOk result (λ made. IsMade plan.old plan.new value.word (λ numbers.
-        IsHeldAbove value.word (numbers from.place *ℤ pos (2 ^ up)) (numbers value.place)
-        (numbers made.place)) made) }
+    ensures { IfOk result (HoldsAbove plan.old plan.new from up value) }
 {
     let bound = least(up, value.word);
     if bound <= lowest(from.word.width, from.word.signed) {
@@ -94,8 +99,7 @@ fn held_above(plan: &mut Plan, from: Operand, up: u8, value: Operand) -> Made
     let end = constant(plan, bound, from.word)?;
     let test = binary(plan, NetOp::Less, from, end, bit_word())?;
     let fewest = lowest(value.word.width, value.word.signed);
-    let fewest = constant(plan, fewest, value.word)?;
-    choose(plan, test, fewest, value, value.word)
+    held(plan, test, fewest, value)
 }
 
 /// The number times 2 to the power `up`, put into the word: with `saturate` the nearest number of

@@ -1,5 +1,5 @@
 -- The Counter of a frame, and a test for a clock of the frame by it. Crates above may cite this file.
-use Rattle.std.proofs.Common.{◌≡◌, ℕ, suc, ◌+◌, ◌-◌, ◌<◌, inl, inr, Bool, true, false, if◌then◌else◌, List, [], ◌∷◌, length, Option, None, Some, slice_get, pos, ap, sym, ◌∙◌, subst, arith, refl, true≢false}
+use Rattle.std.proofs.Common.{◌≡◌, ℕ, suc, ◌+◌, ◌-◌, ◌<◌, inl, inr, Bool, true, false, if◌then◌else◌, List, [], ◌∷◌, Option, None, Some, slice_get, pos, ap, sym, ◌∙◌, subst, arith, refl, true≢false}
 use Rattle.std.specs.Ordering.{int_eq}
 use Rattle.std.proofs.lemmas.Option.{slice_get_within, none-some, same_Some}
 use Rattle.hw_net.specs.declared.netlist.Frame.{Frame}

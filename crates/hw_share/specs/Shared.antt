@@ -79,12 +79,8 @@ IsPart frames (Unit left right) = ⊤
 IsPart frames (Counter frame) = frames frame
 
 abbrev pub is_unit : NetKind → Bool
-is_unit (Comb op args) = false
-is_unit (Reg frame slot first from) = false
-is_unit (EnReg frame enable reset first from) = false
-is_unit (Bridge frame live from) = false
 is_unit (Unit left right) = true
-is_unit (Counter frame) = false
+is_unit _ = false
 
 -- the Unit nets that were put behind the others are `count` nets from the net `first` on
 pub record AreUnits (before after : Circuit) (first count : ℕ) : Type 0 where

@@ -46,17 +46,22 @@ module _ (diagram : Diagram) (timing : Timing) (wants : List Want) (numbers : Li
 
   -- all ends have their nets
   pub record AreAsks (places : Places) : Type 0 where
-    pub lines : (block : ℕ) (b : Block) (port element : ℕ) (edge : Edge) → slice_get diagram.blocks block ≡ Some b → 1 ≤ shown_ports b.kind b.outputs → 1 ≤ port → port ≤ b.inputs → driver_of diagram block port ≡ Some edge
+    pub lines : (block : ℕ) (b : Block) (port element : ℕ) (edge : Edge) → slice_get diagram.blocks block ≡ Some b → 1 ≤ shown_ports b.kind b.outputs
+        → 1 ≤ port → port ≤ b.inputs → driver_of diagram block port ≡ Some edge
         → element < line_count diagram block b port edge
-        → IsAsk block b (Port port) edge.from (places.first block element) (places.after edge.from edge.from_port (repeated ((attributes_of diagram).width_at edge.from edge.from_port) element)) (places.offered block port element)
-    pub enables : (block : ℕ) (b : Block) (control : ℕ) → slice_get diagram.blocks block ≡ Some b → Feeds diagram block b Enable control → IsAsk block b Enable control (pos 0) (places.after control 1 0) (places.enable block)
+        → IsAsk block b (Port port) edge.from (places.first block element)
+        (places.after edge.from edge.from_port (repeated ((attributes_of diagram).width_at edge.from edge.from_port) element)) (places.offered block port element)
+    pub enables : (block : ℕ) (b : Block) (control : ℕ) → slice_get diagram.blocks block ≡ Some b → Feeds diagram block b Enable control
+        → IsAsk block b Enable control (pos 0) (places.after control 1 0) (places.enable block)
 
 -- what drives an end is shown: an element of the type of its source's port
 pub record SourcesAreShown (diagram : Diagram) : Type 0 where
-  pub lines : (block : ℕ) (b : Block) (port element : ℕ) (edge : Edge) → slice_get diagram.blocks block ≡ Some b → 1 ≤ shown_ports b.kind b.outputs → 1 ≤ port → port ≤ b.inputs → driver_of diagram block port ≡ Some edge
+  pub lines : (block : ℕ) (b : Block) (port element : ℕ) (edge : Edge) → slice_get diagram.blocks block ≡ Some b → 1 ≤ shown_ports b.kind b.outputs
+      → 1 ≤ port → port ≤ b.inputs → driver_of diagram block port ≡ Some edge
       → element < line_count diagram block b port edge
       → (source : Block) × IsShown diagram (attributes_of diagram) edge.from source edge.from_port (repeated ((attributes_of diagram).width_at edge.from edge.from_port) element)
-  pub enables : (block : ℕ) (b : Block) (control : ℕ) → slice_get diagram.blocks block ≡ Some b → Feeds diagram block b Enable control → (source : Block) × IsShown diagram (attributes_of diagram) control source 1 0
+  pub enables : (block : ℕ) (b : Block) (control : ℕ) → slice_get diagram.blocks block ≡ Some b → Feeds diagram block b Enable control
+      → (source : Block) × IsShown diagram (attributes_of diagram) control source 1 0
 
 -- what an enabled block shows
 pub record EnabledShow (diagram : Diagram) : Type 0 where

@@ -36,5 +36,7 @@ pub record IsDone (diagram : Diagram) (plan : Resolved) (times : Times) (places 
 
 -- that is all that the netlist owes
 abbrev pub DoneIsBuilt : Type 0
-DoneIsBuilt = (diagram : Diagram) (order : List ℕ) (plan : Resolved) (times : Times) (places : Places) (hubs : ℕ) (netlist : Circuit) → IsOrdered diagram order → IsScheduled diagram plan times → IsDone diagram plan times places hubs netlist
+DoneIsBuilt =
+    (diagram : Diagram) (order : List ℕ) (plan : Resolved) (times : Times) (places : Places) (hubs : ℕ) (netlist : Circuit) → IsOrdered diagram order
+    → IsScheduled diagram plan times → IsDone diagram plan times places hubs netlist
     → IsBuilt diagram plan times netlist

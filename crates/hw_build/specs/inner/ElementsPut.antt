@@ -25,7 +25,8 @@ pub record ArePlacedInOrder (diagram : Diagram) (place_of : ℕ → ℕ) : Type 
 module _ (diagram : Diagram) (plan : Resolved) (times : Times) where
   -- the results of shared multipliers read nothing in their clock
   pub record ProductsAreLow (places : Places) (level : ℕ → ℕ) : Type 0 where
-    pub each : (block : ℕ) (b : Block) (element : ℕ) → slice_get diagram.blocks block ≡ Some b → is_shared diagram (attributes_of diagram) plan block ≡ true → element < (attributes_of diagram).width_at block 1 → level (places.product block element) ≡ 0
+    pub each : (block : ℕ) (b : Block) (element : ℕ) → slice_get diagram.blocks block ≡ Some b
+        → is_shared diagram (attributes_of diagram) plan block ≡ true → element < (attributes_of diagram).width_at block 1 → level (places.product block element) ≡ 0
 
   -- how a netlist stands before the elements
   pub record IsReady (places : Places) (place_of : ℕ → ℕ) (now : Circuit) (level : ℕ → ℕ) : Type 0 where

@@ -68,7 +68,9 @@ module _ (diagram : Diagram) (plan : Resolved) (times : Times) (firsts : List (L
 
   -- how many elements an end has, of a block that shows something
   abbrev pub count_for : Block → LatencyEdge → Target → ℕ
-  count_for b edge (Port port) = count_by ((attributes_of diagram).width_at edge.from edge.from_port) ((attributes_of diagram).width_at edge.to 1) (lag_into diagram (attributes_of diagram) edge.to b (Port port)) ((attributes_of diagram).period_at edge.from)
+  count_for b edge (Port port) =
+      count_by ((attributes_of diagram).width_at edge.from edge.from_port) ((attributes_of diagram).width_at edge.to 1)
+      (lag_into diagram (attributes_of diagram) edge.to b (Port port)) ((attributes_of diagram).period_at edge.from)
   count_for b edge Enable = 1
 
   abbrev pub end_count : Block → LatencyEdge → ℕ
@@ -109,8 +111,10 @@ module _ (diagram : Diagram) (plan : Resolved) (times : Times) (firsts : List (L
   pub record AreEnds (list : List Ask) (wants : List Want) (lines controls : List Span) (lined controlled : ℕ) (left : List LatencyEdge) : Type 0 where
     pub line_count_is : length lines ≡ lined
     pub control_count_is : length controls ≡ controlled
-    pub each_line : (number : ℕ) (edge : Edge) (b : Block) → number < lined → slice_get diagram.edges number ≡ Some edge → slice_get diagram.blocks edge.to ≡ Some b → IsEndAt list wants lines number b (signal_edge edge)
-    pub each_control : (block : ℕ) (b : Block) (control : ℕ) → block < controlled → slice_get diagram.blocks block ≡ Some b → Feeds diagram block b Enable control → IsEndAt list wants controls block b (record { from = control; from_port = 1; to = block; target = Enable })
+    pub each_line : (number : ℕ) (edge : Edge) (b : Block) → number < lined → slice_get diagram.edges number ≡ Some edge
+        → slice_get diagram.blocks edge.to ≡ Some b → IsEndAt list wants lines number b (signal_edge edge)
+    pub each_control : (block : ℕ) (b : Block) (control : ℕ) → block < controlled → slice_get diagram.blocks block ≡ Some b
+        → Feeds diagram block b Enable control → IsEndAt list wants controls block b (record { from = control; from_port = 1; to = block; target = Enable })
     pub numbered : AreNumbered list (length wants)
     pub whole : wants ++ flat_map edge_wants left ≡ flat_map edge_wants (latency_edges diagram)
     pub allowed : (net : Circuit) → HaveHubWords diagram firsts net → AreWants net wants

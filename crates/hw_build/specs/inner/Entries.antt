@@ -1,6 +1,7 @@
 -- The nets of an element of a block: what they are made of, and what putting them in owes (own).
 use Rattle.std.specs.Prelude.{◌≡◌, ℕ, suc, ◌+◌, ◌-◌, ◌≤◌, ◌⊎◌, ℤ, Bool, true, false, not, if◌then◌else◌, List, [], ◌∷◌, length, map, sum, Contains, Option, None, Some, slice_get, ⊤}
 use Rattle.fx_type.specs.declared.kind.FxType.{FxType}
+use Rattle.fx_type.specs.FullType.{IsFullProduct}
 use Rattle.fx_type.specs.FxType.{is_signed, width_of}
 use Rattle.dg_waves.specs.Rounds.{numbers_from}
 use Rattle.dg_model.specs.declared.diagram.Diagram.{Diagram}
@@ -23,11 +24,12 @@ use Rattle.hw_net.specs.Netlist.{HasWord, reads_now}
 use Rattle.hw_net.specs.NetRows.{Rows}
 use Rattle.hw_net.specs.Registers.{Wave}
 use Rattle.hw_lower.specs.Lowered.{IsComb}
+use Rattle.hw_sched.specs.Slots.{right_of}
 use Rattle.hw_sched.specs.Storage.{keeps_own, kept_by_role}
 use Rattle.hw_shows.specs.Timing.{Timing}
 use Rattle.hw_shows.specs.Series.{steady, span_at, IsProductAt}
 use Rattle.hw_build.specs.Places.{Places}
-use Rattle.hw_build.specs.declared.entries.Entry.{Entry}
+use Rattle.hw_build.specs.declared.entry.Entry.{Entry}
 use Rattle.hw_build.specs.inner.Facts.{IsElementMade}
 use Rattle.hw_share.specs.inner.Parts.{Grows}
 use Rattle.hw_build.specs.inner.Growth.{InLater}
@@ -200,8 +202,11 @@ pub record IsEntryAt (places : Places) (block : ℕ) (b : Block) (port element :
 module _ (diagram : Diagram) (timing : Timing) (before after : Circuit) (block : ℕ) (b : Block) (port element : ℕ) (operands : List ℕ) (entry : Entry) where
   -- what is put in is the element, by any places that name it so
   abbrev pub IsMadeBy : Type 0
-  IsMadeBy = (closed hubs : ℕ) (places : Places) → hubs ≤ length before.nets → before.cycles ≡ timing.cycles → AreOffered diagram places block b port element b.kind operands → IsEntryAt places block b port element entry
-      → HasFirst diagram block element b.kind (places.first block element) → ((row_of b.kind).hardware.multiplies ≡ true → timing.slot block element ≡ None) → IsElementMade diagram timing places closed hubs after block b port element
+  IsMadeBy =
+      (closed hubs : ℕ) (places : Places) → hubs ≤ length before.nets → before.cycles ≡ timing.cycles
+      → AreOffered diagram places block b port element b.kind operands → IsEntryAt places block b port element entry
+      → HasFirst diagram block element b.kind (places.first block element)
+      → ((row_of b.kind).hardware.multiplies ≡ true → timing.slot block element ≡ None) → IsElementMade diagram timing places closed hubs after block b port element
 
   -- an element was put in
   pub record PutsEntry : Type 0 where
@@ -222,7 +227,8 @@ module _ (diagram : Diagram) (timing : Timing) (places : Places) (closed hubs : 
   -- in its slot the multiplier had these operands
   abbrev pub IsProductOf : ℕ → (Rows → Wave) → Type 0
   IsProductOf slot right =
-      (period : ℕ) → (attributes_of diagram).period_at block ≡ Some period → InLater closed hubs now (λ n rows. IsProductAt n (span_at timing period block) slot (rows (places.offered block 1 element)) (right rows) (rows (places.product block element)))
+      (period : ℕ) → (attributes_of diagram).period_at block ≡ Some period
+      → InLater closed hubs now (λ n rows. IsProductAt n (span_at timing period block) slot (rows (places.offered block 1 element)) (right rows) (rows (places.product block element)))
 
   abbrev pub HasProductAs : ℕ → Kind → Type 0
   HasProductAs slot (Inport number width) = ⊥
@@ -245,6 +251,12 @@ module _ (diagram : Diagram) (timing : Timing) (places : Places) (closed hubs : 
   HasProductAs slot (EnOut reset initial) = ⊥
   HasProductAs slot Terminator = ⊥
 
+-- the net has the product of a block's operands, in the type that holds all of these
+pub record IsFullProductAt (diagram : Diagram) (net : Circuit) (place : ℕ) (b : Block) (type : FxType) (product : ℕ) : Type 0 where
+  pub block : slice_get diagram.blocks place ≡ Some b
+  pub full : IsFullProduct (type_into diagram (attributes_of diagram) place 1) (right_of diagram (attributes_of diagram) place (Some b)) type
+  pub word : HasWord net.nets product (width_of type) (is_signed type)
+
 -- an element was put in that converts such a product
 pub record PutsShared (diagram : Diagram) (timing : Timing) (before after : Circuit) (block : ℕ) (b : Block) (port element product : ℕ) (entry : Entry) : Type 0 where
   pub grows : Grows before after (product ∷ []) (IsEntryPart diagram timing block) 0
@@ -252,5 +264,6 @@ pub record PutsShared (diagram : Diagram) (timing : Timing) (before after : Circ
   pub multiplies : IsOwnMultiply before after None
   pub word : HasWord after.nets entry.net (width_of ((attributes_of diagram).type_at block port)) (is_signed ((attributes_of diagram).type_at block port))
   pub stands : Contains (product ∷ []) entry.net ⊎ (length before.nets ≤ entry.net)
-  pub made : (closed hubs : ℕ) (places : Places) (slot : ℕ) → hubs ≤ length before.nets → timing.slot block element ≡ Some slot → places.entry block port element ≡ entry.net → places.product block element ≡ product
+  pub made : (closed hubs : ℕ) (places : Places) (slot : ℕ) → hubs ≤ length before.nets → timing.slot block element ≡ Some slot
+      → places.entry block port element ≡ entry.net → places.product block element ≡ product
       → HasProductAs diagram timing places closed hubs before block element slot b.kind → IsElementMade diagram timing places closed hubs after block b port element

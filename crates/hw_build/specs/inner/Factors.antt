@@ -52,7 +52,8 @@ pub record IsCoefficient (before after : Circuit) (list : List Decimal) (element
 
 -- what ports of shared blocks offer has the words of their types
 pub record OffersWords (diagram : Diagram) (plan : Resolved) (offered : ℕ → ℕ → ℕ → ℕ) (now : Circuit) : Type 0 where
-  pub each : (block : ℕ) (b : Block) (port element : ℕ) → slice_get diagram.blocks block ≡ Some b → is_shared diagram (attributes_of diagram) plan block ≡ true → 1 ≤ port → port ≤ b.inputs → element < (attributes_of diagram).width_at block 1
+  pub each : (block : ℕ) (b : Block) (port element : ℕ) → slice_get diagram.blocks block ≡ Some b
+      → is_shared diagram (attributes_of diagram) plan block ≡ true → 1 ≤ port → port ≤ b.inputs → element < (attributes_of diagram).width_at block 1
       → HasWord now.nets (offered block port element) (width_of (type_into diagram (attributes_of diagram) block port)) (is_signed (type_into diagram (attributes_of diagram) block port))
 
 module _ (diagram : Diagram) (offered : ℕ → ℕ → ℕ → ℕ) (before after : Circuit) where
@@ -106,7 +107,9 @@ abbrev pub first_for : Design → ℕ → ℕ
 first_for design block = first_operation design.checked.now.diagram design.plan.now block
 
 abbrev pub IsGatheredFor : Design → Operands → Circuit → Circuit → ℕ → Shared → Operation → Type 0
-IsGatheredFor design operands before after number o one = IsGathered design.checked.now.diagram design.plan.now (times_for design) (offered_at design.checked.now.diagram operands) before after number o one
+IsGatheredFor design operands before after number o one =
+    IsGathered design.checked.now.diagram design.plan.now (times_for design) (offered_at design.checked.now.diagram operands) before after number o one
 
 abbrev pub GathersFor : Design → Operands → Circuit → Circuit → List Operation → List Operation → ℕ → ℕ → Type 0
-GathersFor design operands before after old new count more = GathersMore design.checked.now.diagram design.plan.now (times_for design) (offered_at design.checked.now.diagram operands) before after old new count more
+GathersFor design operands before after old new count more =
+    GathersMore design.checked.now.diagram design.plan.now (times_for design) (offered_at design.checked.now.diagram operands) before after old new count more

@@ -32,30 +32,36 @@ count_by source own lags (Some period) = count_by_lag source own (lags period)
 
 abbrev pub line_count : Diagram → ℕ → Block → ℕ → Edge → ℕ
 line_count diagram block b port edge =
-    count_by ((attributes_of diagram).width_at edge.from edge.from_port) ((attributes_of diagram).width_at block 1) (lag_into diagram (attributes_of diagram) block b (Port port)) ((attributes_of diagram).period_at edge.from)
+    count_by ((attributes_of diagram).width_at edge.from edge.from_port) ((attributes_of diagram).width_at block 1)
+    (lag_into diagram (attributes_of diagram) block b (Port port)) ((attributes_of diagram).period_at edge.from)
 
 module _ (diagram : Diagram) (timing : Timing) (places : Places) (closed hubs : ℕ) (now : Circuit) where
   -- an end of a block is offered a net by another
   abbrev pub IsOfferedBy : ℕ → Block → Target → ℕ → ℤ → ℕ → ℕ → Type 0
   IsOfferedBy block b target from first source line =
-      InLater closed hubs now (λ n rows. IsOffered n timing from ((attributes_of diagram).period_at from) block ((attributes_of diagram).period_at block) (lag_into diagram (attributes_of diagram) block b target) first (rows source) (rows line))
+      InLater closed hubs now (λ n rows. IsOffered n timing from ((attributes_of diagram).period_at from) block
+      ((attributes_of diagram).period_at block) (lag_into diagram (attributes_of diagram) block b target) first (rows source) (rows line))
 
   -- the lines
   pub record HaveLines : Type 0 where
-    pub each : (block : ℕ) (b : Block) (port element : ℕ) (edge : Edge) → slice_get diagram.blocks block ≡ Some b → 1 ≤ shown_ports b.kind b.outputs → 1 ≤ port → port ≤ b.inputs → driver_of diagram block port ≡ Some edge
+    pub each : (block : ℕ) (b : Block) (port element : ℕ) (edge : Edge) → slice_get diagram.blocks block ≡ Some b → 1 ≤ shown_ports b.kind b.outputs
+        → 1 ≤ port → port ≤ b.inputs → driver_of diagram block port ≡ Some edge
         → element < line_count diagram block b port edge
-        → IsOfferedBy block b (Port port) edge.from (places.first block element) (places.after edge.from edge.from_port (repeated ((attributes_of diagram).width_at edge.from edge.from_port) element)) (places.offered block port element)
+        → IsOfferedBy block b (Port port) edge.from (places.first block element)
+        (places.after edge.from edge.from_port (repeated ((attributes_of diagram).width_at edge.from edge.from_port) element)) (places.offered block port element)
 
   -- what enables
   pub record HaveEnables : Type 0 where
-    pub each : (block : ℕ) (b : Block) (control : ℕ) → slice_get diagram.blocks block ≡ Some b → Feeds diagram block b Enable control → IsOfferedBy block b Enable control (pos 0) (places.after control 1 0) (places.enable block)
+    pub each : (block : ℕ) (b : Block) (control : ℕ) → slice_get diagram.blocks block ≡ Some b → Feeds diagram block b Enable control
+        → IsOfferedBy block b Enable control (pos 0) (places.after control 1 0) (places.enable block)
 
   -- an element of a block, and its pipeline
   abbrev pub IsElementMade : ℕ → Block → ℕ → ℕ → Type 0
   IsElementMade block b port element = InLater closed hubs now (λ n rows. IsMadeAs diagram (attributes_of diagram) timing n (waves_of places rows) b.kind block b port element)
 
   abbrev pub IsElementPiped : ℕ → ℕ → ℕ → Type 0
-  IsElementPiped block port element = InLater closed hubs now (λ n rows. IsPiped diagram (attributes_of diagram) timing n (waves_of places rows) ((attributes_of diagram).period_at block) block port element)
+  IsElementPiped block port element =
+      InLater closed hubs now (λ n rows. IsPiped diagram (attributes_of diagram) timing n (waves_of places rows) ((attributes_of diagram).period_at block) block port element)
 
   -- the elements of the first blocks
   pub record HaveElements (count : ℕ) : Type 0 where
@@ -81,7 +87,8 @@ pub record AreSpread (diagram : Diagram) (places : Places) : Type 0 where
 
 -- a block whose end has registers has elements, and its source one for all or one for each of them
 pub record LateAreWide (diagram : Diagram) : Type 0 where
-  pub each : (block : ℕ) (b : Block) (port source lag : ℕ) (edge : Edge) → slice_get diagram.blocks block ≡ Some b → 1 ≤ port → port ≤ b.inputs → driver_of diagram block port ≡ Some edge → lag_into diagram (attributes_of diagram) block b (Port port) source ≡ Some lag
+  pub each : (block : ℕ) (b : Block) (port source lag : ℕ) (edge : Edge) → slice_get diagram.blocks block ≡ Some b → 1 ≤ port → port ≤ b.inputs
+      → driver_of diagram block port ≡ Some edge → lag_into diagram (attributes_of diagram) block b (Port port) source ≡ Some lag
       → (0 < (attributes_of diagram).width_at block 1)
       × (((attributes_of diagram).width_at edge.from edge.from_port ≡ 1) ⊎ ((attributes_of diagram).width_at edge.from edge.from_port ≡ (attributes_of diagram).width_at block 1))
 

@@ -30,7 +30,8 @@ pub record AreHubPlaces (diagram : Diagram) (firsts : List (List ℕ)) (places :
 
 -- the pipelines of every netlist that has these nets and names, and whose outputs are among what readers name
 pub record ArePipes (diagram : Diagram) (plan : Resolved) (places : Places) (now : Circuit) : Type 0 where
-  pub each : (later : Circuit) → later.nets ≡ now.nets → later.labels ≡ now.labels → ((port : NetPort) → Contains later.outputs port → port.net < hubs_in_all diagram) → ArePipelined diagram plan later places
+  pub each : (later : Circuit) → later.nets ≡ now.nets → later.labels ≡ now.labels
+      → ((port : NetPort) → Contains later.outputs port → port.net < hubs_in_all diagram) → ArePipelined diagram plan later places
 
 pub record IsFilled (diagram : Diagram) (plan : Resolved) (times : Times) (firsts : List (List ℕ)) (places : Places) (place_of : ℕ → ℕ) (now : Circuit) : Type 0 where
   pub no_inputs : now.inputs ≡ []

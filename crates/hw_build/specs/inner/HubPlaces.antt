@@ -110,8 +110,10 @@ pub record AddsBlocks (diagram : Diagram) (earlier later : Circuit) (columns : L
   pub count : length firsts ≡ blocks
   pub extends : Extends earlier later
   pub size : length later.nets ≡ hub_start diagram blocks
-  pub fresh : (block : ℕ) (b : Block) (k : ℕ) → block < blocks → slice_get diagram.blocks block ≡ Some b → hub_start diagram block ≤ k → k < hub_start diagram (suc block) → IsFresh later k ((attributes_of diagram).type_at block 1)
-  pub are : (block : ℕ) (b : Block) → block < blocks → slice_get diagram.blocks block ≡ Some b → AreFirsts diagram (hub_start diagram block) (slice_index_or columns block 0) block b (slice_index_or firsts block [])
+  pub fresh : (block : ℕ) (b : Block) (k : ℕ) → block < blocks → slice_get diagram.blocks block ≡ Some b → hub_start diagram block ≤ k
+      → k < hub_start diagram (suc block) → IsFresh later k ((attributes_of diagram).type_at block 1)
+  pub are : (block : ℕ) (b : Block) → block < blocks → slice_get diagram.blocks block ≡ Some b
+      → AreFirsts diagram (hub_start diagram block) (slice_index_or columns block 0) block b (slice_index_or firsts block [])
 
 -- a net for each of the first root inputs, whose blocks these are, in an empty netlist
 pub record AddsInputs (diagram : Diagram) (earlier later : Circuit) (inputs : List ℕ) (count : ℕ) : Type 0 where
@@ -125,7 +127,8 @@ pub record HasHubs (diagram : Diagram) (earlier later : Circuit) (firsts : List 
   pub extends : Extends earlier later
   pub size : length later.nets ≡ hubs_in_all diagram
   pub inputs : (k : ℕ) (e : RootElement) → slice_get (root_inputs diagram (attributes_of diagram)) k ≡ Some e → slice_get later.nets k ≡ Some (input_net e.type k)
-  pub fresh : (block : ℕ) (b : Block) (k : ℕ) → slice_get diagram.blocks block ≡ Some b → hub_start diagram block ≤ k → k < hub_start diagram (suc block) → IsFresh later k ((attributes_of diagram).type_at block 1)
+  pub fresh : (block : ℕ) (b : Block) (k : ℕ) → slice_get diagram.blocks block ≡ Some b → hub_start diagram block ≤ k
+      → k < hub_start diagram (suc block) → IsFresh later k ((attributes_of diagram).type_at block 1)
   pub there : (block : ℕ) (b : Block) (port : ℕ) → slice_get diagram.blocks block ≡ Some b → 1 ≤ port → port ≤ shown_ports b.kind b.outputs → port - 1 < length (slice_index_or firsts block [])
   pub of_inputs : (k : ℕ) (e : RootElement) → slice_get (root_inputs diagram (attributes_of diagram)) k ≡ Some e → hub_at firsts e.block 1 e.element ≡ k
   pub of_others : (block : ℕ) (b : Block) (port element : ℕ) → IsShown diagram (attributes_of diagram) block b port element → is_input_role (row_of b.kind).place.role ≡ false

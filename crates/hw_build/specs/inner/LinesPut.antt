@@ -35,8 +35,10 @@ StandHubs diagram netlist firsts = (earlier : Circuit) × HasHubs diagram earlie
 
 -- what an end with registers is offered reads nothing in its own clock
 pub record LateAreLow (diagram : Diagram) (places : Places) (level : ℕ → ℕ) : Type 0 where
-  pub each : (block : ℕ) (b : Block) (port element : ℕ) (edge : Edge) (source lag : ℕ) → slice_get diagram.blocks block ≡ Some b → 1 ≤ shown_ports b.kind b.outputs → 1 ≤ port → port ≤ b.inputs → driver_of diagram block port ≡ Some edge
-      → element < line_count diagram block b port edge → (attributes_of diagram).period_at edge.from ≡ Some source → lag_into diagram (attributes_of diagram) block b (Port port) source ≡ Some lag → level (places.offered block port element) ≡ 0
+  pub each : (block : ℕ) (b : Block) (port element : ℕ) (edge : Edge) (source lag : ℕ) → slice_get diagram.blocks block ≡ Some b
+      → 1 ≤ shown_ports b.kind b.outputs → 1 ≤ port → port ≤ b.inputs → driver_of diagram block port ≡ Some edge
+      → element < line_count diagram block b port edge → (attributes_of diagram).period_at edge.from ≡ Some source
+      → lag_into diagram (attributes_of diagram) block b (Port port) source ≡ Some lag → level (places.offered block port element) ≡ 0
 
 -- a netlist is under way whose ends have their nets, and whose hubs stand where they stood
 pub record IsLinedWay (diagram : Diagram) (timing : Timing) (places : Places) (place_of : ℕ → ℕ) (before now : Circuit) : Type 0 where

@@ -23,7 +23,7 @@ use Rattle.hw_shows.specs.Timed.{lag_into}
 use Rattle.hw_build.specs.Places.{Places}
 use Rattle.hw_build.specs.Serving.{multipliers, others}
 use Rattle.hw_build.specs.declared.blocks.Setting.{Setting}
-use Rattle.hw_build.specs.declared.entries.Entry.{Entry}
+use Rattle.hw_build.specs.declared.entry.Entry.{Entry}
 use Rattle.hw_build.specs.declared.operands.Operands.{Operands}
 use Rattle.hw_build.specs.declared.spots.Spots.{Spots}
 use Rattle.hw_build.specs.inner.Designed.{IsDesigned, timing_for, times_for}
@@ -120,8 +120,10 @@ pub record IsBegunBy (setting : Setting) (places : Places) (now : Circuit) : Typ
   pub way : IsUnderWay (diagram_of setting) (timing_for setting.design) places (place_in setting.design.checked.now.order) (roots_of setting) (hubs_in_all (diagram_of setting)) now level 0
   pub levels : (k : ℕ) → k < hubs_in_all (diagram_of setting) → level k ≡ start_level (diagram_of setting) (place_in setting.design.checked.now.order) k
   -- what an end with registers is offered reads nothing in its own clock
-  pub late : (block : ℕ) (b : Block) (port element : ℕ) (edge : Edge) (source lag : ℕ) → slice_get (diagram_of setting).blocks block ≡ Some b → 1 ≤ shown_ports b.kind b.outputs → 1 ≤ port → port ≤ b.inputs → driver_of (diagram_of setting) block port ≡ Some edge
-      → element < line_count (diagram_of setting) block b port edge → (attributes_of (diagram_of setting)).period_at edge.from ≡ Some source → lag_into (diagram_of setting) (attributes_of (diagram_of setting)) block b (Port port) source ≡ Some lag → level (places.offered block port element) ≡ 0
+  pub late : (block : ℕ) (b : Block) (port element : ℕ) (edge : Edge) (source lag : ℕ) → slice_get (diagram_of setting).blocks block ≡ Some b
+      → 1 ≤ shown_ports b.kind b.outputs → 1 ≤ port → port ≤ b.inputs → driver_of (diagram_of setting) block port ≡ Some edge
+      → element < line_count (diagram_of setting) block b port edge → (attributes_of (diagram_of setting)).period_at edge.from ≡ Some source
+      → lag_into (diagram_of setting) (attributes_of (diagram_of setting)) block b (Port port) source ≡ Some lag → level (places.offered block port element) ≡ 0
   pub products : HaveProducts (diagram_of setting) setting.design.plan.now (times_for setting.design) places (roots_of setting) (hubs_in_all (diagram_of setting)) now
   pub low : ProductsAreLow (diagram_of setting) setting.design.plan.now (times_for setting.design) places level
   pub units : HaveUnits (diagram_of setting) setting.design.plan.now (times_for setting.design) places (roots_of setting) (hubs_in_all (diagram_of setting)) now
@@ -139,7 +141,8 @@ pub record IsBegun (setting : Setting) (now : Circuit) : Type 0 where
 module _ (setting : Setting) where
   -- by these places, the netlist goes on
   abbrev pub IsGoingBy : Places → Circuit → ℕ → Circuit → (ℕ → ℕ) → Type 0
-  IsGoingBy places start closed now level = IsGoing (diagram_of setting) (timing_for setting.design) places (place_in setting.design.checked.now.order) (roots_of setting) start closed (hubs_in_all (diagram_of setting)) now level
+  IsGoingBy places start closed now level =
+      IsGoing (diagram_of setting) (timing_for setting.design) places (place_in setting.design.checked.now.order) (roots_of setting) start closed (hubs_in_all (diagram_of setting)) now level
 
   abbrev pub HaveProductsBy : Places → ℕ → Circuit → Type 0
   HaveProductsBy places closed now = HaveProducts (diagram_of setting) setting.design.plan.now (times_for setting.design) places closed (hubs_in_all (diagram_of setting)) now
@@ -178,9 +181,11 @@ module _ (setting : Setting) where
     pub new_product : (k : ℕ) → entry.multiply ≡ Some k → (length before.nets ≤ k) × (k < length after.nets) × (products_by (diagram_of setting) setting.design.plan.now block ≡ 1)
     pub product : products_by (diagram_of setting) setting.design.plan.now block ≡ 1 → IsOwnProduct after entry.multiply
     pub own_number : (m : ℕ) → entry.multiply ≡ Some m → ((row_of b.kind).hardware.multiplies ≡ true) × (length before.nets ≤ m) × (m < length after.nets)
-    pub own_frames : (k : ℕ) (frame : Frame) → length before.nets ≤ k → IsCounterAt after.nets k frame → IsBlockFrame (diagram_of setting) setting.design.plan.now (times_for setting.design) block frame
+    pub own_frames : (k : ℕ) (frame : Frame) → length before.nets ≤ k → IsCounterAt after.nets k frame
+        → IsBlockFrame (diagram_of setting) setting.design.plan.now (times_for setting.design) block frame
     pub word : HasWord after.nets entry.net (width_of ((attributes_of (diagram_of setting)).type_at block 1)) (is_signed ((attributes_of (diagram_of setting)).type_at block 1))
-    pub each : (places : Places) (start : Circuit) (closed : ℕ) (level : ℕ → ℕ) → Fits setting places → IsEntryAt places block b port element entry → HaveProductsBy places (roots_of setting) start → IsGoingBy places start closed before level
+    pub each : (places : Places) (start : Circuit) (closed : ℕ) (level : ℕ → ℕ) → Fits setting places → IsEntryAt places block b port element entry
+        → HaveProductsBy places (roots_of setting) start → IsGoingBy places start closed before level
         → IsEnteredBy places start closed after block b port element entry
 
   -- so do the places of those before
@@ -199,7 +204,9 @@ pub record AreInputSpots (spots : Spots) (inputs : ℕ) : Type 0 where
 pub record HasElements (setting : Setting) (now : Circuit) (spots : Spots) : Type 0 where
   pub fits : Fits setting (places_of (diagram_of setting) setting.firsts.now setting.operands.now (product_net setting.products.now) spots)
   pub level : ℕ → ℕ
-  pub way : IsUnderWay (diagram_of setting) (timing_for setting.design) (places_of (diagram_of setting) setting.firsts.now setting.operands.now (product_net setting.products.now) spots) (place_in setting.design.checked.now.order) (hubs_in_all (diagram_of setting)) (hubs_in_all (diagram_of setting)) now level
+  pub way : IsUnderWay (diagram_of setting) (timing_for setting.design)
+      (places_of (diagram_of setting) setting.firsts.now setting.operands.now (product_net setting.products.now) spots)
+      (place_in setting.design.checked.now.order) (hubs_in_all (diagram_of setting)) (hubs_in_all (diagram_of setting)) now level
       (length (diagram_of setting).blocks)
   -- what was so of the netlist at which the elements began is so of each that this one may become
   pub start : Circuit

@@ -41,7 +41,8 @@ module _ (diagram : Diagram) (plan : Resolved) (times : Times) where
     pub next : ℕ → ℕ
     pub way : IsUnderWay diagram (timing_by diagram plan times) places place_of closed hubs after next count
     pub same : (k : ℕ) → k < length before.nets → next k ≡ level k
-    pub low : (block : ℕ) (b : Block) (element : ℕ) → slice_get diagram.blocks block ≡ Some b → is_shared diagram (attributes_of diagram) plan block ≡ true → element < (attributes_of diagram).width_at block 1 → next (places.product block element) ≡ 0
+    pub low : (block : ℕ) (b : Block) (element : ℕ) → slice_get diagram.blocks block ≡ Some b
+        → is_shared diagram (attributes_of diagram) plan block ≡ true → element < (attributes_of diagram).width_at block 1 → next (places.product block element) ≡ 0
     pub products : HaveProducts diagram plan times places closed hubs after
     pub units : HasNoUnits before → HaveUnits diagram plan times places closed hubs after
 
@@ -54,7 +55,8 @@ module _ (diagram : Diagram) (plan : Resolved) (times : Times) where
 
   pub record AddsProducts (offered : ℕ → ℕ → ℕ → ℕ) (before after : Circuit) (products : Products) : Type 0 where
     pub extends : Extends before after
-    pub way : (places : Places) (place_of : ℕ → ℕ) (closed hubs : ℕ) (level : ℕ → ℕ) (count : ℕ) → ArePlacedBy offered products places → ArePlacesBelow diagram place_of → length before.inputs ≤ length (root_inputs diagram (attributes_of diagram))
+    pub way : (places : Places) (place_of : ℕ → ℕ) (closed hubs : ℕ) (level : ℕ → ℕ) (count : ℕ) → ArePlacedBy offered products places
+        → ArePlacesBelow diagram place_of → length before.inputs ≤ length (root_inputs diagram (attributes_of diagram))
         → IsUnderWay diagram (timing_by diagram plan times) places place_of closed hubs before level count → IsSharedWay places place_of closed hubs before after level count
     pub shared : HasNoUnits before → length (multipliers after) ≡ units_in_all diagram (attributes_of diagram) plan times
     pub own : length (others after) ≡ length (others before)

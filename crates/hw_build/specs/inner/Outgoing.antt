@@ -29,7 +29,8 @@ AreOutputBlocks design blocks = AreBlocksOf (root_outputs design.checked.now.dia
 -- the port of an element of a block
 abbrev pub IsOutputPort : Design → List (List ℕ) → Names → Names → ℕ → ℕ → NetPort → Type 0
 IsOutputPort design firsts old new block element port =
-    IsPortOf design.checked.now.diagram old new block (width_into design.checked.now.diagram (attributes_of design.checked.now.diagram) block 1) element (hub_at firsts block 1 element) (clocks_to design block) port
+    IsPortOf design.checked.now.diagram old new block
+    (width_into design.checked.now.diagram (attributes_of design.checked.now.diagram) block 1) element (hub_at firsts block 1 element) (clocks_to design block) port
 
 -- so many ports were put in
 abbrev pub AddsOutputs : Design → List (List ℕ) → Names → Names → Circuit → Circuit → ℕ → Type 0

@@ -28,7 +28,10 @@ pub record IsMade (diagram : Diagram) (plan : Resolved) (timing : Timing) (net :
 
 pub record AreMade (diagram : Diagram) (plan : Resolved) (timing : Timing) (net : Circuit) (operations : List Operation) : Type 0 where
   pub size : length operations ≡ length (shared_operations diagram (attributes_of diagram) plan)
-  pub each : (number : ℕ) (o : Shared) (one : Operation) → IsSharedAt diagram (attributes_of diagram) plan number o → slice_get operations number ≡ Some one → IsMade diagram plan timing net number o one
+  pub each : (number : ℕ) (o : Shared) (one : Operation) → IsSharedAt diagram (attributes_of diagram) plan number o
+      → slice_get operations number ≡ Some one → IsMade diagram plan timing net number o one
 
 abbrev pub OperationsCanShare : Type 0
-OperationsCanShare = (diagram : Diagram) (plan : Resolved) (timing : Timing) (net : Circuit) (operations : List Operation) → IsScheduled diagram plan timing → net.cycles ≡ plan.cycles → AreMade diagram plan timing net operations → CanShare net operations
+OperationsCanShare =
+    (diagram : Diagram) (plan : Resolved) (timing : Timing) (net : Circuit) (operations : List Operation) → IsScheduled diagram plan timing
+    → net.cycles ≡ plan.cycles → AreMade diagram plan timing net operations → CanShare net operations

@@ -52,5 +52,6 @@ pub record AddsPipeline (timing : Timing) (before after : Circuit) (type : FxTyp
 
 -- where a block has a period and registers, these; else the element itself
 pub record IsPipedBy (diagram : Diagram) (timing : Timing) (before after : Circuit) (block element entry : ℕ) (piped : Piped) : Type 0 where
-  pub some : (period : ℕ) → (attributes_of diagram).period_at block ≡ Some period → 0 < timing.stages block → AddsPipeline timing before after ((attributes_of diagram).type_at block 1) block element period entry piped.begin × (piped.end ≡ piped.begin + timing.stages block)
+  pub some : (period : ℕ) → (attributes_of diagram).period_at block ≡ Some period → 0 < timing.stages block
+      → AddsPipeline timing before after ((attributes_of diagram).type_at block 1) block element period entry piped.begin × (piped.end ≡ piped.begin + timing.stages block)
   pub none : (timing.stages block ≡ 0) ⊎ ((attributes_of diagram).period_at block ≡ None) → (after ≡ before) × (piped.begin ≡ entry) × (piped.end ≡ entry)

@@ -31,7 +31,8 @@ pub record IsPortFor (e : RootElement) (number latency : ℕ) (port : NetPort) :
   pub latency_is : port.latency ≡ latency
 
 -- the ports of the first of these elements, by the width of their signals, the net of each and the latency of their blocks
-pub record ArePortsFor (diagram : Diagram) (elements : List RootElement) (width_of : ℕ → ℕ) (number_of : ℕ → RootElement → ℕ) (latency_of : ℕ → ℕ) (old new : Names) (ports : List NetPort) (count : ℕ) : Type 0 where
+pub record ArePortsFor (diagram : Diagram) (elements : List RootElement) (width_of : ℕ → ℕ) (number_of : ℕ → RootElement → ℕ) (latency_of : ℕ → ℕ)
+    (old new : Names) (ports : List NetPort) (count : ℕ) : Type 0 where
   pub size : length ports ≡ count
   pub each : (k : ℕ) (e : RootElement) (port : NetPort) → slice_get elements k ≡ Some e → slice_get ports k ≡ Some port → IsPortFor e (number_of k e) (latency_of e.block) port
   pub given : (list : List (List ℕ)) → AreTaken old list
@@ -45,7 +46,8 @@ pub record AddsInputPorts (diagram : Diagram) (old new : Names) (earlier later :
 -- and of root outputs, each of the net that readers of its element name
 pub record AddsOutputPorts (diagram : Diagram) (plan : Resolved) (times : Times) (firsts : List (List ℕ)) (old new : Names) (earlier later : Circuit) (count : ℕ) : Type 0 where
   pub grown : later ≡ record earlier { outputs = later.outputs }
-  pub ports : ArePortsFor diagram (root_outputs diagram (attributes_of diagram)) (λ block. width_into diagram (attributes_of diagram) block 1) (λ k e. hub_at firsts e.block 1 e.element) (declared_latency diagram (attributes_of diagram) plan times) old new later.outputs count
+  pub ports : ArePortsFor diagram (root_outputs diagram (attributes_of diagram)) (λ block. width_into diagram (attributes_of diagram) block 1)
+      (λ k e. hub_at firsts e.block 1 e.element) (declared_latency diagram (attributes_of diagram) plan times) old new later.outputs count
 
 -- where the ports of root inputs begin among their nets
 pub record AreInputFirsts (diagram : Diagram) (firsts : List (List ℕ)) : Type 0 where

@@ -16,6 +16,7 @@ pub record IsReadied (diagram : Diagram) (plan : Resolved) (times : Times) (now 
   pub labels : now.labels ≡ []
   pub start : Circuit
   pub none : start.nets ≡ []
-  pub registers : HasMoreRegisters diagram plan times start now (registers_of_lines (uses_in_all diagram (attributes_of diagram) plan times) + length (shared_operations diagram (attributes_of diagram) plan))
+  pub registers : HasMoreRegisters diagram plan times start now
+      (registers_of_lines (uses_in_all diagram (attributes_of diagram) plan times) + length (shared_operations diagram (attributes_of diagram) plan))
   pub own : length (others now) ≡ 0
   pub shared : length (multipliers now) ≡ units_in_all diagram (attributes_of diagram) plan times

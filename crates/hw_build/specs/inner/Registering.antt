@@ -1,5 +1,6 @@
 -- Registers one behind another, as they are put in (own).
-use Rattle.std.specs.Prelude.{◌≡◌, ℕ, zero, suc, ◌+◌, ◌<◌, ◌≤◌, ℤ, List, [], ◌∷◌, length, IsSome, Option, None, Some, slice_get}
+use Rattle.std.specs.Prelude.{◌≡◌, ℕ, zero, suc, ◌+◌, ◌<◌, ◌≤◌, ℤ, List, [], ◌∷◌, length, All, IsSome, Option, None, Some, slice_get}
+use Rattle.fx_num.specs.Word.{InWord, IsWord}
 use Rattle.hw_net.specs.declared.netlist.Frame.{Frame}
 use Rattle.hw_net.specs.declared.netlist.NetKind.{NetKind}
 use Rattle.hw_net.specs.declared.netlist.NetKind.TheVariants.{Comb, Reg, EnReg, Bridge, Unit, Counter}
@@ -25,6 +26,16 @@ register_of (Some by) frame slot first = λ from. EnReg frame by.enable by.reset
 abbrev pub enables_by : Option Enabled → List ℕ
 enables_by None = []
 enables_by (Some by) = by.enable ∷ []
+
+-- registers of this frame can be put in behind the net, with this number first
+pub record CanPutSeries (before : Circuit) (word : Word) (frame : Frame) (by : Option Enabled) (count : ℕ) (begins : ℤ) (behind : ℕ) : Type 0 where
+  pub cycles : 0 < before.cycles
+  pub period : 0 < frame.period
+  pub some : 1 ≤ count
+  pub is_word : IsWord word.width word.signed
+  pub from : HasWord before.nets behind word.width word.signed
+  pub enabled : All (λ read. read < length before.nets) (enables_by by)
+  pub first : InWord word.width word.signed begins
 
 -- registers and a Counter of this frame
 abbrev pub IsOfFrame : Frame → NetKind → Type 0

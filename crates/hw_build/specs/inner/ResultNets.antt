@@ -49,7 +49,8 @@ product_net products block element = number_or_zero (product_at products block e
 -- the elements of shared blocks have one each, and no others
 pub record AreProducts (diagram : Diagram) (plan : Resolved) (products : Products) : Type 0 where
   pub size : length products.firsts.items ≡ length diagram.blocks
-  pub shared : (block element : ℕ) → block < length diagram.blocks → is_shared diagram (attributes_of diagram) plan block ≡ true → element < (attributes_of diagram).width_at block 1 → product_at products block element ≡ Some (product_net products block element)
+  pub shared : (block element : ℕ) → block < length diagram.blocks → is_shared diagram (attributes_of diagram) plan block ≡ true
+      → element < (attributes_of diagram).width_at block 1 → product_at products block element ≡ Some (product_net products block element)
   pub other : (block element : ℕ) → block < length diagram.blocks → is_shared diagram (attributes_of diagram) plan block ≡ false → product_at products block element ≡ None
 
 -- a net shows an entry of a list at each clock, stored in a type
@@ -75,11 +76,13 @@ module _ (diagram : Diagram) (plan : Resolved) (times : Times) (places : Places)
     pub right : ℕ
     pub second : IsSecondNet block element (row_of b.kind).types.full right
     pub product : (period : ℕ) → (attributes_of diagram).period_at block ≡ Some period
-        → InLater closed hubs now (λ n rows. IsProductAt n (span_at (timing_by diagram plan times) period block) slot (rows (places.offered block 1 element)) (rows right) (rows (places.product block element)))
+        → InLater closed hubs now
+        (λ n rows. IsProductAt n (span_at (timing_by diagram plan times) period block) slot (rows (places.offered block 1 element)) (rows right) (rows (places.product block element)))
     pub full : FxType
     pub is_full : IsFullProduct (type_into diagram (attributes_of diagram) block 1) (right_of diagram (attributes_of diagram) block (Some b)) full
     pub word : HasWord now.nets (places.product block element) (width_of full) (is_signed full)
 
   -- those of all shared operations
   pub record HaveProducts : Type 0 where
-    pub each : (block : ℕ) (b : Block) (element : ℕ) → slice_get diagram.blocks block ≡ Some b → is_shared diagram (attributes_of diagram) plan block ≡ true → element < (attributes_of diagram).width_at block 1 → HasProduct block b element
+    pub each : (block : ℕ) (b : Block) (element : ℕ) → slice_get diagram.blocks block ≡ Some b
+        → is_shared diagram (attributes_of diagram) plan block ≡ true → element < (attributes_of diagram).width_at block 1 → HasProduct block b element

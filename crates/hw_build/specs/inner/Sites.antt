@@ -14,7 +14,7 @@ use Rattle.dg_model.specs.declared.op.Op.{Op}
 use Rattle.hw_lower.specs.Lowered.{AreArgs}
 use Rattle.hw_net.specs.declared.netlist.Frame.{Frame}
 use Rattle.hw_net.specs.Circuit.{Circuit}
-use Rattle.hw_build.specs.declared.entries.Entry.{Entry}
+use Rattle.hw_build.specs.declared.entry.Entry.{Entry}
 use Rattle.hw_build.specs.declared.lowering.Begun.{Begun}
 use Rattle.hw_build.specs.declared.site.Site.{Site}
 use Rattle.hw_build.specs.declared.states.Enabled.{Enabled}
@@ -34,7 +34,8 @@ types_at site = types_into site.design.checked.now.diagram (attributes_of site.d
 
 -- its operands are what a block of this kind reads
 abbrev pub HasOperands : Circuit → Site → Kind → Type 0
-HasOperands net site kind = AreArgs net (operand_types site.design.checked.now.diagram (attributes_of site.design.checked.now.diagram) site.place.block site.one.now site.place.port kind) site.operands.now
+HasOperands net site kind =
+    AreArgs net (operand_types site.design.checked.now.diagram (attributes_of site.design.checked.now.diagram) site.place.block site.one.now site.place.port kind) site.operands.now
 
 -- a table of the design shows it, these are the types of what its inputs offer, and its operands what its block reads
 pub record IsReady (net : Circuit) (site : Site) : Type 0 where
@@ -50,7 +51,9 @@ pub record CanKeep (net : Circuit) (site : Site) : Type 0 where
 
 -- the operation is that of its block
 abbrev pub IsOpAt : Site → Op → Type 0
-IsOpAt site op = IsOpOf site.one.now.kind site.place.element ((attributes_of site.design.checked.now.diagram).param_at site.place.block) (type_into site.design.checked.now.diagram (attributes_of site.design.checked.now.diagram) site.place.block 2) op
+IsOpAt site op =
+    IsOpOf site.one.now.kind site.place.element ((attributes_of site.design.checked.now.diagram).param_at site.place.block)
+    (type_into site.design.checked.now.diagram (attributes_of site.design.checked.now.diagram) site.place.block 2) op
 
 -- the operation with its types
 abbrev pub operation_for : Site → Op → Operation
@@ -63,7 +66,8 @@ Puts site old new entry = PutsEntry site.design.checked.now.diagram (timing_for 
 -- its operands are an element in its own type, and what enables its block
 abbrev pub HasEnabledOperands : Circuit → Site → Type 0
 HasEnabledOperands net site =
-    AreArgs net ((attributes_of site.design.checked.now.diagram).type_at site.place.block site.place.port ∷ enable_types (attributes_of site.design.checked.now.diagram) site.one.now.enable) site.operands.now
+    AreArgs net ((attributes_of site.design.checked.now.diagram).type_at site.place.block site.place.port ∷ enable_types
+    (attributes_of site.design.checked.now.diagram) site.one.now.enable) site.operands.now
 
 -- it is one of an output port of an enabled subsystem, with these parameters
 pub record PassesOut (net : Circuit) (site : Site) (reset : Bool) (list : List Decimal) : Type 0 where
@@ -92,4 +96,5 @@ pub record IsKept (site : Site) (list : List Decimal) (count : ℕ) (enabled : O
   pub initial : IsInitial site list begun
   pub frame : Frame
   pub own : IsFrameOf site.design.checked.now.diagram (timing_for site.design) site.place.block frame
-  pub put : PutsSeries (register_of enabled frame (frame.period * site.design.plan.now.cycles - 1) begun.first) before after (enables_by enabled ++ slice_index_or site.operands.now 0 0 ∷ []) frame begun.word (slice_index_or site.operands.now 0 0) count series
+  pub put : PutsSeries (register_of enabled frame (frame.period * site.design.plan.now.cycles - 1) begun.first) before after
+      (enables_by enabled ++ slice_index_or site.operands.now 0 0 ∷ []) frame begun.word (slice_index_or site.operands.now 0 0) count series

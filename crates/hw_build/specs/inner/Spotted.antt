@@ -34,7 +34,8 @@ pub record AreSpotted (diagram : Diagram) (firsts : List (List ℕ)) (spots : Sp
       → places.entry block port element ≡ slice_index_or spots.entries (hub_at firsts block port element) 0
   pub stage : (block : ℕ) (b : Block) (port element k : ℕ) → IsShown diagram (attributes_of diagram) block b port element → hub_at firsts block port element < length spots.stages
       → places.stage block port element k ≡ slice_index_or spots.stages (hub_at firsts block port element) 0 + k
-  pub state : (block : ℕ) (b : Block) (port element k : ℕ) → IsShown diagram (attributes_of diagram) block b port element → asks_ever (row_of b.kind).timing.asks ≡ true → hub_at firsts block port element < length spots.states
+  pub state : (block : ℕ) (b : Block) (port element k : ℕ) → IsShown diagram (attributes_of diagram) block b port element
+      → asks_ever (row_of b.kind).timing.asks ≡ true → hub_at firsts block port element < length spots.states
       → places.state block element (suc k) ≡ slice_index_or spots.states (hub_at firsts block port element) 0 + k
   pub begins : (block element : ℕ) → places.state block element 0 ≡ places.offered block 1 element
 
@@ -56,14 +57,19 @@ pub record IsGoing (diagram : Diagram) (timing : Timing) (places : Places) (plac
   pub way : IsUnderWay diagram timing places place_of closed hubs now level 0
   pub few : length now.inputs ≤ length (root_inputs diagram (attributes_of diagram))
   -- what an end with registers is offered reads nothing in its own clock
-  pub late : (block : ℕ) (b : Block) (port element : ℕ) (edge : Edge) (source lag : ℕ) → slice_get diagram.blocks block ≡ Some b → 1 ≤ shown_ports b.kind b.outputs → 1 ≤ port → port ≤ b.inputs → driver_of diagram block port ≡ Some edge
-      → element < line_count diagram block b port edge → (attributes_of diagram).period_at edge.from ≡ Some source → lag_into diagram (attributes_of diagram) block b (Port port) source ≡ Some lag → level (places.offered block port element) ≡ 0
+  pub late : (block : ℕ) (b : Block) (port element : ℕ) (edge : Edge) (source lag : ℕ) → slice_get diagram.blocks block ≡ Some b
+      → 1 ≤ shown_ports b.kind b.outputs → 1 ≤ port → port ≤ b.inputs → driver_of diagram block port ≡ Some edge
+      → element < line_count diagram block b port edge → (attributes_of diagram).period_at edge.from ≡ Some source
+      → lag_into diagram (attributes_of diagram) block b (Port port) source ≡ Some lag → level (places.offered block port element) ≡ 0
   -- nor does the product of a shared multiplier
-  pub low : (block : ℕ) (b : Block) (element slot : ℕ) → slice_get diagram.blocks block ≡ Some b → element < (attributes_of diagram).width_at block 1 → timing.slot block element ≡ Some slot → (places.product block element < length now.nets) × (level (places.product block element) ≡ 0)
+  pub low : (block : ℕ) (b : Block) (element slot : ℕ) → slice_get diagram.blocks block ≡ Some b → element < (attributes_of diagram).width_at block 1
+      → timing.slot block element ≡ Some slot → (places.product block element < length now.nets) × (level (places.product block element) ≡ 0)
   pub waits : (block : ℕ) (b : Block) (port element : ℕ) → IsShown diagram (attributes_of diagram) block b port element → closed ≤ places.after block port element
       → IsWaiting now level (place_of block) (places.after block port element) ((attributes_of diagram).type_at block 1)
-  pub made : (block : ℕ) (b : Block) (port element : ℕ) → IsShown diagram (attributes_of diagram) block b port element → places.after block port element < closed → IsElementMade diagram timing places closed hubs now block b port element
-  pub piped : (block : ℕ) (b : Block) (port element : ℕ) → IsShown diagram (attributes_of diagram) block b port element → places.after block port element < closed → IsElementPiped diagram timing places closed hubs now block port element
+  pub made : (block : ℕ) (b : Block) (port element : ℕ) → IsShown diagram (attributes_of diagram) block b port element
+      → places.after block port element < closed → IsElementMade diagram timing places closed hubs now block b port element
+  pub piped : (block : ℕ) (b : Block) (port element : ℕ) → IsShown diagram (attributes_of diagram) block b port element
+      → places.after block port element < closed → IsElementPiped diagram timing places closed hubs now block port element
 
 -- a pipeline was put behind an element, and its end is what the net of this number passes on
 pub record IsClosedBy (diagram : Diagram) (timing : Timing) (before after : Circuit) (hub block element entry : ℕ) (piped : Piped) : Type 0 where

@@ -34,7 +34,8 @@ pub record IsPipelineAt (diagram : Diagram) (timing : Timing) (fence : ℕ) (now
   pub size : begin + timing.stages block < length now.nets
   pub entry : ℕ
   pub wire : slice_get now.nets begin ≡ Some (wire_of ((attributes_of diagram).type_at block 1) entry)
-  pub stage : (k : ℕ) → k < timing.stages block → slice_get now.nets (begin + suc k) ≡ Some (stage_net ((attributes_of diagram).type_at block 1) (own_frame timing period block) (period * timing.cycles - 1) (begin + k))
+  pub stage : (k : ℕ) → k < timing.stages block
+      → slice_get now.nets (begin + suc k) ≡ Some (stage_net ((attributes_of diagram).type_at block 1) (own_frame timing period block) (period * timing.cycles - 1) (begin + k))
   pub turn : AreReadInTurn now.nets begin (begin + timing.stages block)
   pub named : (k : ℕ) → k < timing.stages block → Contains now.labels (record { net = begin + suc k; name = stage_name block element (suc k) })
 
@@ -96,10 +97,12 @@ pub record AreLabelled (firsts : List (List ℕ)) (labels : List NetLabel) (size
 pub record AreTallied (diagram : Diagram) (plan : Resolved) (timing : Timing) (firsts : List (List ℕ)) (start now : Circuit) (spots : Spots) : Type 0 where
   pub more : length start.nets ≤ length now.nets
   pub there : ReadThere now.nets
-  pub pipelines : (block : ℕ) (b : Block) (port element period : ℕ) → IsShown diagram (attributes_of diagram) block b port element → hub_at firsts block port element < length spots.entries → (attributes_of diagram).period_at block ≡ Some period → 0 < timing.stages block
+  pub pipelines : (block : ℕ) (b : Block) (port element period : ℕ) → IsShown diagram (attributes_of diagram) block b port element
+      → hub_at firsts block port element < length spots.entries → (attributes_of diagram).period_at block ≡ Some period → 0 < timing.stages block
       → IsPipelineAt diagram timing (length start.nets) now block element period (slice_index_or spots.stages (hub_at firsts block port element) 0)
   pub registers : register_count now.nets ≤ register_count start.nets + before (hub_registers diagram plan) (length spots.entries)
   pub own : length (others now) ≡ length (others start) + before (hub_products diagram plan) (length spots.entries)
   pub shared : multipliers now ≡ multipliers start
   pub labelled : AreLabelled firsts now.labels (length now.nets) (length spots.entries)
-  pub multiplied : (block : ℕ) (b : Block) (element : ℕ) → IsShown diagram (attributes_of diagram) block b 1 element → hub_at firsts block 1 element < length spots.entries → products_by diagram plan block ≡ 1 → IsMultiplied now (multiplication_name block element)
+  pub multiplied : (block : ℕ) (b : Block) (element : ℕ) → IsShown diagram (attributes_of diagram) block b 1 element
+      → hub_at firsts block 1 element < length spots.entries → products_by diagram plan block ≡ 1 → IsMultiplied now (multiplication_name block element)

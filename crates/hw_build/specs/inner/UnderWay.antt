@@ -40,14 +40,18 @@ module _ (diagram : Diagram) (places : Places) (place_of : ℕ → ℕ) (hubs : 
 
   -- what ends of blocks are offered has the words of their sources, and stands above these at the most as their lines do
   pub record HaveOperands : Type 0 where
-    pub there : (block : ℕ) (b : Block) (port element : ℕ) (edge : Edge) → slice_get diagram.blocks block ≡ Some b → 1 ≤ shown_ports b.kind b.outputs → 1 ≤ port → port ≤ b.inputs → driver_of diagram block port ≡ Some edge
+    pub there : (block : ℕ) (b : Block) (port element : ℕ) (edge : Edge) → slice_get diagram.blocks block ≡ Some b → 1 ≤ shown_ports b.kind b.outputs
+        → 1 ≤ port → port ≤ b.inputs → driver_of diagram block port ≡ Some edge
         → element < line_count diagram block b port edge
-        → HasWord now.nets (places.offered block port element) (width_of ((attributes_of diagram).type_at edge.from edge.from_port)) (is_signed ((attributes_of diagram).type_at edge.from edge.from_port))
-    pub levels : (block : ℕ) (b : Block) (port element : ℕ) (edge : Edge) → slice_get diagram.blocks block ≡ Some b → 1 ≤ shown_ports b.kind b.outputs → 1 ≤ port → port ≤ b.inputs → driver_of diagram block port ≡ Some edge
+        → HasWord now.nets (places.offered block port element) (width_of ((attributes_of diagram).type_at edge.from edge.from_port))
+        (is_signed ((attributes_of diagram).type_at edge.from edge.from_port))
+    pub levels : (block : ℕ) (b : Block) (port element : ℕ) (edge : Edge) → slice_get diagram.blocks block ≡ Some b → 1 ≤ shown_ports b.kind b.outputs
+        → 1 ≤ port → port ≤ b.inputs → driver_of diagram block port ≡ Some edge
         → element < line_count diagram block b port edge → level (places.offered block port element) ≤ line_level (place_of edge.from)
     pub enables : (block : ℕ) (b : Block) (control : ℕ) → slice_get diagram.blocks block ≡ Some b → Feeds diagram block b Enable control
         → HasWord now.nets (places.enable block) (width_of ((attributes_of diagram).type_at control 1)) (is_signed ((attributes_of diagram).type_at control 1))
-    pub enable_levels : (block : ℕ) (b : Block) (control : ℕ) → slice_get diagram.blocks block ≡ Some b → Feeds diagram block b Enable control → level (places.enable block) ≤ line_level (place_of control)
+    pub enable_levels : (block : ℕ) (b : Block) (control : ℕ) → slice_get diagram.blocks block ≡ Some b → Feeds diagram block b Enable control
+        → level (places.enable block) ≤ line_level (place_of control)
 
 -- the first `count` blocks have their elements, and the hubs below `closed` their arguments
 pub record IsUnderWay (diagram : Diagram) (timing : Timing) (places : Places) (place_of : ℕ → ℕ) (closed hubs : ℕ) (now : Circuit) (level : ℕ → ℕ) (count : ℕ) : Type 0 where

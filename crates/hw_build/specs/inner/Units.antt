@@ -37,7 +37,9 @@ pub record IsUnitFor (diagram : Diagram) (plan : Resolved) (times : Times) (plac
   pub at : slice_get (multipliers now) (unit_of diagram (attributes_of diagram) plan times number o) ≡ Some factors
   pub has : (period : ℕ) → (attributes_of diagram).period_at o.block ≡ Some period
       → InLater closed hubs now (λ n rows. (k : ℕ) → frame_start (span_at (timing_by diagram plan times) period o.block) k + slot_of diagram (attributes_of diagram) plan times number o < n
-      → HasFactors diagram places rows o b (frame_start (span_at (timing_by diagram plan times) period o.block) k + slot_of diagram (attributes_of diagram) plan times number o) factors.left factors.right)
+      → HasFactors diagram places rows o b
+      (frame_start (span_at (timing_by diagram plan times) period o.block) k + slot_of diagram (attributes_of diagram) plan times number o) factors.left factors.right)
 
 pub record HaveUnits (diagram : Diagram) (plan : Resolved) (times : Times) (places : Places) (closed hubs : ℕ) (now : Circuit) : Type 0 where
-  pub each : (number : ℕ) (o : Operation) (b : Block) → IsOperation diagram (attributes_of diagram) plan number o → slice_get diagram.blocks o.block ≡ Some b → IsUnitFor diagram plan times places closed hubs now number o b
+  pub each : (number : ℕ) (o : Operation) (b : Block) → IsOperation diagram (attributes_of diagram) plan number o
+      → slice_get diagram.blocks o.block ≡ Some b → IsUnitFor diagram plan times places closed hubs now number o b

@@ -171,7 +171,8 @@ pub record AreLineParts (before now : Circuit) : Type 0 where
 
 -- each Counter that was put in counts a frame of a class
 pub record AreCounted (before now : Circuit) (classes : List Class) : Type 0 where
-  pub each : (k : ℕ) (net : Net) (frame : Frame) → length before.nets ≤ k → slice_get now.nets k ≡ Some net → net.kind ≡ Counter frame → (c : ℕ) × (one : Class) × (slice_get classes c ≡ Some one) × IsCountedIn (source_by one.feed) one.uses.items frame
+  pub each : (k : ℕ) (net : Net) (frame : Frame) → length before.nets ≤ k → slice_get now.nets k ≡ Some net → net.kind ≡ Counter frame
+      → (c : ℕ) × (one : Class) × (slice_get classes c ≡ Some one) × IsCountedIn (source_by one.feed) one.uses.items frame
 
 -- the registers of the chain of a class, and of the first classes, at the most
 abbrev pub class_registers : Option Class → ℕ
@@ -211,7 +212,8 @@ pub record AreMet (before now : Circuit) (wants : List Want) (numbers : List ℕ
 -- the nets of the first wants are those at their places
 pub record AreTaken (seats : List Seat) (answers : List (List ℕ)) (numbers : List ℕ) (count : ℕ) : Type 0 where
   pub size : length numbers ≡ count
-  pub each : (k : ℕ) (seat : Seat) (number : ℕ) → slice_get seats k ≡ Some seat → slice_get numbers k ≡ Some number → (own : List ℕ) × (slice_get answers seat.class ≡ Some own) × (slice_get own seat.place ≡ Some number)
+  pub each : (k : ℕ) (seat : Seat) (number : ℕ) → slice_get seats k ≡ Some seat → slice_get numbers k ≡ Some number
+      → (own : List ℕ) × (slice_get answers seat.class ≡ Some own) × (slice_get own seat.place ≡ Some number)
 
 -- a chain was put in for a class
 pub record IsClassAnswered (before after : Circuit) (one : Class) (numbers : List ℕ) : Type 0 where

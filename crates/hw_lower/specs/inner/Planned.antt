@@ -1,8 +1,8 @@
 -- Steps of a plan: what their numbers are, and how a plan grows.
 use Rattle.std.specs.Prelude.{◌≡◌, ℕ, ◌<◌, ◌≤◌, ◌^◌, ℤ, List, [], ◌∷◌, ◌++◌, take, length, All}
 use Rattle.std.specs.Prelude.{slice_get, Some, ⊤, false}
-use Rattle.std.specs.Prelude.{◌≢◌, ◌≤ℤ◌, ◌<ℤ◌, Bool, true, pos}
-use Rattle.fx_num.specs.Word.{IsWord, IsWrapped, word_lowest, word_highest}
+use Rattle.std.specs.Prelude.{◌≢◌, ◌≤ℤ◌, ◌<ℤ◌, Bool, true, pos, ◌*ℤ◌}
+use Rattle.fx_num.specs.Word.{InWord, IsWord, IsWrapped, word_lowest, word_highest}
 use Rattle.fx_type.specs.declared.kind.FxType.{FxType}
 use Rattle.fx_type.specs.declared.rounding.Rounding.{Rounding}
 use Rattle.fx_type.specs.FxType.{is_signed, width_of}
@@ -53,6 +53,10 @@ three numbers one other last =
 -- for operations that read none
 abbrev pub no_inputs : Numbers
 no_inputs number = pos 0
+
+-- what an operation that reads no input gives of two operands
+abbrev pub of_two : NetOp → Numbers → Operand → Operand → ℤ
+of_two op numbers one other = given_by op no_inputs (three numbers one other other)
 
 -- each step has the number that its operation gives, cut to its word
 pub record Obeys (plan : List Step) (inputs numbers : Numbers) : Type 0 where
@@ -158,6 +162,13 @@ pub record IsMade (old new : List Step) (word : Word) (P : Numbers → Type 0)
   pub has_word : made.word ≡ word
   pub gives : Gives new P
 
+-- the operand is one of the plan that has grown: what the operation gives of the three, cut to the word
+abbrev pub IsGiven : List Step → List Step → NetOp → Operand → Operand → Operand → Word → Operand → Type 0
+IsGiven old new op first second third word made =
+    IsMade old new word (λ numbers.
+    IsWrapped (given_by op no_inputs (three numbers first second third)) word.width word.signed
+    (numbers made.place)) made
+
 -- the operand is the step that was put behind the others
 pub record IsPut (old new : List Step) (step : Step) (made : Operand) : Type 0 where
   pub is : new ≡ old ++ step ∷ []
@@ -196,6 +207,32 @@ abbrev pub IsRounded : Rounding → List Step → List Step → Operand → ℕ 
 IsRounded mode old new from by made =
     IsMade old new from.word (λ numbers.
     Rounds mode (numbers from.place) (2 ^ by) (numbers made.place)) made
+
+-- the operand is one of the plan that has grown: the given value, or the greatest number of its word
+-- where the given one by a power of two is above that
+abbrev pub HoldsBelow : List Step → List Step → Operand → ℕ → Operand → Operand → Type 0
+HoldsBelow old new from up value made =
+    IsMade old new value.word (λ numbers.
+    IsHeldBelow value.word (numbers from.place *ℤ pos (2 ^ up)) (numbers value.place)
+    (numbers made.place)) made
+
+-- the same of the least number
+abbrev pub HoldsAbove : List Step → List Step → Operand → ℕ → Operand → Operand → Type 0
+HoldsAbove old new from up value made =
+    IsMade old new value.word (λ numbers.
+    IsHeldAbove value.word (numbers from.place *ℤ pos (2 ^ up)) (numbers value.place)
+    (numbers made.place)) made
+
+-- the number can stand in place of the value, where the test isn't 0
+pub record CanHold (plan : List Step) (test value : Operand) (end : ℤ) : Type 0 where
+  pub at : IsAt plan test
+  pub value_at : IsAt plan value
+  pub fits : InWord value.word.width value.word.signed end
+
+-- the step can be rounded without some of its bits
+pub record CanRound (plan : List Step) (from : Operand) (by : ℕ) : Type 0 where
+  pub at : IsAt plan from
+  pub some : 1 ≤ by
 
 -- a carry of one bit can be added to the step without some of its bits
 pub record CanRaise (plan : List Step) (from : Operand) (by : ℕ) (carry : Operand) : Type 0 where

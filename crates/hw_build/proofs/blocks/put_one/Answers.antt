@@ -6,9 +6,12 @@ use Rattle.std.proofs.lemmas.Option.{slice_get_within}
 use Rattle.std.proofs.lemmas.Result.{IfOk-weaker}
 use Rattle.hw_build.proofs.blocks.put_one.Goals as goal
 
-pub put_shared-requires-clause-word : goal.put_shared-requires-clause-word
-put_shared-requires-clause-word c =
-    product_word c.args.element.setting c.setting_is_known.ensures c.args.net.now c.requires.going c.args.element.place.block c.args.element.one.now c.args.element.place.port c.args.element.place.element c.requires.hand.shown c.in-Some.product (sym c.at.ensures ∙ c.in-Some.is) c.full_product_is_one.ensures c.full_type-full.result c.full_type-full.ensures
+pub put_shared-requires : goal.put_shared-requires
+put_shared-requires c = record {
+  block = c.requires.hand.shown.block_is;
+  full = c.full_type-full.ensures;
+  word = product_word c.args.element.setting c.setting_is_known.ensures c.args.net.now c.requires.going c.args.element.place.block c.args.element.one.now c.args.element.place.port c.args.element.place.element c.requires.hand.shown c.in-Some.product (sym c.at.ensures ∙ c.in-Some.is) c.full_product_is_one.ensures c.full_type-full.result c.full_type-full.ensures;
+}
 
 pub returns-in-Some : goal.returns-in-Some
 returns-in-Some c =
@@ -29,12 +32,6 @@ full_type-full-requires-clause-block c = c.requires.hand.shown.block_is
 pub full_type-full-requires-clause-multiplies : goal.full_type-full-requires-clause-multiplies
 full_type-full-requires-clause-multiplies c =
     multiplying c.args.element.setting c.setting_is_known.ensures c.args.net.now c.requires.going c.args.element.place.block c.args.element.one.now c.args.element.place.port c.args.element.place.element c.requires.hand.shown c.in-Some.product (sym c.at.ensures ∙ c.in-Some.is)
-
-pub put_shared-requires-clause-block : goal.put_shared-requires-clause-block
-put_shared-requires-clause-block c = c.requires.hand.shown.block_is
-
-pub put_shared-requires-clause-full : goal.put_shared-requires-clause-full
-put_shared-requires-clause-full c = c.full_type-full.ensures
 
 pub put_entry-entry-requires-clause-can : goal.put_entry-entry-requires-clause-can
 put_entry-entry-requires-clause-can c = record { designed = c.requires.set.designed; cycles = c.requires.going.going.cycles; shown = c.requires.hand.shown }

@@ -1,5 +1,5 @@
 use Rattle.std.proofs.Common.{ap}
-use Rattle.hw_build.specs.declared.entries.Entry.{Entry}
+use Rattle.hw_build.specs.declared.entry.Entry.{Entry}
 use Rattle.hw_build.specs.inner.Designed.{timing_for}
 use Rattle.hw_build.proofs.EnteringHanded.{handed_entry, one_there}
 use Rattle.hw_build.proofs.entries.handed.Goals as goal

@@ -58,21 +58,3 @@ passed_out-requires-clause-operands c = c.requires.ready.operands_are
 
 pub passed_out-requires-clause-kind : goal.passed_out-requires-clause-kind
 passed_out-requires-clause-kind c = c.in-EnOut.is ∙ ap (EnOut c.in-EnOut.reset) (list_is c.args.site.one.now.kind (EnOut c.in-EnOut.reset c.in-EnOut.initial) c.list_of-list.result.now c.list_of-list.ensures c.in-EnOut.is)
-
-pub returns-in-Constant : goal.returns-in-Constant
-returns-in-Constant c = c.constant.ensures
-
-pub returns-in-Ground : goal.returns-in-Ground
-returns-in-Ground c = c.ground.ensures
-
-pub returns-in-EnableTest : goal.returns-in-EnableTest
-returns-in-EnableTest c = c.tested.ensures
-
-pub returns-in-Delay : goal.returns-in-Delay
-returns-in-Delay c = c.delayed.ensures
-
-pub returns-in-EnOut : goal.returns-in-EnOut
-returns-in-EnOut c = c.passed_out.ensures
-
-pub returns-in-Inport : goal.returns-in-Inport
-returns-in-Inport c = c.handed.ensures

@@ -8,7 +8,7 @@ use Rattle.dg_model.specs.Library.{row_of}
 use Rattle.dg_model.specs.Attributes.{attributes_of}
 use Rattle.hw_net.specs.declared.netlist.NetKind.TheVariants.{Comb}
 use Rattle.hw_net.specs.declared.netlist.NetOp.TheVariants.{Choose, Const}
-use Rattle.hw_build.specs.declared.entries.Entry.{Entry}
+use Rattle.hw_build.specs.declared.entry.Entry.{Entry}
 use Rattle.hw_build.specs.inner.Designed.{timing_for}
 use Rattle.hw_build.proofs.Entering.{typed_net}
 use Rattle.hw_build.proofs.EnteringKept.{second_operand}

@@ -35,35 +35,24 @@ bounds-site-0 c =
     let count = c.requires.operands.count in
     omega (arith, count)
 
-pub put_series-requires-clause-cycles : goal.put_series-requires-clause-cycles
-put_series-requires-clause-cycles c =
-    let some = c.requires.can.designed.scheduled.planned.some_clocks in
-    omega (arith, some, c.requires.can.cycles)
-
-pub put_series-requires-clause-period : goal.put_series-requires-clause-period
-put_series-requires-clause-period c =
+pub put_series-requires : goal.put_series-requires
+put_series-requires c =
+    let begun = c.initial-begun.ensures in
+    let clocks = c.requires.can.designed.scheduled.planned.some_clocks in
     let is : (attributes_of c.args.site.design.checked.now.diagram).period_at c.args.site.place.block ≡ Some c.unwrap-period.result = search (rules, c.period.ensures) in
-    let some = c.periods_are_above.ensures.above c.args.site.design.checked.now.diagram c.args.site.place.block c.unwrap-period.result c.requires.can.designed.scheduled.checked is in
-    subst (λ (f : Frame). 0 < f.period) (sym c.own_frame_of-frame.ensures) some
-
-pub put_series-requires-clause-word : goal.put_series-requires-clause-word
-put_series-requires-clause-word c = subst (λ (w : Word). IsWord w.width w.signed) (sym c.initial-begun.ensures.word_is) (type-word c.initial-begun.ensures.kind c.initial-begun.ensures.is_type)
-
-pub put_series-requires-clause-from : goal.put_series-requires-clause-from
-put_series-requires-clause-from c =
-    let begun = c.initial-begun.ensures in
+    let above = c.periods_are_above.ensures.above c.args.site.design.checked.now.diagram c.args.site.place.block c.unwrap-period.result c.requires.can.designed.scheduled.checked is in
     let has = first_operand c.args.net.now ((attributes_of c.args.site.design.checked.now.diagram).type_at c.args.site.place.block c.args.site.place.port) (enable_types (attributes_of c.args.site.design.checked.now.diagram) c.args.site.one.now.enable) c.args.site.operands.now c.requires.operands in
-    subst (λ (w : Word). HasWord c.args.net.now.nets (slice_index_or c.args.site.operands.now 0 0) w.width w.signed) (sym begun.word_is)
-    (subst (λ (t : FxType). HasWord c.args.net.now.nets (slice_index_or c.args.site.operands.now 0 0) (width_of t) (is_signed t)) (sym (begun.kind_is c.args.site.place.port)) has)
-
-pub put_series-requires-clause-enabled : goal.put_series-requires-clause-enabled
-put_series-requires-clause-enabled c = c.requires.enabled
-
-pub put_series-requires-clause-first : goal.put_series-requires-clause-first
-put_series-requires-clause-first c =
-    let begun = c.initial-begun.ensures in
     let e = to_z-of_z w128 c.initial-begun.result.first (search rules) in
-    subst (λ (w : Word). InWord w.width w.signed (to_z w128 (of_z w128 c.initial-begun.result.first))) (sym begun.word_is) (rw e (range-word begun.kind c.initial-begun.result.first begun.range))
+    record {
+      cycles = omega (arith, clocks, c.requires.can.cycles);
+      period = subst (λ (f : Frame). 0 < f.period) (sym c.own_frame_of-frame.ensures) above;
+      some = c.requires.some;
+      is_word = subst (λ (w : Word). IsWord w.width w.signed) (sym begun.word_is) (type-word begun.kind begun.is_type);
+      from = subst (λ (w : Word). HasWord c.args.net.now.nets (slice_index_or c.args.site.operands.now 0 0) w.width w.signed) (sym begun.word_is)
+          (subst (λ (t : FxType). HasWord c.args.net.now.nets (slice_index_or c.args.site.operands.now 0 0) (width_of t) (is_signed t)) (sym (begun.kind_is c.args.site.place.port)) has);
+      enabled = c.requires.enabled;
+      first = subst (λ (w : Word). InWord w.width w.signed (to_z w128 (of_z w128 c.initial-begun.result.first))) (sym begun.word_is) (rw e (range-word begun.kind c.initial-begun.result.first begun.range));
+    }
 
 pub returns : goal.returns
 returns c =

@@ -4,7 +4,7 @@ use Rattle.std.proofs.lemmas.Option.{slice_get_within}
 use Rattle.fx_type.specs.FxType.{IsType}
 use Rattle.dg_model.specs.Attributes.{attributes_of}
 use Rattle.hw_lower.specs.Lowered.{IsLowered}
-use Rattle.hw_build.specs.declared.entries.Entry.{Entry}
+use Rattle.hw_build.specs.declared.entry.Entry.{Entry}
 use Rattle.hw_build.specs.inner.Designed.{timing_for}
 use Rattle.hw_build.specs.inner.Lowering.{conversion_of}
 use Rattle.hw_build.proofs.EnteringShared.{one_arg, shared_entry}

@@ -5,7 +5,7 @@ use Rattle.fx_type.specs.FxType.{IsType}
 use Rattle.dg_model.specs.declared.kind.Kind.{Kind}
 use Rattle.dg_model.specs.Attributes.{attributes_of}
 use Rattle.dg_tables.specs.Fit.{KeepsType}
-use Rattle.hw_build.specs.declared.entries.Entry.{Entry}
+use Rattle.hw_build.specs.declared.entry.Entry.{Entry}
 use Rattle.hw_build.specs.inner.Controls.{PutsControl}
 use Rattle.hw_build.specs.inner.Designed.{timing_for}
 use Rattle.hw_build.specs.inner.Entries.{operand_types}

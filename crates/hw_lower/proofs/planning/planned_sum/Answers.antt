@@ -38,10 +38,4 @@ returns c =
     ))
 
 pub summed-requires-clause-terms : goal.summed-requires-clause-terms
-summed-requires-clause-terms c = record {
-  arguments = c.requires.arguments;
-  signed = c.requires.signs;
-  some = c.requires.some;
-  few = c.requires.few;
-  valid = c.requires.types;
-}
+summed-requires-clause-terms c = record { arguments = c.requires.arguments; signed = c.requires.signs; some = c.requires.some; few = c.requires.few; valid = c.requires.types }
