@@ -9,7 +9,8 @@ CyclesLeaveNone = (arcs : List Arc) (cycle : List ℕ) (total : ℕ) (lat : List
 
 -- a block into which no arc leads that counts has the least latency 0
 abbrev pub UnaskedAreZero : Type 0
-UnaskedAreZero = (arcs : List Arc) (lat : List ℕ) (block : ℕ) → IsLeast arcs lat → ((number : ℕ) (arc : Arc) → slice_get arcs number ≡ Some arc → arc.counts ≡ true → arc.to ≡ block → ⊥) → latency_at lat block ≡ 0
+UnaskedAreZero =
+    (arcs : List Arc) (lat : List ℕ) (block : ℕ) → IsLeast arcs lat → ((number : ℕ) (arc : Arc) → slice_get arcs number ≡ Some arc → arc.counts ≡ true → arc.to ≡ block → ⊥) → latency_at lat block ≡ 0
 
 -- the gain of each arc that counts is greater than its slack by this much at most
 pub record AskAtMost (arcs : List Arc) (bound : ℕ) : Type 0 where

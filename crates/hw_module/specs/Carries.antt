@@ -42,7 +42,8 @@ OutputShows m diagram plan timing samples window inputs table rows e =
 pub record Carries (m : Module) (diagram : Diagram) (plan : Resolved) (timing : Timing) : Type 0 where
   pub names : List (List ℕ)
   pub are_names : AreNames diagram names
-  pub header : HasHeader m plan.cycles (map (λ e. input_port (input_data e)) (input_elements names diagram)) (map (λ e. output_port (output_data diagram plan timing e)) (output_elements names diagram))
+  pub header : HasHeader m plan.cycles (map (λ e. input_port (input_data e)) (input_elements names diagram))
+      (map (λ e. output_port (output_data diagram plan timing e)) (output_elements names diagram))
   pub sound : BreaksNone m
   pub enabled : (count : ℕ) (start : Row) (inputs rows : Rows) → Runs m count start inputs rows → (k : ℕ) → k < count → rows k (codes "ce_out") ≡ rows k (codes "clk_enable")
   pub thinned : (window : Window) (start : Row) (inputs rows : Rows) → IsResetLast window inputs → Runs m window.rows start inputs rows → AreThinned m window inputs rows

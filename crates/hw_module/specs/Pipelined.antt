@@ -29,7 +29,8 @@ pub record IsPipeline (m : Module) (block element stages : ℕ) : Type 0 where
 
 -- each element of each block with registers behind it has them, and in every run register k shows the entry of hit t from clock (t + lat + k p) F on for a period
 pub record Pipelined (m : Module) (diagram : Diagram) (plan : Resolved) (timing : Timing) : Type 0 where
-  pub there : (block element period : ℕ) (b : Block) → IsShown diagram (attributes_of diagram) block b 1 element → (attributes_of diagram).period_at block ≡ Some period → 1 ≤ stages_at plan block → IsPipeline m block element (stages_at plan block)
+  pub there : (block element period : ℕ) (b : Block) → IsShown diagram (attributes_of diagram) block b 1 element
+      → (attributes_of diagram).period_at block ≡ Some period → 1 ≤ stages_at plan block → IsPipeline m block element (stages_at plan block)
   pub shows : (samples : ℕ) (window : Window) (stimulus : Stimulus) (table : Table) (rows : Rows) (run : IsDrivenRun m diagram samples window stimulus table rows)
       → (block element k period : ℕ) (b : Block) → IsShown diagram (attributes_of diagram) block b 1 element → (attributes_of diagram).period_at block ≡ Some period → 1 ≤ k → k ≤ stages_at plan block
       → AtHits period samples (λ t. Shows m window run.inputs rows (stage_name block element k) (width_of ((attributes_of diagram).type_at block 1)) (table block 1 element t)

@@ -39,7 +39,8 @@ pub record IsServed (m : Module) (diagram : Diagram) (table : Table) (row : Row)
 -- each shared operation is served at each hit in its clock, in every run, and no multiplication serves two in one clock
 pub record Serves (m : Module) (diagram : Diagram) (plan : Resolved) (timing : Timing) : Type 0 where
   pub served : (samples : ℕ) (window : Window) (stimulus : Stimulus) (table : Table) (rows : Rows) (run : IsDrivenRun m diagram samples window stimulus table rows)
-      → (number : ℕ) (o : Operation) (b : Block) (t place : ℕ) → IsOperation diagram (attributes_of diagram) plan number o → slice_get diagram.blocks o.block ≡ Some b → t < samples → Hits ((attributes_of diagram).period_at o.block) t
+      → (number : ℕ) (o : Operation) (b : Block) (t place : ℕ) → IsOperation diagram (attributes_of diagram) plan number o
+      → slice_get diagram.blocks o.block ≡ Some b → t < samples → Hits ((attributes_of diagram).period_at o.block) t
       → IsClock m window run.inputs (clock_of diagram plan timing number o t) place
       → IsServed m diagram table (rows (row_at window place)) (unit_of diagram (attributes_of diagram) plan timing number o) o b t
   pub apart : (number other : ℕ) (o q : Operation) (t s : ℕ) → IsOperation diagram (attributes_of diagram) plan number o → IsOperation diagram (attributes_of diagram) plan other q
@@ -55,5 +56,6 @@ MultipliesAsOwed m diagram plan timing = length (multiplications m) ≡ owed dia
 -- assigned a product
 abbrev pub NamesMultiplications : Module → Diagram → Resolved → Type 0
 NamesMultiplications m diagram plan =
-    (block element : ℕ) → block < length diagram.blocks → multiplies diagram block ≡ true → is_shared diagram (attributes_of diagram) plan block ≡ false → element < (attributes_of diagram).width_at block 1
+    (block element : ℕ) → block < length diagram.blocks → multiplies diagram block ≡ true
+    → is_shared diagram (attributes_of diagram) plan block ≡ false → element < (attributes_of diagram).width_at block 1
     → IsWire m (multiplication_name block element) × IsMultiplied m (multiplication_name block element)

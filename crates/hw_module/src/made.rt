@@ -1,12 +1,12 @@
 //! The module of a built netlist.
 ghost use Rattle.std.specs.Prelude.{IfOk};
-ghost use Rattle.hw_build.specs.Built.{IsBuiltBy};
 ghost use Rattle.dg_model.specs.PlanOf.{IsPlanOf};
+ghost use Rattle.hw_build.specs.Built.{IsBuiltBy};
 ghost use Rattle.hw_module.specs.Design.{IsModuleOf};
+ghost use Rattle.hw_sched.specs.Answer.{AreSlots, timing_of};
 ghost use Rattle.vl_ast.specs.Grammar.{Spells};
 ghost use Rattle.vl_ast.specs.Spelling.{spelling};
 ghost use Rattle.vl_ast.specs.Stalls.{KeepsBits};
-ghost use Rattle.hw_sched.specs.Answer.{AreSlots, timing_of};
 
 use crate::laws::built_modules_owe_nothing;
 use dg_model::{Checked, Resolved};

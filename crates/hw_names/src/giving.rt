@@ -131,8 +131,7 @@ pub fn port_names(alloc: Global, checked: &Checked) -> Result<Texts, OutOfMemory
     ensures size { IfOk result (λ names.
         length names ≡ length (wanted_names checked.now.diagram)) }
 {
-    let mut names = Names::new(alloc)?;
-    names_beside(alloc, &mut names, checked)
+    names_beside(alloc, &mut Names::new(alloc)?, checked)
 }
 
 /// The names of the same ports in a module with valid and ready.
@@ -144,6 +143,5 @@ pub fn stream_names(alloc: Global, checked: &Checked) -> Result<Texts, OutOfMemo
     ensures size { IfOk result (λ names.
         length names ≡ length (wanted_names checked.now.diagram)) }
 {
-    let mut names = Names::of_stream(alloc)?;
-    names_beside(alloc, &mut names, checked)
+    names_beside(alloc, &mut Names::of_stream(alloc)?, checked)
 }

@@ -1,7 +1,8 @@
--- Numbers stay in their nets' words. Crates above may cite this file.
-use Rattle.std.proofs.Common.{◌≡◌, ◌≢◌, ℕ, zero, suc, ◌+◌, ◌-◌, ◌*◌, ◌%◌, ◌<◌, ◌⊎◌, inl, inr, Bool, true, false, List, length, Some, slice_get, slice_index_or, All, ℤ, pos, negsuc, ◌<ℤ◌, ◌≤ℤ◌, arith, refl, ap, ◌^◌}
+-- Numbers stay in their nets' words, and their bits below a place and above. Crates above may cite this file.
+use Rattle.std.proofs.Common.{◌≡◌, ◌≢◌, ℕ, zero, suc, ◌+◌, ◌-◌, ◌*◌, ◌/◌, ◌%◌, ◌<◌, ◌⊎◌, inl, inr, Bool, true, false, List, length, Some, slice_get, slice_index_or, All, ℤ, pos, negsuc, ◌<ℤ◌, ◌≤ℤ◌, arith, refl, ap, sym, ◌^◌, ◌∙◌, pow_pos}
 use Rattle.std.proofs.lemmas.Int.{ints}
 use Rattle.std.proofs.lemmas.Bool.{cases_lt, cases_eq}
+use Rattle.std.proofs.lemmas.Nat.{pow-add, mod_below, mod-pow-add}
 use Rattle.fx_num.specs.Word.{InWord, word_lowest}
 use Rattle.hw_net.specs.declared.netlist.Net.{Net}
 use Rattle.hw_net.specs.declared.netlist.NetKind.{NetKind}
@@ -12,8 +13,8 @@ use Rattle.hw_net.specs.NetRows.{span_of}
 use Rattle.hw_net.specs.Netlist.{IsNetlist, IsKind, HasWord, reads_now}
 use Rattle.hw_net.specs.Step.{Row, NetStarts, NetSteps, NetGoes, Goes}
 use Rattle.fx_io.proofs.Places.{held as at-place}
-use Rattle.hw_net.specs.Operation.{shifted_down}
-use Rattle.std.proofs.Math.Nat.{div-eq_of_lt}
+use Rattle.hw_net.specs.Operation.{low_bits, shifted_down}
+use Rattle.std.proofs.Math.Nat.{add-mul, div-eq_of_lt}
 use Rattle.fx_num.proofs.Words.{sign_of, size_of}
 
 pub takes-or-not : (span : Span) (slot c : ℕ) → Takes span slot c ⊎ (¬ Takes span slot c)
@@ -141,3 +142,15 @@ module _ (netlist : Circuit) (well : IsNetlist netlist) where
 pub only-sign : (z : ℤ) (k : ℕ) → size_of z < 2 ^ k → shifted_down z k ≡ sign_of z
 only-sign (pos n) k h = ap pos (div-eq_of_lt h)
 only-sign (negsuc n) k h = ap negsuc (div-eq_of_lt h)
+
+-- the bits from a place up, and those below it
+pub split-low : (k v : ℕ) (z : ℤ) → low_bits (k + v) z ≡ low_bits k (shifted_down z v) * 2 ^ v + low_bits v z
+split-low k v (pos n) = mod-pow-add n k v
+split-low k v (negsuc n) =
+    let high : ℕ = n / 2 ^ v % 2 ^ k in
+    let e : 2 ^ (k + v) ≡ 2 ^ k * 2 ^ v = pow-add 2 k v in
+    let a : (2 ^ k - 1 - high) * 2 ^ v + high * 2 ^ v ≡ (2 ^ k - 1) * 2 ^ v = sym (add-mul (2 ^ k - 1 - high) high (2 ^ v)) ∙ ap (λ (i : ℕ). i * 2 ^ v) (let below : high < 2 ^ k = mod_below (n / 2 ^ v) (2 ^ k) (pow_pos k) in omega arith) in
+    let b : (2 ^ k - 1) * 2 ^ v + 1 * 2 ^ v ≡ 2 ^ k * 2 ^ v = sym (add-mul (2 ^ k - 1) 1 (2 ^ v)) ∙ ap (λ (i : ℕ). i * 2 ^ v) (let some : 0 < 2 ^ k = pow_pos k in omega arith) in
+    let c : n % 2 ^ (k + v) ≡ high * 2 ^ v + n % 2 ^ v = mod-pow-add n k v in
+    let d : n % 2 ^ v < 2 ^ v = mod_below n (2 ^ v) (pow_pos v) in
+    omega (arith, a, b, c, d, e)

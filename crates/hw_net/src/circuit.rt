@@ -28,19 +28,13 @@ pub struct Netlist {
 
 impl Model for Netlist {
     ghost use Rattle.std.specs.Prelude.{◌≡◌};
-    ghost use Rattle.hw_net.specs.Circuit.{Circuit};
+    ghost use Rattle.hw_net.specs.Circuit.{Circuit, circuit_of};
     ghost use Rattle.hw_net.specs.inner.Index.{IsIndex};
 
     ghost Value = { Circuit };
 
     ghost view = { λ netlist.
-        record {
-          cycles = netlist.cycles;
-          nets = netlist.nets;
-          inputs = netlist.inputs;
-          outputs = netlist.outputs;
-          labels = netlist.labels;
-        } };
+        circuit_of netlist.cycles netlist.nets netlist.inputs netlist.outputs netlist.labels };
 
     ghost invariant = { λ netlist. IsIndex netlist.nets netlist.counters };
 }
@@ -75,6 +69,13 @@ impl Netlist {
         self.nets.as_slice()
     }
 
+    /// The number of the first Counter of a frame, by one look-up.
+    pub fn counter_of(&self, frame: Frame) -> Option<u32>
+        ensures { result ≡ counter_of self.now.nets frame }
+    {
+        self.counters.find(frame)
+    }
+
     /// The input ports in order.
     pub fn inputs(&self) -> &[NetPort]
         ensures { result.now ≡ self.now.inputs }
@@ -94,13 +95,6 @@ impl Netlist {
         ensures { result.now ≡ self.now.labels }
     {
         self.labels.as_slice()
-    }
-
-    /// The number of the first Counter of a frame, by one look-up.
-    pub fn counter_of(&self, frame: Frame) -> Option<u32>
-        ensures { result ≡ counter_of self.now.nets frame }
-    {
-        self.counters.find(frame)
     }
 }
 

@@ -221,18 +221,14 @@ fn are_kinds(nets: &[Net], cycles: u32, inputs: usize) -> bool
 fn shows_input(net: &Net, place: usize) -> bool
     ensures { IsTrue result ↔ (net.now.kind ≡ Comb (Input place) []) }
 {
-    match &net.kind {
-        NetKind::Comb {
-            op: NetOp::Input(input),
-            args,
-        } => *input as usize == place && args.as_slice().is_empty(),
-        NetKind::Comb { .. }
-        | NetKind::Reg { .. }
-        | NetKind::EnReg { .. }
-        | NetKind::Bridge { .. }
-        | NetKind::Unit { .. }
-        | NetKind::Counter { .. } => false,
-    }
+    let NetKind::Comb {
+        op: NetOp::Input(input),
+        args,
+    } = &net.kind
+    else {
+        return false;
+    };
+    *input as usize == place && args.as_slice().is_empty()
 }
 
 /// Whether the net of a number shows the input of a place.

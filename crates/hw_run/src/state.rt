@@ -39,7 +39,6 @@ fn sweep(net: &Netlist, order: &[u32], clock: u64, now: &[i128], next: &mut [i12
     requires netlist { IsNetlist net.now }
     requires can { All (λ one. CanStep (length net.now.inputs) one.kind) net.now.nets }
     requires order { IsOrder net.now.nets order.now }
-    requires clock { clock < 2 ^ 63 }
     requires now { length now.now ≡ length net.now.nets }
     requires next { length next.old ≡ length net.now.nets }
     requires inputs { length inputs.now ≡ length net.now.inputs }

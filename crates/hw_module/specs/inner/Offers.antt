@@ -45,7 +45,8 @@ abbrev pub OutputsShow : Circuit → List (List ℕ) → Diagram → Resolved �
 OutputsShow netlist names diagram plan timing =
     (stimulus : Stimulus) (n clocks : ℕ) (inputs : Inputs) (rows : Rows) (table : Table) → IsRunOf diagram netlist stimulus n clocks inputs rows table
     → (place : ℕ) (port : NetPort) (e : NamedElement) → slice_get netlist.outputs place ≡ Some port → slice_get (output_elements names diagram) place ≡ Some e
-    → Shows clocks n plan.cycles (Some (step_of e.root)) (latency_at timing.lat e.root.block) (ready_of diagram (attributes_of diagram) plan timing e.root.block) (table e.root.block 1 e.root.element) (rows port.net)
+    → Shows clocks n plan.cycles (Some (step_of e.root)) (latency_at timing.lat e.root.block)
+    (ready_of diagram (attributes_of diagram) plan timing e.root.block) (table e.root.block 1 e.root.element) (rows port.net)
 
 -- the multiplier of an operation has its operands in the clock of each hit
 pub record HasUnit (netlist : Circuit) (diagram : Diagram) (plan : Resolved) (timing : Timing) (number : ℕ) (o : Operation) (b : Block) : Type 0 where
@@ -88,7 +89,9 @@ pub record Offers (netlist : Circuit) (names : List (List ℕ)) (diagram : Diagr
   pub emittable : IsEmittable netlist
   pub ports : HasPortsOf netlist names diagram plan timing
   pub outputs : OutputsShow netlist names diagram plan timing
-  pub units : (number : ℕ) (o : Operation) (b : Block) → IsOperation diagram (attributes_of diagram) plan number o → slice_get diagram.blocks o.block ≡ Some b → HasUnit netlist diagram plan timing number o b
+  pub units : (number : ℕ) (o : Operation) (b : Block) → IsOperation diagram (attributes_of diagram) plan number o
+      → slice_get diagram.blocks o.block ≡ Some b → HasUnit netlist diagram plan timing number o b
   pub products : length (products_of netlist) ≡ owed diagram (attributes_of diagram) plan timing
-  pub pipelines : (block element period : ℕ) (b : Block) → IsShown diagram (attributes_of diagram) block b 1 element → (attributes_of diagram).period_at block ≡ Some period → 1 ≤ stages_at plan block → HasPipeline netlist diagram plan timing block element period
+  pub pipelines : (block element period : ℕ) (b : Block) → IsShown diagram (attributes_of diagram) block b 1 element
+      → (attributes_of diagram).period_at block ≡ Some period → 1 ≤ stages_at plan block → HasPipeline netlist diagram plan timing block element period
   pub registers : length (flat_map (λ k. register_name netlist k (net_at netlist.nets k).kind) (places (length netlist.nets))) ≤ chained diagram (attributes_of diagram) plan timing

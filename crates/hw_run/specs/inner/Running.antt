@@ -1,5 +1,5 @@
 -- What the code of a step asks of a net.
-use Rattle.std.specs.Prelude.{ℕ, ◌<◌, ◌≤◌, ⊤}
+use Rattle.std.specs.Prelude.{ℕ, zero, suc, ◌<◌, ◌≤◌, ⊤}
 use Rattle.hw_net.specs.declared.netlist.NetOp.{NetOp}
 use Rattle.hw_net.specs.declared.netlist.NetOp.TheVariants.{Input, Const, Resize, ShiftUp}
 use Rattle.hw_net.specs.declared.netlist.NetOp.TheVariants.{ShiftDown, Add, Subtract, Negate}
@@ -28,6 +28,11 @@ CanGive inputs Less = ⊤
 CanGive inputs Equal = ⊤
 CanGive inputs Choose = ⊤
 CanGive inputs (Slice high low) = (low ≤ high) × (high < 128)
+
+-- one fact holds at clock 0, and at each other what follows from the clock before
+abbrev pub Shows : ℕ → Type 0 → (ℕ → Type 0) → Type 0
+Shows zero Starts Steps = Starts
+Shows (suc before) Starts Steps = Steps before
 
 -- an operation has its parts, and a frame has clocks
 abbrev pub CanStep : ℕ → NetKind → Type 0
