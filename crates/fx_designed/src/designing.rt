@@ -2,8 +2,7 @@ ghost use Rattle.std.specs.Prelude.{IfErr, IfOk, List, ℕ};
 ghost use Rattle.dg_model.specs.PlanOf.{IsPlanOf};
 ghost use Rattle.dg_model.specs.PlanRange.{IsPlanInRange};
 ghost use Rattle.fx_designed.specs.Refused.{IsDesigned, IsRefusedDesign, IsRefusedModel};
-ghost use Rattle.fx_designed.specs.inner.Telling.{IsPlannedSo, IsRefusedBy, IsRefusedPlan, IsRefusedText};
-ghost use Rattle.fx_tables.specs.Plan.{IsPlan};
+ghost use Rattle.fx_designed.specs.inner.Telling.{IsPlanSaid, IsPlannedSo, IsRefusedBy, IsRefusedPlan, IsRefusedText};
 ghost use Rattle.hw_rules.specs.Times.{AreTimes};
 
 use crate::refusal::{ModelRefusal, checked_of};
@@ -38,8 +37,7 @@ pub enum DesignFault {
 
 /// The plan of a text.
 fn plan_of(alloc: Global, text: &[u8]) -> Result<Plan, DesignFault>
-    ensures says { IfOk result (IsPlan text.now) }
-    ensures in_range { IfOk result IsPlanInRange }
+    ensures said { IfOk result (IsPlanSaid text.now) }
     ensures refused { IfErr result (IsRefusedText text.now) }
 {
     match read_plan(alloc, text) {

@@ -6,12 +6,11 @@ use Rattle.mdl_text.specs.declared.tree.Tree.{Tree}
 use Rattle.mdl_text.specs.Stands.{Stands}
 use Rattle.fx_tables.specs.declared.table.TableCause.{TableCause}
 use Rattle.vl_ast.specs.declared.modules.Module.{Module}
-use Rattle.vl_ast.specs.Conditions.{BreaksNone, Fault, IsFirstFault}
 use Rattle.fx_top.specs.Command.{Command, Generate, Replay, Simulate, Explore, Check, Stream, asked_of, model_of, verilog_of, first_of}
 use Rattle.fx_model.specs.Model.{IsModelOf, IsBrokenModel, IsAccepted}
 use Rattle.fx_top.specs.Outcome.{Yields, IsBadFor}
 use Rattle.fx_top.specs.Output.{IsBadTable}
-use Rattle.fx_top.specs.Replayed.{IsSoundText}
+use Rattle.fx_replayed.specs.Replayed.{IsSoundText}
 
 -- a choice is its first part where the test holds, and else its second
 pub if-then : {A : Type 0} {test : Bool} {one goal : A} (other : A) → test ≡ true → goal ≡ one → goal ≡ (if test then one else other)
@@ -119,16 +118,6 @@ fit-sound command verilog bytes is fit = serves-sound IsAccepted command bytes v
 -- a model that keeps the rules is fit
 pub accepted-fit : (command : Command) (model bytes : List ℕ) → model_of command ≡ Some model → IsAccepted bytes → IsFit command bytes
 accepted-fit command model bytes is accepted = model-serves IsAccepted command bytes model is accepted
-
--- no module breaks a condition and breaks none
-pub sound-first : (m : Module) (condition : Fault) → BreaksNone m → IsFirstFault m condition → ⊥
-sound-first m (Fault.Undriven name) sound first = let e = sound.acyclic.driven in absurd (cc (e, first))
-sound-first m (Fault.Doubly name) sound first = let e = sound.acyclic.once in let f = first.1 in absurd (cc (e, f))
-sound-first m (Fault.CombLoop []) sound first = first.2
-sound-first m (Fault.CombLoop (name ∷ names)) sound first = sound.acyclic.acyclic name names first.2
-sound-first m (Fault.TooWide name) sound first = let e = sound.narrow in let f = first.1 in absurd (cc (e, f))
-sound-first m (Fault.NoReset name) sound first = let e = sound.clocked in let f = first.2 in absurd (cc (e, f))
-sound-first m (Fault.NoAttribute name) sound first = let e = sound.attributed in let f = first.3 in absurd (cc (e, f))
 
 pub bad-fit : (command : Command) (bytes numbers : List ℕ) → IsBadFor command bytes numbers → IsFit command bytes
 bad-fit (Generate model plan) bytes numbers bad = bad.accepted

@@ -1,25 +1,13 @@
-pub mod Answering
 pub mod Commands
-pub mod Elements
 pub mod Found
-pub mod Lines
-pub mod Placing
-mod Periods
 pub mod Planning
 pub mod Refusals
-pub mod Replayed
-pub mod Responses
 pub mod Running
 pub mod SampleOutputs
 pub mod Samples
 pub mod Sayings
 pub mod Simulations
-pub mod Steadied
-pub mod Streams
 pub mod Tasks
-pub mod Titled
 pub mod Told
 pub mod Unfetched
-pub mod Unreplayed
 pub mod Unsteady
-pub mod Verilogs

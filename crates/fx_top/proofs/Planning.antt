@@ -12,7 +12,7 @@ use Rattle.fx_top.specs.Call.{Files, file_limit}
 use Rattle.fx_top.specs.Cause.{BreaksSomeRule, HasBadLine, IsFetched}
 use Rattle.fx_top.specs.Command.{Command, PlanWord, EmptyPlan, Named, Stream as StreamOf, first_of, plan_files, plan_word}
 use Rattle.fx_top.specs.Output.{IsPlanText}
-use Rattle.fx_top.specs.Streamed.{TellsStreamRule}
+use Rattle.fx_generated.specs.Streamed.{TellsStreamRule}
 use Rattle.fx_top.proofs.Told.{ReadsPlan, reads-plan}
 
 fetched-all : (held : List ℕ → Told) (model bytes : List ℕ) → Fetched (held model) file_limit bytes → All (λ file. (bytes : List ℕ) × Fetched (held file) file_limit bytes) (model ∷ [])

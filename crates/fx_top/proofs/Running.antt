@@ -1,5 +1,5 @@
 -- What a command's cause says of its status.
-use Rattle.std.proofs.Common.{◌≡◌, ⊎_elim, inl, inr, ℕ, List, [], ◌∷◌, Option, None, Some, refl, ap, sym, ◌∙◌, subst, arith}
+use Rattle.std.proofs.Common.{◌≡◌, ⊎_elim, inl, inr, ℕ, List, [], ◌∷◌, Option, Some, refl, ap, sym, ◌∙◌, subst, arith}
 use Rattle.mdl_text.specs.declared.tree.Tree.{Tree}
 use Rattle.mdl_text.specs.Stands.{Stands}
 use Rattle.fx_tables.specs.declared.table.TableCause.{TableCause}
@@ -13,18 +13,23 @@ use Rattle.fx_top.specs.Answer.{status_of}
 use Rattle.fx_top.specs.Call.{Files, Stream, Trouble, Absent, Overlong, first_trouble}
 use Rattle.fx_top.specs.Cause.{AreFetched, HasNoTree, HasBrokenRule, HasBrokenPlan, HasBrokenPorts, HasBadLine, HasNoVerilog, BreaksCondition}
 use Rattle.fx_top.specs.Caused.{HasCause, HasWritten, IsCarriedOut}
-use Rattle.fx_top.specs.Command.{Asked, Command, PlanWord, Generate, Replay, Simulate, Explore, Check, Stream as StreamOf, OfFiles, Sample, asked_of, model_of, verilog_of, plan_of, table_of, first_of, files_of}
+use Rattle.fx_top.specs.Command.{Asked, Command, PlanWord, Generate, Replay, Simulate, Explore, Check, Stream as StreamOf, OfFiles, asked_of, model_of, verilog_of, plan_of, table_of, first_of, files_of}
 use Rattle.fx_designed.specs.Design.{IsBadPlan, TellsPlanRule}
 use Rattle.fx_model.specs.Model.{IsNoText, IsModelOf, IsBrokenModel, IsWithoutDiagram}
-use Rattle.fx_top.specs.Generated.{IsWithoutDesign}
+use Rattle.fx_generated.specs.Generated.{IsWithoutDesign}
 use Rattle.fx_top.specs.Outcome.{Yields, Tells, TellsPlan, IfCommand, IsBadFor, IsDue, CanBeDone, IsComplete}
 use Rattle.fx_top.specs.Output.{IsOutput}
-use Rattle.fx_top.specs.Replayed.{HasFault, IsNoVerilog, IsSoundText, fault_for}
-use Rattle.fx_top.specs.Simulated.{fault_in}
-use Rattle.fx_top.specs.Streamed.{IsWithoutStream}
-use Rattle.fx_top.proofs.Commands.{IsFit, IsGood, accepted-fit, bad-fit, first-model, first-verilog, fit-kept, fit-sound, fit-tree, good-diagram, good-sound, good-tree, model-alone, model-good, own-first, sound-first, table-good}
+use Rattle.fx_replayed.specs.Replayed.{HasFault, IsNoVerilog, IsSoundText, fault_for}
+use Rattle.fx_simulated.specs.Simulating.{fault_in}
+use Rattle.fx_generated.specs.Streamed.{IsWithoutStream}
+use Rattle.fx_replayed.proofs.Unreplayed.{sound-first}
+use Rattle.fx_top.proofs.Commands.{IsFit, IsGood, accepted-fit, bad-fit, first-model, first-verilog, fit-kept, fit-sound, fit-tree, good-diagram, good-sound, good-tree, model-alone, model-good, own-first, table-good}
 use Rattle.fx_top.proofs.Told.{HasDesign, check-design, design-good, design-planned, design-told, fetched-told, lines-kept, no-trouble, none-broken, reads-plan, rules-kept, stream-design, told-is, verilog-design}
 use Rattle.fx_top.proofs.Unsteady.{designable, ports-good, ports-kept, ports-model, ports-planned, unstreamed}
+
+-- what is carried out of the words is what they ask for
+pub carried : (files : Files) (out : Stream) (words : List (List ℕ)) (answer : Answer) (asked : Asked) → IsCarriedOut files out (asked_of words) answer → asked_of words ≡ Some asked → IsCarriedOut files out (Some asked) answer
+carried files out words answer asked why shape = subst (λ (named : Option Asked). IsCarriedOut files out named answer) shape why
 
 module _ (files : Files) (out : Stream) (unique : (bytes : List ℕ) (one other : Tree) → Stands bytes one → Stands bytes other → one ≡ other)
     (one_module : (bytes : List ℕ) (one other : Module) → Spells bytes one → Spells bytes other → one ≡ other) where
@@ -36,9 +41,9 @@ module _ (files : Files) (out : Stream) (unique : (bytes : List ℕ) (one other 
   written-good : (command : Command) (text bytes : List ℕ) → IsOutput command files.held text → Tells files (first_of command) bytes → IsGood command bytes
   written-good (Generate model plan) text bytes output tells = design-good files model plan (verilog-design output) bytes tells
   written-good (Replay verilog stimulus) text bytes output tells =
-      (output.replay.made, subst (λ (b : List ℕ). IsSoundText b output.replay.made) (sym (told-is files verilog bytes output.verilog_bytes output.verilog_fetched tells)) output.replay.spelled)
+      (output.made.made, subst (λ (b : List ℕ). IsSoundText b output.made.made) (sym (told-is files verilog bytes output.first_bytes output.fetched tells)) output.made.spelled)
   written-good (Simulate model stimulus) text bytes output tells =
-      (output.simulation.diagram, subst (λ (b : List ℕ). IsModelOf b output.simulation.diagram) (sym (told-is files model bytes output.model_bytes output.model_fetched tells)) output.simulation.accepted)
+      (output.made.diagram, subst (λ (b : List ℕ). IsModelOf b output.made.diagram) (sym (told-is files model bytes output.first_bytes output.fetched tells)) output.made.accepted)
   written-good (Explore model range) text bytes output tells =
       (output.1.1.diagram, subst (λ (b : List ℕ). IsModelOf b output.1.1.diagram) (sym (told-is files model bytes output.0 output.1.0 tells)) output.1.1.accepted)
   written-good (Check model plan) text bytes output tells = design-good files model plan (check-design output) bytes tells
@@ -60,7 +65,7 @@ module _ (files : Files) (out : Stream) (unique : (bytes : List ℕ) (one other 
   -- they are no text of MDL
   told-none : (command : Command) (bytes file : List ℕ) (line : ℕ) → Tells files (first_of command) bytes → HasNoTree files command file line → IsNoText bytes
   told-none command bytes file line tells why =
-      subst IsNoText (sym (fetched-told files (first_of command) file bytes why.bytes (sym (first-model command file why.is_model)) why.fetched tells)) why.not_mdl.no_tree
+      subst IsNoText (sym (fetched-told files (first_of command) file bytes why.bytes (sym (first-model command file why.is)) why.fetched tells)) why.so.no_tree
 
   told-rule : (command : Command) (bytes line : List ℕ) → Tells files (first_of command) bytes → (why : HasBrokenRule files command line) → IsBrokenModel bytes why.told.fault why.told.paths
   told-rule command bytes line tells why =
@@ -78,30 +83,30 @@ module _ (files : Files) (out : Stream) (unique : (bytes : List ℕ) (one other 
 
   told-no_verilog : (command : Command) (bytes file : List ℕ) (line : ℕ) → Tells files (first_of command) bytes → HasNoVerilog files command file line → IsNoVerilog bytes
   told-no_verilog command bytes file line tells why =
-      subst IsNoVerilog (sym (fetched-told files (first_of command) file bytes why.bytes (sym (first-verilog command file why.is_verilog)) why.fetched tells)) why.not_verilog.refused
+      subst IsNoVerilog (sym (fetched-told files (first_of command) file bytes why.bytes (sym (first-verilog command file why.is)) why.fetched tells)) why.so.refused
 
-  told-fault : (command : Command) (bytes file : List ℕ) (fault : VlFault) → Tells files (first_of command) bytes → (why : BreaksCondition files command file fault) → HasFault bytes why.broken.condition
+  told-fault : (command : Command) (bytes file : List ℕ) (fault : VlFault) → Tells files (first_of command) bytes → (why : BreaksCondition files command file fault) → HasFault bytes why.so.condition
   told-fault command bytes file fault tells why =
-      subst (λ (b : List ℕ). HasFault b why.broken.condition) (sym (fetched-told files (first_of command) file bytes why.bytes (sym (first-verilog command file why.is_verilog)) why.fetched tells)) why.broken.has
+      subst (λ (b : List ℕ). HasFault b why.so.condition) (sym (fetched-told files (first_of command) file bytes why.bytes (sym (first-verilog command file why.is)) why.fetched tells)) why.so.has
 
   -- ---- such bytes exclude each fault
 
   module _ (command : Command) (bytes : List ℕ) (tells : Tells files (first_of command) bytes) (fit : IsFit command bytes) where
     not-none : (file : List ℕ) (line : ℕ) → HasNoTree files command file line → ⊥
-    not-none file line why = let tree = fit-tree command file bytes why.is_model fit in told-none command bytes file line tells why tree.0 tree.1
+    not-none file line why = let tree = fit-tree command file bytes why.is fit in told-none command bytes file line tells why tree.0 tree.1
 
     not-rule : (line : List ℕ) → HasBrokenRule files command line → ⊥
     not-rule line why = fit-kept command why.file bytes why.told.fault why.told.paths why.is_model fit (told-rule command bytes line tells why)
 
     not-no_verilog : (file : List ℕ) (line : ℕ) → HasNoVerilog files command file line → ⊥
     not-no_verilog file line why =
-        let made = fit-sound command file bytes why.is_verilog fit in
+        let made = fit-sound command file bytes why.is fit in
         told-no_verilog command bytes file line tells why made.0 made.1.spells made.1.few
 
     not-fault : (file : List ℕ) (fault : VlFault) → BreaksCondition files command file fault → ⊥
     not-fault file fault why =
-        let made = fit-sound command file bytes why.is_verilog fit in
-        not-sound bytes made.0 why.broken.condition made.1 (told-fault command bytes file fault tells why)
+        let made = fit-sound command file bytes why.is fit in
+        not-sound bytes made.0 why.so.condition made.1 (told-fault command bytes file fault tells why)
 
   -- ---- a stimulus
 
@@ -110,20 +115,20 @@ module _ (files : Files) (out : Stream) (unique : (bytes : List ℕ) (one other 
   written-bad (Generate model plan) text bytes stimulus numbers output is tells told bad = design-planned files model plan (verilog-design output) bytes tells stimulus numbers is told bad
   written-bad (Replay verilog rows) text bytes stimulus numbers output is tells told bad =
       let same : stimulus ≡ rows = sym (cc is) in
-      let first = told-is files verilog bytes output.verilog_bytes output.verilog_fetched tells in
-      let second = fetched-told files stimulus rows numbers output.stimulus_bytes same output.stimulus_fetched told in
-      let sound = subst (λ (b : List ℕ). IsSoundText b output.replay.made) (sym first) output.replay.spelled in
+      let first = told-is files verilog bytes output.first_bytes output.fetched tells in
+      let second = fetched-told files stimulus rows numbers output.second_bytes same output.says told in
+      let sound = subst (λ (b : List ℕ). IsSoundText b output.made.made) (sym first) output.made.spelled in
       let fault = bad.1.1 in
-      let one = one_module bytes output.replay.made fault.made sound.spells fault.spelled.spells in
-      let e = ap (λ (m : Module). fault_for m numbers) (sym one) ∙ ap (fault_for output.replay.made) second ∙ output.replay.rows_are.no_fault in
+      let one = one_module bytes output.made.made fault.made sound.spells fault.spelled.spells in
+      let e = ap (λ (m : Module). fault_for m numbers) (sym one) ∙ ap (fault_for output.made.made) second ∙ output.made.rows_are.no_fault in
       let f = fault.bad in
       absurd (cc (e, f))
   written-bad (Simulate model rows) text bytes stimulus numbers output is tells told bad =
       let same : stimulus ≡ rows = sym (cc is) in
-      let first = told-is files model bytes output.model_bytes output.model_fetched tells in
-      let second = fetched-told files stimulus rows numbers output.stimulus_bytes same output.stimulus_fetched told in
-      let fault = bad.bad output.simulation.diagram (subst (λ (b : List ℕ). IsModelOf b output.simulation.diagram) (sym first) output.simulation.accepted) in
-      let e = ap (fault_in output.simulation.diagram) second ∙ output.simulation.rows_are.no_fault in
+      let first = told-is files model bytes output.first_bytes output.fetched tells in
+      let second = fetched-told files stimulus rows numbers output.second_bytes same output.says told in
+      let fault = bad.bad output.made.diagram (subst (λ (b : List ℕ). IsModelOf b output.made.diagram) (sym first) output.made.accepted) in
+      let e = ap (fault_in output.made.diagram) second ∙ output.made.rows_are.no_fault in
       let f = fault.1.1 in
       absurd (cc (e, f))
   written-bad (Explore model range) text bytes stimulus numbers output is tells told bad = bad
@@ -225,7 +230,7 @@ module _ (files : Files) (out : Stream) (unique : (bytes : List ℕ) (one other 
         let spoilt : IsGood command bytes → ⊥ = λ good. (let tree = good-tree command model bytes is good in none tree.0 tree.1) in
         by-answer 5 command (no-output bytes tells spoilt) (λ file line why. own-first 5) (no-bad bytes tells spoilt 5)
         (λ line why. let broken = told-rule command bytes line tells why in absurd (none broken.tree broken.stands))
-        (λ file line why. absurd (model-alone command model file is why.is_verilog)) (λ file fault why. absurd (model-alone command model file is why.is_verilog))
+        (λ file line why. absurd (model-alone command model file is why.is)) (λ file fault why. absurd (model-alone command model file is why.is))
         (λ line why. absurd (spoilt (plan_rule-good command bytes line tells why)))
         (λ line why. absurd (spoilt (ports-good files command line why bytes tells)))
 
@@ -235,7 +240,7 @@ module _ (files : Files) (out : Stream) (unique : (bytes : List ℕ) (one other 
         let spoilt : IsGood command bytes → ⊥ = λ good. (let diagram = good-diagram command model bytes is good in refused.none diagram.0 diagram.1) in
         by-answer 7 command (no-output bytes tells spoilt) (λ file line why. absurd (told-none command bytes file line tells why refused.tree refused.stands)) (no-bad bytes tells spoilt 7)
         (λ line why. own-first 7)
-        (λ file line why. absurd (model-alone command model file is why.is_verilog)) (λ file condition why. absurd (model-alone command model file is why.is_verilog))
+        (λ file line why. absurd (model-alone command model file is why.is)) (λ file condition why. absurd (model-alone command model file is why.is))
         (λ line why. own-first 7)
         (λ line why. own-first 7)
 
@@ -246,7 +251,7 @@ module _ (files : Files) (out : Stream) (unique : (bytes : List ℕ) (one other 
         by-answer 7 command (λ own output. undesigned command own bytes text plan output of tells told refused)
         (λ file line why. absurd (not-none command bytes tells fit file line why)) (λ file line cause why. absurd (plan-lines command plan bytes text of tells told refused.good file line cause why))
         (λ line why. own-first 7)
-        (λ file line why. absurd (model-alone command model file is why.is_verilog)) (λ file condition why. absurd (model-alone command model file is why.is_verilog))
+        (λ file line why. absurd (model-alone command model file is why.is)) (λ file condition why. absurd (model-alone command model file is why.is))
         (λ line why. own-first 7)
         (λ line why. own-first 7)
 
@@ -258,14 +263,14 @@ module _ (files : Files) (out : Stream) (unique : (bytes : List ℕ) (one other 
         by-answer 7 command (λ own output. unstreamed files command own bytes text model plan same output tells told refused)
         (λ file line why. absurd (not-none command bytes tells fit file line why)) (λ file line cause why. absurd (plan-lines command plan bytes text (ap plan_of same) tells told refused.good file line cause why))
         (λ line why. own-first 7)
-        (λ file line why. absurd (model-alone command model file is why.is_verilog)) (λ file condition why. absurd (model-alone command model file is why.is_verilog))
+        (λ file line why. absurd (model-alone command model file is why.is)) (λ file condition why. absurd (model-alone command model file is why.is))
         (λ line why. own-first 7)
         (λ line why. own-first 7)
 
     not_verilog-due : (verilog bytes : List ℕ) → verilog_of command ≡ Some verilog → Tells files (first_of command) bytes → IsNoVerilog bytes → (answer : Answer) → HasCause files command answer → HasWritten files out command answer → Yields 8 (3 ∷ 9 ∷ []) (status_of answer)
     not_verilog-due verilog bytes is tells none =
         let spoilt : IsGood command bytes → ⊥ = λ good. (let made = good-sound command verilog bytes is good in none made.0 made.1.spells made.1.few) in
-        by-answer 8 command (no-output bytes tells spoilt) (λ file line why. absurd (model-alone command file verilog why.is_model is)) (no-bad bytes tells spoilt 8)
+        by-answer 8 command (no-output bytes tells spoilt) (λ file line why. absurd (model-alone command file verilog why.is is)) (no-bad bytes tells spoilt 8)
         (λ line why. absurd (model-alone command why.file verilog why.is_model is))
         (λ file line why. own-first 8) (λ file fault why. own-first 8)
         (λ line why. absurd (model-alone command why.file verilog why.is_model is))
@@ -274,7 +279,7 @@ module _ (files : Files) (out : Stream) (unique : (bytes : List ℕ) (one other 
     broken-due : (verilog bytes : List ℕ) (condition : Fault) → verilog_of command ≡ Some verilog → Tells files (first_of command) bytes → HasFault bytes condition → (answer : Answer) → HasCause files command answer → HasWritten files out command answer → Yields 8 (3 ∷ 9 ∷ []) (status_of answer)
     broken-due verilog bytes condition is tells has =
         let spoilt : IsGood command bytes → ⊥ = λ good. (let made = good-sound command verilog bytes is good in not-sound bytes made.0 condition made.1 has) in
-        by-answer 8 command (no-output bytes tells spoilt) (λ file line why. absurd (model-alone command file verilog why.is_model is)) (no-bad bytes tells spoilt 8)
+        by-answer 8 command (no-output bytes tells spoilt) (λ file line why. absurd (model-alone command file verilog why.is is)) (no-bad bytes tells spoilt 8)
         (λ line why. absurd (model-alone command why.file verilog why.is_model is))
         (λ file line why. own-first 8) (λ file fault why. own-first 8)
         (λ line why. absurd (model-alone command why.file verilog why.is_model is))
@@ -362,17 +367,8 @@ module _ (files : Files) (out : Stream) (unique : (bytes : List ℕ) (one other 
   is-complete command (TooLong file length) why wrote can (inl steady) writes = let first = why.first steady.0 in let none = steady.1 in absurd (cc (first, none))
   is-complete command (TooLong file length) why wrote can (inr quiet) writes = absurd (quiet.1 why.rise)
 
-  -- what holds of the command's answer by its cause holds of the words' command
-  by-command : (P : Command → ℕ → Type 0) → ((command : Command) (answer : Answer) → HasCause files command answer → HasWritten files out command answer → P command (status_of answer))
-      → (words : List (List ℕ)) (answer : Answer) → (named : Option Asked) → asked_of words ≡ named → IsCarriedOut files out named answer → IfCommand words (λ command. P command (status_of answer))
-  by-command P by words answer None is why command shape = absurd (cc (is, shape))
-  by-command P by words answer (Some (Sample number)) is why command shape = absurd (cc (is, shape))
-  by-command P by words answer (Some (OfFiles here)) is why command shape =
-      let same : here ≡ command = cc (is, shape) in
-      subst (λ (known : Command). P known (status_of answer)) same (by here answer why.0 why.1)
-
   pub due-clause : (words : List (List ℕ)) (answer : Answer) → IsCarriedOut files out (asked_of words) answer → IfCommand words (λ command. IsDue files command (status_of answer))
-  due-clause words answer why = by-command (λ command status. IsDue files command status) is-due words answer (asked_of words) refl why
+  due-clause words answer why command shape = let own = carried files out words answer (OfFiles command) why shape in is-due command answer own.0 own.1
 
   pub complete-clause : (words : List (List ℕ)) (answer : Answer) → IsCarriedOut files out (asked_of words) answer → IfCommand words (λ command. IsComplete files out command (status_of answer))
-  complete-clause words answer why = by-command (λ command status. IsComplete files out command status) is-complete words answer (asked_of words) refl why
+  complete-clause words answer why command shape = let own = carried files out words answer (OfFiles command) why shape in is-complete command answer own.0 own.1

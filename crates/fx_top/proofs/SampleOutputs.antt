@@ -15,7 +15,7 @@ use Rattle.fx_sample.specs.ModelText.{sample_model}
 use Rattle.fx_sample.specs.Stimulus.{sample_plan, sample_stimulus}
 use Rattle.fx_designed.specs.Design.{IsDesignOf}
 use Rattle.fx_top.specs.Summarized.{IsMade, IsSampleResponse, IsSummaryOf, latency_of_output}
-use Rattle.fx_top.specs.inner.Generating.{IsWrittenOf}
+use Rattle.fx_generated.specs.Generating.{IsWrittenOf}
 use Rattle.fx_top.specs.inner.Sampling.{IsOwed}
 use Rattle.hw_module.specs.Design.{IsModuleOf}
 use Rattle.hw_rules.specs.declared.times.Times.{Times}
@@ -69,11 +69,11 @@ module _ (diagram : Diagram) where
     timing = timing_in times;
     design = design;
     own = written.made;
-    owed = written.owed;
+    owed = written.so;
     may = subst (λ (bytes : List ℕ). MayTell bytes (sample_stimulus number) told) written.spelled may;
     response = response;
     simulated = simulated;
     made = made;
-    says = is_made plan (timing_in times) written.made made written.owed owed;
+    says = is_made plan (timing_in times) written.made made written.so owed;
     text_is = is;
   }

@@ -1,5 +1,5 @@
 -- What the answer to a sample says of its status, and of the bench that it was made by.
-use Rattle.std.proofs.Common.{◌≡◌, ◌⊎◌, ⊎_elim, ℕ, List, Option, None, Some, refl, subst, arith}
+use Rattle.std.proofs.Common.{◌≡◌, ◌⊎◌, ⊎_elim, ℕ, List, None, Some, refl, ap, ◌∙◌, subst, arith}
 use Rattle.fx_top.specs.declared.answer.Answer.{Answer}
 use Rattle.fx_top.specs.declared.answer.Answer.TheVariants.{Done, OutOfMemory, Usage, CannotRead, CannotWrite, NotMdl, BadTable, BreaksRule, NotVerilog, Broken, TooLong}
 use Rattle.dg_model.specs.declared.diagram.Diagram.{Diagram}
@@ -13,21 +13,20 @@ use Rattle.fx_sample.specs.Laws.{PlanIsGood}
 use Rattle.fx_sample.specs.ModelText.{sample_model}
 use Rattle.fx_sample.specs.Stimulus.{sample_plan, sample_stimulus}
 use Rattle.fx_tables.specs.declared.table.TableCause.{TableCause}
+use Rattle.fx_tables.specs.declared.table.TableFault.{TableFault}
 use Rattle.fx_tables.specs.declared.table.TableFault.TheVariants.{Bad}
-use Rattle.fx_top.specs.declared.fault.Fault.{Fault}
-use Rattle.fx_top.specs.declared.fault.Fault.TheVariants as simulated
-use Rattle.fx_top.specs.inner.Refusing.{IsSimulationFault}
-use Rattle.fx_top.specs.inner.Simulating.{Refuses}
+use Rattle.fx_simulated.specs.Simulating.{IsStimulusFault, fault_in}
 use Rattle.mdl_text.specs.Prefix.{IsMdl}
 use Rattle.fx_top.specs.Answer.{status_of}
-use Rattle.fx_top.specs.Benched.{IsTold}
+use Rattle.fx_replayed.specs.Benched.{IsTold}
 use Rattle.fx_top.specs.Call.{Files, Stream}
 use Rattle.fx_top.specs.Caused.{IsCarriedOut}
-use Rattle.fx_top.specs.Command.{Asked, OfFiles, Sample, asked_of}
-use Rattle.fx_top.specs.Generated.{CanBeDesigned, IsWithoutDesign}
+use Rattle.fx_top.specs.Command.{Sample, asked_of}
+use Rattle.fx_generated.specs.Generated.{CanBeDesigned, IsWithoutDesign}
 use Rattle.fx_top.specs.Sampled.{HasSampleCause, HasSampleWritten, IfSample, IsCompleteSample, IsDueSample}
-use Rattle.fx_top.specs.Simulated.{CanBeSimulated, IsBadSimulation}
+use Rattle.fx_top.specs.Simulated.{CanBeSimulated}
 use Rattle.fx_top.specs.Summarized.{IsSummaryOf, IsSummed, TellsSampleRule}
+use Rattle.fx_top.proofs.Running.{carried}
 
 -- what was written by some bytes that the bench tells
 pub written-summed : (MayTell : List ℕ → List ℕ → List ℕ → Type 0) (number : ℕ) (told : List ℕ) (out : Stream) (answer : Answer) → HasSampleWritten (IsSummaryOf MayTell number told) out answer → HasSampleWritten (IsSummed MayTell number) out answer
@@ -78,27 +77,13 @@ module _ (out : Stream) (number : ℕ) where
   is-complete (TooLong file length) why wrote can writes = absurd why
 
 module _ (files : Files) (out : Stream) where
-  -- what holds of the answer to a sample holds of the words' sample
-  by-sample : (P : ℕ → ℕ → Type 0) → ((number : ℕ) (answer : Answer) → HasSampleCause number answer → HasSampleWritten (IsSummed IsTold number) out answer → P number (status_of answer))
-      → (words : List (List ℕ)) (answer : Answer) → (named : Option Asked) → asked_of words ≡ named → IsCarriedOut files out named answer → IfSample words (λ number. P number (status_of answer))
-  by-sample P by words answer None is why number shape = absurd (cc (is, shape))
-  by-sample P by words answer (Some (OfFiles command)) is why number shape = absurd (cc (is, shape))
-  by-sample P by words answer (Some (Sample here)) is why number shape =
-      let same : here ≡ number = cc (is, shape) in
-      subst (λ (known : ℕ). P known (status_of answer)) same (by here answer why.0 why.1)
-
   pub sample_due-clause : (words : List (List ℕ)) (answer : Answer) → IsCarriedOut files out (asked_of words) answer → IfSample words (λ number. IsDueSample number (status_of answer))
-  sample_due-clause words answer why = by-sample IsDueSample (is-due out) words answer (asked_of words) refl why
+  sample_due-clause words answer why number shape = let own = carried files out words answer (Sample number) why shape in is-due out number answer own.0 own.1
 
   pub sample_complete-clause : (words : List (List ℕ)) (answer : Answer) → IsCarriedOut files out (asked_of words) answer → IfSample words (λ number. IsCompleteSample out number (status_of answer))
-  sample_complete-clause words answer why = by-sample (IsCompleteSample out) (is-complete out) words answer (asked_of words) refl why
+  sample_complete-clause words answer why number shape = let own = carried files out words answer (Sample number) why shape in is-complete out number answer own.0 own.1
 
 -- ---- what a model and a plan of a sample can't be refused for
-
-pub no-syntax : (number line : ℕ) (fault : Fault) → IsMdl (sample_model number) → fault ≡ simulated.NotMdl line → IsSimulationFault (sample_model number) (sample_stimulus number) fault → ⊥
-no-syntax number line fault there is why =
-    let told : IsNotMdl (sample_model number) line = subst (λ (one : Fault). IsSimulationFault (sample_model number) (sample_stimulus number) one) is why in
-    told.no_tree there.0 there.1
 
 pub no-design-syntax : (number line : ℕ) (fault : DesignFault) → IsMdl (sample_model number) → fault ≡ design.NotMdl line → IsRefusedDesign (sample_model number) sample_plan fault → ⊥
 no-design-syntax number line fault there is why =
@@ -112,11 +97,10 @@ no-bad-plan number line cause fault good is why =
 
 -- ---- a simulation of a sample's own stimulus
 
-pub refuses-sample : (diagram : Diagram) (source stimulus own : List ℕ) (fault : Fault) → IsModelOf source diagram → own ≡ stimulus → Refuses diagram own fault → IsSimulationFault source stimulus fault
-unfolding Refuses
-refuses-sample diagram source stimulus own fault accepted same is = subst (λ (text : List ℕ). IsSimulationFault source text fault) same (is source accepted)
-
-pub no-stimulus : (number line : ℕ) (cause : TableCause) (fault : Fault) → fault ≡ simulated.BadTable line cause → IsSimulationFault (sample_model number) (sample_stimulus number) fault → CanBeSimulated (sample_model number) (sample_stimulus number) → ⊥
-no-stimulus number line cause fault is why can =
-    let bad : IsBadSimulation (sample_model number) (sample_stimulus number) line cause = subst (IsSimulationFault (sample_model number) (sample_stimulus number)) is why in
-    absurd (cc (can.good bad.diagram bad.accepted, bad.bad))
+-- where a line of it is bad, it doesn't fit the columns of the model's diagram
+pub unfit : (number line : ℕ) (cause : TableCause) (diagram : Diagram) (own : List ℕ) (fault : TableFault) → IsModelOf (sample_model number) diagram → own ≡ sample_stimulus number → fault ≡ Bad line cause
+    → IsStimulusFault diagram own fault → CanBeSimulated (sample_model number) (sample_stimulus number) → ⊥
+unfit number line cause diagram own fault accepted same is why can =
+    let bad : fault_in diagram own ≡ Some (Bad line cause) = subst (IsStimulusFault diagram own) is why in
+    let good : fault_in diagram own ≡ None = ap (fault_in diagram) same ∙ can.good diagram accepted in
+    absurd (cc (good, bad))

@@ -1,6 +1,5 @@
 -- Bytes said in two steps or more.
-use Rattle.std.proofs.Common.{◌≡◌, ◌<◌, ◌≤◌, ◌+◌, ℕ, zero, suc, codes, List, ◌∷◌, get_or, ◌++◌, length, length-append, take, Option, ap, [], append_assoc, append-nil, ◌∙◌, subst, sym, arith, Vec, Global}
-use Rattle.std.proofs.lemmas.List.{take-append-le}
+use Rattle.std.proofs.Common.{◌≡◌, ◌<◌, ◌≤◌, ◌+◌, ℕ, zero, suc, codes, List, ◌∷◌, get_or, ◌++◌, length, take, Option, ap, [], append_assoc, append-nil, ◌∙◌, subst, sym, arith, Vec, Global}
 use Rattle.std.proofs.Math.Seq.{take-append-add}
 use Rattle.fx_io.specs.Sink.{TookProperPrefix, also_took}
 use Rattle.fx_io.specs.Cause.{Rose}
@@ -23,20 +22,6 @@ said-more told before now f0 f1 f2 piece more took later said =
       prefix = (length piece + said.prefix.0, joined (take said.prefix.0 more) said.prefix.1 ∙ ap (also_took told) (sym (take-append-add piece more said.prefix.0)));
       whole = λ calm. joined more (said.whole (λ rose. calm (omega arith)));
     }
-
--- part of a piece, after a fault
-pub took-more : (told before now : Option (List ℕ)) (done piece rest : List ℕ) → before ≡ also_took told done → TookProperPrefix before now piece → TookProperPrefix told now (done ++ (piece ++ rest))
-took-more told before now done piece rest took part =
-    let count = part.0 in
-    let short : count < length piece = part.1.0 in
-    let cut : take (length done + count) (done ++ (piece ++ rest)) ≡ done ++ take count piece =
-    take-append-add done (piece ++ rest) count ∙ ap (λ xs. done ++ xs) (take-append-le count piece rest (omega (arith, short))) in (
-      length done + count,
-      (
-        (let a = length-append done (piece ++ rest) in let b = length-append piece rest in omega (arith, a, b, short)),
-        part.1.1 ∙ ap (λ state. also_took state (take count piece)) took ∙ also_took-append told done (take count piece) ∙ ap (also_took told) (sym cut),
-      ),
-    )
 
 -- a proper prefix, after a fault
 pub said-cut : (told now : Option (List ℕ)) (f0 f1 f2 : ℕ) (bytes : List ℕ) → f0 ≤ f1 → Rose f1 f2 → TookProperPrefix told now bytes → Said (record { before = told; now = now; failed = Rose f0 f2 }) bytes

@@ -2,6 +2,7 @@
 use Rattle.std.proofs.Common.{◌≡◌, ◌⊎◌, ℕ, List, ◌∷◌, All, Some, Result, Ok, Err, OnErr, OnOk, inl, refl, sym, subst}
 use Rattle.std.specs.Prelude.{⊤}
 use Rattle.std.specs.Borrow.{Bor}
+use Rattle.fx_designed.specs.declared.designing.DesignFault.{DesignFault}
 use Rattle.fx_designed.specs.Design.{IsBadPlan, TellsPlanRule}
 use Rattle.fx_io.specs.declared.sink.PutFault.{PutFault}
 use Rattle.fx_io.specs.Shelf.{Fetched, Told}
@@ -18,9 +19,11 @@ use Rattle.fx_top.specs.Caused.{HasCause, HasWritten}
 use Rattle.fx_top.specs.Command.{Command, Replay, files_of, first_of, model_of, plan_files, plan_of, plan_word}
 use Rattle.fx_top.specs.Output.{IsOutput, IsPlanText}
 use Rattle.fx_top.specs.Simulated.{IsBadSimulation}
-use Rattle.fx_top.specs.Streamed.{TellsStreamRule}
+use Rattle.fx_generated.specs.Streamed.{TellsStreamRule}
+use Rattle.fx_generated.specs.Generating.{IsModuleFor, IsTextOf}
 use Rattle.fx_top.specs.inner.Refusing.{IsDesignFault, IsReplayFault, OfModel, answer_to}
 use Rattle.fx_top.specs.inner.Tasks.{IsDone, IsFaultOf, IsPut, Makes, command_of, table_word}
+use Rattle.vl_ast.specs.declared.modules.Module.{Module}
 use Rattle.fx_top.proofs.Planning.{fetched-planned, plan-bad, plan-rule, stream-rule}
 use Rattle.fx_top.proofs.Refusals.{Blames, done-caused, done-written}
 use Rattle.fx_top.proofs.Told.{reads-plan}
@@ -29,6 +32,15 @@ use Rattle.fx_top.proofs.Told.{reads-plan}
 pub put-text : (Made : List ℕ → Type 0) (out : Stream) (text : List ℕ) → Made text → (put : Result ⊤ PutFault) → OnOk put (out.now ≡ also_took out.before text) → OnErr put (TookProperPrefix out.before out.now text) → OnErr put out.failed → IsPut Made out put
 put-text Made out text made (Ok whole) all part rise = (text, (made, all))
 put-text Made out text made (Err fault) all part rise = (text, (made, (part, rise)))
+
+-- that of a module
+pub put-module : (IsSo : List ℕ → Type 0) (Refused : DesignFault → Type 0) (out : Stream) (given : Result Module DesignFault) (made : Module) (text : List ℕ) → given ≡ Ok made → IsTextOf made text
+    → (put : Result ⊤ PutFault) → OnOk put (out.now ≡ also_took out.before text) → OnErr put (TookProperPrefix out.before out.now text) → OnErr put out.failed → IsModuleFor IsSo Refused given → IsPut IsSo out put
+put-module IsSo Refused out given made text is own put all part rise so = put-text IsSo out text ((subst (λ (r : Result Module DesignFault). IsModuleFor IsSo Refused r) is so).1 text own) put all part rise
+
+-- how a known task is done
+pub done-by : (task known : Task) (first second : List ℕ) (out : Stream) (done : Result (Result ⊤ PutFault) Fault) → task ≡ known → IsDone (Makes known first second) (IsFaultOf known first second) out done → IsDone (Makes task first second) (IsFaultOf task first second) out done
+done-by task known first second out done is why = subst (λ (own : Task). IsDone (Makes own first second) (IsFaultOf own first second) out done) (sym is) why
 
 -- the files that it reads
 pub files-are : (task : Task) (first second : List ℕ) → files_of (command_of task first second) ≡ first ∷ plan_files (table_word task second)
@@ -41,19 +53,19 @@ files-are task.Stream first second = refl
 
 -- its text is the command's
 outputs : (held : List ℕ → Told) (task : Task) (first second bytes text own : List ℕ) → Fetched (held first) file_limit bytes → IsPlanText held (table_word task second) text → Makes task bytes text own → IsOutput (command_of task first second) held own
-outputs held task.Generate first second bytes text own fetched says made = record { model_bytes = bytes; plan_bytes = text; model_fetched = fetched; plan_says = says; verilog = made }
-outputs held task.Replay first second bytes text own fetched says made = record { verilog_bytes = bytes; stimulus_bytes = text; verilog_fetched = fetched; stimulus_fetched = says; replay = made }
-outputs held task.Simulate first second bytes text own fetched says made = record { model_bytes = bytes; stimulus_bytes = text; model_fetched = fetched; stimulus_fetched = says; simulation = made }
+outputs held task.Generate first second bytes text own fetched says made = record { first_bytes = bytes; second_bytes = text; fetched = fetched; says = says; made = made }
+outputs held task.Replay first second bytes text own fetched says made = record { first_bytes = bytes; second_bytes = text; fetched = fetched; says = says; made = made }
+outputs held task.Simulate first second bytes text own fetched says made = record { first_bytes = bytes; second_bytes = text; fetched = fetched; says = says; made = made }
 outputs held (task.Explore range) first second bytes text own fetched says made = (bytes, (fetched, made))
-outputs held task.Check first second bytes text own fetched says made = record { model_bytes = bytes; plan_bytes = text; model_fetched = fetched; plan_says = says; check = made }
-outputs held task.Stream first second bytes text own fetched says made = record { model_bytes = bytes; plan_bytes = text; model_fetched = fetched; plan_says = says; stream = made }
+outputs held task.Check first second bytes text own fetched says made = record { first_bytes = bytes; second_bytes = text; fetched = fetched; says = says; made = made }
+outputs held task.Stream first second bytes text own fetched says made = record { first_bytes = bytes; second_bytes = text; fetched = fetched; says = says; made = made }
 
 -- ---- what its faults say
 
 model-blames : (files : Files) (command : Command) (second bytes : List ℕ) → model_of command ≡ Some (first_of command) → IsFetched files (first_of command) bytes
     → (Rule : List ℕ → Type 0) (Bad : ℕ → TableCause → Type 0) → ((line : List ℕ) → Rule line → BreaksSomeRule files command line) → ((line : ℕ) (cause : TableCause) → Bad line cause → HasBadLine files command second line cause)
     → (fault : Fault) → OfModel bytes Rule Bad fault → Blames files command (first_of command) second fault
-model-blames files command second bytes is fetched Rule Bad broken bad (NotMdl line) why = record { is_model = is; bytes = bytes; fetched = fetched; not_mdl = why }
+model-blames files command second bytes is fetched Rule Bad broken bad (NotMdl line) why = record { is = is; bytes = bytes; fetched = fetched; so = why }
 model-blames files command second bytes is fetched Rule Bad broken bad (BreaksRule line) why = broken line why
 model-blames files command second bytes is fetched Rule Bad broken bad (NotVerilog line) why = absurd why
 model-blames files command second bytes is fetched Rule Bad broken bad (Broken condition) why = absurd why
@@ -71,8 +83,8 @@ replay-blames : (files : Files) (first second bytes text : List ℕ) → IsFetch
     → (fault : Fault) → IsReplayFault bytes text fault → Blames files (Replay first second) first second fault
 replay-blames files first second bytes text fetched says (NotMdl line) why = absurd why
 replay-blames files first second bytes text fetched says (BreaksRule line) why = absurd why
-replay-blames files first second bytes text fetched says (NotVerilog line) why = record { is_verilog = refl; bytes = bytes; fetched = fetched; not_verilog = why }
-replay-blames files first second bytes text fetched says (Broken condition) why = record { is_verilog = refl; bytes = bytes; fetched = fetched; broken = why }
+replay-blames files first second bytes text fetched says (NotVerilog line) why = record { is = refl; bytes = bytes; fetched = fetched; so = why }
+replay-blames files first second bytes text fetched says (Broken condition) why = record { is = refl; bytes = bytes; fetched = fetched; so = why }
 replay-blames files first second bytes text fetched says (BadTable line cause) why = record { is_table = refl; first = bytes; table = text; first_fetched = fetched; table_fetched = says; bad = why }
 replay-blames files first second bytes text fetched says OutOfMemory why = tt
 

@@ -13,9 +13,11 @@ use Rattle.fx_model.specs.Model.{IsModelOf}
 use Rattle.fx_top.specs.Call.{Files, Trouble, trouble_or, first_trouble, file_limit}
 use Rattle.fx_top.specs.Cause.{IsFetched, HasBadLine, HasBrokenPlan}
 use Rattle.fx_top.specs.Command.{Command, PlanWord, EmptyPlan, Named, Generate, Replay, Simulate, Explore, Check, Stream, model_of, plan_of, plan_file, table_of, first_of}
-use Rattle.fx_top.specs.Generated.{HasNoPlan, IsWithoutDesign}
+use Rattle.fx_top.specs.CheckedText.{IsCheckOf}
+use Rattle.fx_generated.specs.Generated.{HasNoPlan, IsVerilogOf, IsWithoutDesign}
 use Rattle.fx_top.specs.Outcome.{CanDesign, IsBadFor, Tells, TellsPlan}
-use Rattle.fx_top.specs.Output.{IsBadTable, IsCheckOfFiles, IsPlanText, IsStreamOfFiles, IsVerilogOfFiles}
+use Rattle.fx_top.specs.Output.{IsBadTable, IsOfFiles, IsPlanText}
+use Rattle.fx_generated.specs.Streamed.{IsStreamedOf}
 
 -- a file that was fetched is in no trouble
 pub untroubled : (file : List ℕ) (told : Told) (bytes : List ℕ) → Fetched told file_limit bytes → (later : Option Trouble) → trouble_or file told later ≡ later
@@ -86,15 +88,15 @@ has-design {held} {model} {plan} {bytes} {text} {diagram} {resolved} {timing} fe
 }
 
 -- the design that a written text is of
-pub verilog-design : {held : List ℕ → Told} {model : List ℕ} {plan : PlanWord} {text : List ℕ} → IsVerilogOfFiles held model plan text → HasDesign held model plan
-verilog-design output = has-design output.model_fetched output.plan_says output.verilog.design
+pub verilog-design : {held : List ℕ → Told} {model : List ℕ} {plan : PlanWord} {text : List ℕ} → IsOfFiles IsVerilogOf held model plan text → HasDesign held model plan
+verilog-design output = has-design output.fetched output.says output.made.design
 
-pub check-design : {held : List ℕ → Told} {model : List ℕ} {plan : PlanWord} {text : List ℕ} → IsCheckOfFiles held model plan text → HasDesign held model plan
-check-design output = has-design output.model_fetched output.plan_says output.check.design
+pub check-design : {held : List ℕ → Told} {model : List ℕ} {plan : PlanWord} {text : List ℕ} → IsOfFiles IsCheckOf held model plan text → HasDesign held model plan
+check-design output = has-design output.fetched output.says output.made.design
 
 -- the design that a text with valid and ready is of
-unfoldable pub stream-design : {held : List ℕ → Told} {model : List ℕ} {plan : PlanWord} {text : List ℕ} → IsStreamOfFiles held model plan text → HasDesign held model plan
-stream-design output = has-design output.model_fetched output.plan_says output.stream.design
+unfoldable pub stream-design : {held : List ℕ → Told} {model : List ℕ} {plan : PlanWord} {text : List ℕ} → IsOfFiles IsStreamedOf held model plan text → HasDesign held model plan
+stream-design output = has-design output.fetched output.says output.made.design
 
 module _ (files : Files) where
   pub told-is : (file told bytes : List ℕ) → IsFetched files file bytes → Tells files file told → told ≡ bytes

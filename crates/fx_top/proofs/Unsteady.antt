@@ -4,8 +4,8 @@ use Rattle.fx_top.specs.Call.{Files}
 use Rattle.fx_top.specs.Cause.{HasBrokenPorts}
 use Rattle.fx_top.specs.Command.{Command, PlanWord, Stream as StreamOf, first_of, model_of, table_of}
 use Rattle.fx_top.specs.Outcome.{CanBeDone, CanDesign, CanStream, IsBadFor, Tells, TellsPlan}
-use Rattle.fx_top.specs.Output.{IsOutput, IsStreamOfFiles}
-use Rattle.fx_top.specs.Streamed.{IsWithoutStream, TellsStreamRule}
+use Rattle.fx_top.specs.Output.{IsOfFiles, IsOutput}
+use Rattle.fx_generated.specs.Streamed.{IsStreamedOf, IsWithoutStream, TellsStreamRule}
 use Rattle.fx_top.proofs.Commands.{IsGood}
 use Rattle.fx_top.proofs.Told.{HasDesign, design-good, design-is, design-planned, has-design, stream-design, told-is, told-plan}
 
@@ -20,10 +20,10 @@ module _ (files : Files) (command : Command) where
   unstreamed own bytes text model plan is output tells told refused =
       subst (λ (c : Command). IsOutput c files.held own → Tells files (first_of c) bytes → ⊥) (sym is) of output tells
     where
-      of : IsStreamOfFiles files.held model plan own → Tells files model bytes → ⊥
+      of : IsOfFiles IsStreamedOf files.held model plan own → Tells files model bytes → ⊥
       of written here =
           let has = stream-design written in
-          refused.none has.diagram has.resolved has.timing (design-is files model plan has bytes here text told) written.stream.kept
+          refused.none has.diagram has.resolved has.timing (design-is files model plan has bytes here text told) written.made.kept
 
   module _ (line : List ℕ) (why : HasBrokenPorts files command line) where
     has : HasDesign files.held why.model why.plan

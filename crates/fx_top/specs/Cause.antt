@@ -1,5 +1,5 @@
 -- Why a command answers as it does (own).
-use Rattle.std.specs.Prelude.{◌≡◌, ℕ, ◌⊎◌, List, Contains, All, Some}
+use Rattle.std.specs.Prelude.{◌≡◌, ℕ, ◌⊎◌, List, Contains, All, Option, Some}
 use Rattle.fx_io.specs.Shelf.{Fetched, IsOverlong}
 use Rattle.fx_io.specs.Sink.{also_took, TookProperPrefix}
 use Rattle.fx_top.specs.Call.{Files, Stream, Absent, Overlong, first_trouble, file_limit}
@@ -8,8 +8,8 @@ use Rattle.fx_designed.specs.Design.{TellsPlanRule}
 use Rattle.fx_model.specs.Model.{IsNotMdl}
 use Rattle.fx_model.specs.RuleLine.{TellsRule}
 use Rattle.fx_top.specs.Output.{IsBadTable, IsOutput, IsPlanText}
-use Rattle.fx_top.specs.Replayed.{IsBroken, IsNotVerilog}
-use Rattle.fx_top.specs.Streamed.{TellsStreamRule}
+use Rattle.fx_replayed.specs.Replayed.{IsBroken, IsNotVerilog}
+use Rattle.fx_generated.specs.Streamed.{TellsStreamRule}
 use Rattle.fx_tables.specs.declared.table.TableCause.{TableCause}
 use Rattle.vl_check.specs.declared.fault.VlFault.{VlFault}
 
@@ -34,13 +34,17 @@ IsFetched files file bytes = Fetched (files.held file) file_limit bytes
 abbrev pub AreFetched : Files → Command → Type 0
 AreFetched files command = All (λ file. (bytes : List ℕ) × IsFetched files file bytes) (files_of command)
 
--- the file is the model, and what was fetched of it stands for no tree, and stops being the beginning of a
--- text at this line
-pub record HasNoTree (files : Files) (command : Command) (file : List ℕ) (line : ℕ) : Type 0 where
-  pub is_model : model_of command ≡ Some file
+-- the file is this one of the command's, if it has any, and what was fetched of it is so
+pub record IsFetchedSo (files : Files) (own : Option (List ℕ)) (file : List ℕ) (IsSo : List ℕ → Type 0) : Type 0 where
+  pub is : own ≡ Some file
   pub bytes : List ℕ
   pub fetched : IsFetched files file bytes
-  pub not_mdl : IsNotMdl bytes line
+  pub so : IsSo bytes
+
+-- the file is the model, and what was fetched of it stands for no tree, and stops being the beginning of a
+-- text at this line
+abbrev pub HasNoTree : Files → Command → List ℕ → ℕ → Type 0
+HasNoTree files command file line = IsFetchedSo files (model_of command) file (λ bytes. IsNotMdl bytes line)
 
 -- what was fetched of the model stands for a tree that breaks a rule, and this line tells the first of them
 pub record HasBrokenRule (files : Files) (command : Command) (line : List ℕ) : Type 0 where
@@ -89,18 +93,12 @@ pub record HasBadLine (files : Files) (command : Command) (file : List ℕ) (lin
 
 -- the file is the Verilog text, and what was fetched of it isn't in the subset, and stops being the beginning
 -- of a text at this line
-pub record HasNoVerilog (files : Files) (command : Command) (file : List ℕ) (line : ℕ) : Type 0 where
-  pub is_verilog : verilog_of command ≡ Some file
-  pub bytes : List ℕ
-  pub fetched : IsFetched files file bytes
-  pub not_verilog : IsNotVerilog bytes line
+abbrev pub HasNoVerilog : Files → Command → List ℕ → ℕ → Type 0
+HasNoVerilog files command file line = IsFetchedSo files (verilog_of command) file (λ bytes. IsNotVerilog bytes line)
 
 -- the file is the Verilog text, and the first condition that its module breaks is this one
-pub record BreaksCondition (files : Files) (command : Command) (file : List ℕ) (fault : VlFault) : Type 0 where
-  pub is_verilog : verilog_of command ≡ Some file
-  pub bytes : List ℕ
-  pub fetched : IsFetched files file bytes
-  pub broken : IsBroken bytes fault
+abbrev pub BreaksCondition : Files → Command → List ℕ → VlFault → Type 0
+BreaksCondition files command file fault = IsFetchedSo files (verilog_of command) file (λ bytes. IsBroken bytes fault)
 
 -- the command's text was taken whole
 pub record WroteAll (files : Files) (out : Stream) (command : Command) : Type 0 where

@@ -8,7 +8,8 @@ pub data PlanWord : Type 0 where
   EmptyPlan : PlanWord
   Named : (file : List ℕ) → PlanWord
 
--- the commands over files: `Generate` of a model and a plan, `Replay` of a Verilog text and a stimulus, `Simulate` of a model and a stimulus, `Explore` of a model and a range of plans, `Check` and `Stream` of a model and a plan
+-- the commands over files: `Generate` of a model and a plan, `Replay` of a Verilog text and a stimulus, `Simulate` of a
+-- model and a stimulus, `Explore` of a model and a range of plans, `Check` and `Stream` of a model and a plan
 pub data Command : Type 0 where
   -- writes the Verilog text of a model under a plan
   Generate : (model : List ℕ) → (plan : PlanWord) → Command

@@ -9,7 +9,7 @@ use Rattle.fx_top.specs.declared.answer.Answer.TheVariants.{Done, OutOfMemory, U
 use Rattle.fx_top.specs.Answer.{status_of, line_of}
 use Rattle.fx_top.specs.Call.{Stream, IsUntouched, Said}
 use Rattle.fx_top.specs.Command.{Sample, asked_of}
-use Rattle.fx_top.specs.Generated.{CanBeDesigned, IsWithoutDesign}
+use Rattle.fx_generated.specs.Generated.{CanBeDesigned, IsWithoutDesign}
 use Rattle.fx_top.specs.Summarized.{TellsSampleRule}
 
 -- what an answer says of the sample

@@ -1,23 +1,14 @@
 -- What a simulation makes of a model and a stimulus, and what may be wrong with them (own).
-use Rattle.std.specs.Prelude.{◌≡◌, ℕ, ℤ, List, length, map, Option, None, Some}
+use Rattle.std.specs.Prelude.{◌≡◌, ℕ, ℤ, List, length, None, Some}
 use Rattle.dg_model.specs.declared.diagram.Diagram.{Diagram}
 use Rattle.dg_response.specs.Response.{input_columns, output_columns, IsResponse}
 use Rattle.fx_model.specs.Model.{IsModelOf, IsAccepted}
-use Rattle.fx_tables.specs.declared.table.Column.{Column}
+use Rattle.fx_simulated.specs.Simulating.{fault_in, output_periods}
 use Rattle.fx_tables.specs.declared.table.Rows.{Rows}
 use Rattle.fx_tables.specs.declared.table.TableCause.{TableCause}
-use Rattle.fx_tables.specs.declared.table.TableFault.{TableFault}
 use Rattle.fx_tables.specs.declared.table.TableFault.TheVariants.{Bad}
 use Rattle.fx_tables.specs.Response.{response}
-use Rattle.fx_tables.specs.Stimulus.{IsRows, stimulus_fault}
-
--- the base samples from one number to the next, for each root output element
-abbrev pub output_periods : Diagram → List ℕ
-output_periods diagram = map (λ (column : Column). column.period) (output_columns diagram)
-
--- the first bad line of a stimulus of a diagram
-abbrev pub fault_in : Diagram → List ℕ → Option TableFault
-fault_in diagram stimulus = stimulus_fault (input_columns diagram) (length (output_columns diagram)) stimulus
+use Rattle.fx_tables.specs.Stimulus.{IsRows}
 
 -- the text is the response of the model to the stimulus: what the table that solves its diagram shows of the root
 -- outputs, a line per sample and a number where an output has its hit

@@ -1,11 +1,5 @@
-pub mod Benching
 pub mod Fetching
-pub mod Generating
 pub mod Named
 pub mod Refusing
-pub mod Responding
 pub mod Sampling
-pub mod Simulating
-pub mod Steady
-pub mod Streaming
 pub mod Tasks

@@ -1,13 +1,18 @@
 //! Why the texts of a command's files have no output, and the answer to how a task ended.
 ghost use Rattle.std.specs.Prelude.{◌≡◌, ℕ, List};
+ghost use Rattle.dg_model.specs.declared.diagram.Diagram.{Diagram};
 ghost use Rattle.fx_designed.specs.Refused.{IsRefusedDesign, IsRefusedModel};
-ghost use Rattle.fx_top.specs.inner.Refusing.{IsDesignFault, IsModelFault, IsStreamFault, answer_to};
-ghost use Rattle.fx_top.specs.inner.Streaming.{IsRefusedStream};
+ghost use Rattle.fx_model.specs.Model.{IsModelOf};
+ghost use Rattle.fx_replayed.specs.Responding.{IsRefusedReplay};
+ghost use Rattle.fx_simulated.specs.Simulating.{IsStimulusFault};
+ghost use Rattle.fx_top.specs.inner.Refusing.{IsDesignFault, IsModelFault, IsReplayFault, IsSimulationFault, IsStreamFault, answer_to};
+ghost use Rattle.fx_generated.specs.Streaming.{IsRefusedStream};
 
 use crate::answer::Answer;
 use fx_designed::{DesignFault, ModelRefusal};
 use fx_io::{PutFault, Text};
-use fx_tables::TableCause;
+use fx_replayed::ReplayFault;
+use fx_tables::{TableCause, TableFault};
 use vl_check::VlFault;
 
 /// Why the texts of a command's files have no output.
@@ -32,7 +37,9 @@ pub type Done = Result<Result<(), PutFault>, Fault>;
 
 /// The fault of a model that is refused so.
 pub fn of_model(refusal: ModelRefusal) -> Fault
-    ensures { (model : List ℕ) → IsRefusedModel model refusal → IsModelFault model result }
+    ensures model { (model : List ℕ) → IsRefusedModel model refusal → IsModelFault model result }
+    ensures simulation { (model stimulus : List ℕ) → IsRefusedModel model refusal
+        → IsSimulationFault model stimulus result }
 {
     match refusal {
         ModelRefusal::NotMdl { line } => Fault::NotMdl { line },
@@ -53,6 +60,30 @@ pub fn of_design(fault: DesignFault) -> Fault
         DesignFault::BreaksRule { line } => Fault::BreaksRule { line },
         DesignFault::BadPlan { line, cause } => Fault::BadTable { line, cause },
         DesignFault::OutOfMemory => Fault::OutOfMemory,
+    }
+}
+
+/// The fault of a stimulus that doesn't fit a model's diagram.
+pub fn of_stimulus(fault: TableFault) -> Fault
+    ensures { (model stimulus : List ℕ) (diagram : Diagram) → IsModelOf model diagram
+        → IsStimulusFault diagram stimulus fault → IsSimulationFault model stimulus result }
+{
+    match fault {
+        TableFault::Bad { line, cause } => Fault::BadTable { line, cause },
+        TableFault::OutOfMemory => Fault::OutOfMemory,
+    }
+}
+
+/// The fault of a Verilog text and a stimulus that have no response.
+pub fn of_replay(fault: ReplayFault) -> Fault
+    ensures { (verilog stimulus : List ℕ) → IsRefusedReplay verilog stimulus fault
+        → IsReplayFault verilog stimulus result }
+{
+    match fault {
+        ReplayFault::NotVerilog { line } => Fault::NotVerilog { line },
+        ReplayFault::Broken { fault } => Fault::Broken { fault },
+        ReplayFault::BadTable { line, cause } => Fault::BadTable { line, cause },
+        ReplayFault::OutOfMemory => Fault::OutOfMemory,
     }
 }
 

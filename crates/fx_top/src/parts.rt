@@ -1,8 +1,23 @@
-ghost use Rattle.std.specs.Prelude.{◌≡◌, OnErr, OnOk, flat_map};
+ghost use Rattle.std.specs.Prelude.{◌≡◌, ℕ, IfOk, List, OnErr, OnOk, flat_map};
 ghost use Rattle.fx_io.specs.Cause.{Rose};
 ghost use Rattle.fx_io.specs.Sink.{TookProperPrefix, also_took};
+ghost use Rattle.fx_top.specs.Call.{stream_in};
+ghost use Rattle.fx_generated.specs.Generated.{IsVerilogOf};
+ghost use Rattle.fx_generated.specs.Streamed.{IsStreamedOf};
+ghost use Rattle.fx_generated.specs.Generating.{IsVerilogModule};
+ghost use Rattle.fx_top.specs.inner.Refusing.{IsDesignFault, IsStreamFault};
+ghost use Rattle.fx_generated.specs.Streaming.{IsStreamModule};
+ghost use Rattle.fx_top.specs.inner.Tasks.{IsDone};
+ghost use Rattle.vl_ast.specs.Grammar.{Spells};
+ghost use Rattle.vl_ast.specs.Spelling.{spelling};
 
-use fx_io::{PutFault, Sink, Text, put_all};
+use crate::fault::{Done, Fault, of_design};
+use fx_designed::DesignFault;
+use fx_generated::parts_of;
+use fx_io::{OutOfMemory, PutFault, Sink, Text, put_all};
+use std::alloc::Global;
+use std::thread::Threads;
+use vl_ast::Module;
 
 /// Puts the parts of a text, one after another, up to a failure.
 pub fn put_parts<K: Sink>(out: &mut K, parts: &[Vec<u8>]) -> Result<(), PutFault>
@@ -29,4 +44,35 @@ pub fn put_text<K: Sink>(out: &mut K, text: Text) -> Result<(), PutFault>
     let put = put_all(out, text.bytes());
     drop(text);
     put
+}
+
+/// Puts the text of the module of a design, where it has one.
+pub fn put_design<R: Threads + Sync, K: Sink>(
+    rt: &R,
+    alloc: Global,
+    made: Result<Module, DesignFault>,
+    out: &mut K,
+) -> Done
+    requires spelled { IfOk made (λ made. Spells (spelling made) made) }
+    ensures plain { (model plan : List ℕ)
+        → IsVerilogModule model plan made
+        → IsDone (IsVerilogOf model plan) (IsDesignFault model plan)
+        (stream_in K.taken K.faults out.old out.new) result }
+    ensures streams { (model plan : List ℕ)
+        → IsStreamModule model plan made
+        → IsDone (IsStreamedOf model plan) (IsStreamFault model plan)
+        (stream_in K.taken K.faults out.old out.new) result }
+{
+    let made = match made {
+        Ok(made) => made,
+        Err(fault) => return Err(of_design(fault)),
+    };
+    match parts_of(rt, alloc, made) {
+        Ok(parts) => {
+            let put = put_parts(out, parts.as_slice());
+            drop(parts);
+            Ok(put)
+        }
+        Err(OutOfMemory) => Err(Fault::OutOfMemory),
+    }
 }

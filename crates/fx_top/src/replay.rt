@@ -1,11 +1,11 @@
 ghost use Rattle.fx_top.specs.Call.{stream_in};
-ghost use Rattle.fx_top.specs.Replayed.{IsReplayOf};
+ghost use Rattle.fx_replayed.specs.Replayed.{IsReplayOf};
 ghost use Rattle.fx_top.specs.inner.Refusing.{IsReplayFault};
 ghost use Rattle.fx_top.specs.inner.Tasks.{IsDone};
 
-use crate::fault::Done;
-use crate::response::{response_of, write_response};
+use crate::fault::{Done, of_replay};
 use fx_io::Sink;
+use fx_replayed::{put_response, response_of};
 use std::alloc::Global;
 
 /// Puts what the module of a Verilog text shows under a stimulus, a line per sample. All memory is
@@ -15,7 +15,7 @@ pub fn replay<K: Sink>(alloc: Global, verilog: &[u8], stimulus: &[u8], out: &mut
         (stream_in K.taken K.faults out.old out.new) result }
 {
     match response_of(alloc, verilog, stimulus) {
-        Ok(response) => Ok(write_response(response, out)),
-        Err(fault) => Err(fault),
+        Ok(response) => Ok(put_response(response, out)),
+        Err(fault) => Err(of_replay(fault)),
     }
 }

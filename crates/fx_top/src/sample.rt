@@ -1,34 +1,27 @@
 ghost use Rattle.std.specs.Prelude.{◌≡◌, ◌≤◌, ◌<◌, All, IfErr, IfOk, length};
-ghost use Rattle.dg_model.specs.Attributes.{attributes_of};
-ghost use Rattle.dg_model.specs.RootElements.{root_outputs};
-ghost use Rattle.dg_response.specs.Responding.{IsBefore, row_of};
-ghost use Rattle.dg_tables.specs.Listing.{AreBlocksOf};
 ghost use Rattle.fx_designed.specs.Design.{IsDesignOf};
 ghost use Rattle.fx_designed.specs.Refused.{IsDesigned, IsRefusedDesign};
 ghost use Rattle.fx_model.specs.Model.{IsModelOf};
 ghost use Rattle.fx_sample.specs.ModelText.{sample_model};
 ghost use Rattle.fx_sample.specs.Stimulus.{sample_plan, sample_stimulus};
-ghost use Rattle.fx_tables.specs.RowText.{periods_of};
 ghost use Rattle.fx_top.specs.Call.{stream_in};
 ghost use Rattle.fx_top.specs.Sampled.{EndsSample, HasSampleCause, HasSampleWritten};
 ghost use Rattle.fx_top.specs.Summarized.{IsSampleResponse, IsSummaryOf, latency_of_output};
-ghost use Rattle.fx_top.specs.inner.Generating.{IsPlanOn};
-ghost use Rattle.fx_top.specs.inner.Refusing.{IsSimulationFault};
-ghost use Rattle.fx_top.specs.inner.Sampling.{IsOwed, IsSampleFault};
-ghost use Rattle.fx_top.specs.inner.Simulating.{AreLines};
+ghost use Rattle.fx_generated.specs.Generating.{IsPlanOn};
+ghost use Rattle.fx_top.specs.inner.Sampling.{AreOutputs, IsOwed, IsSampleFault};
 ghost use Rattle.hw_rules.specs.Times.{AreTimes, timing_in};
 
 use crate::answer::Answer;
-use crate::fault::Fault;
 use crate::parts::put_text;
-use crate::simulated::{Simulation, simulation_in, simulation_text};
-use crate::verilog::text_of;
 use dg_model::Checked;
 use dg_tables::output_blocks;
 use fx_check::clocks_of;
 use fx_designed::{DesignFault, Designed, designed_of};
+use fx_generated::text_of;
 use fx_io::{OutOfMemory, Sink, Text};
 use fx_sample::{Bench, Made, model_text, plan_text, stimulus_text, summary};
+use fx_simulated::{response_text, simulation_in};
+use fx_tables::TableFault;
 use hw_rules::{Planned, multiplications};
 use std::alloc::Global;
 use std::thread::Threads;
@@ -44,9 +37,9 @@ pub enum SampleFault {
 
 impl From<OutOfMemory> for SampleFault {
     ghost use Rattle.std.specs.Prelude.{◌≡◌};
-    ghost use Rattle.fx_top.specs.declared.sample.SampleFault.TheVariants.{OutOfMemory as WithoutMemory};
+    ghost use Rattle.fx_top.specs.declared.sample.SampleFault.TheVariants.{OutOfMemory};
 
-    ghost from_gives = { λ _ fault. fault ≡ WithoutMemory };
+    ghost from_gives = { λ _ fault. fault ≡ OutOfMemory };
 
     fn from(_refused: OutOfMemory) -> SampleFault {
         SampleFault::OutOfMemory
@@ -61,8 +54,7 @@ fn latency_at(
     place: usize,
 ) -> Result<u64, OutOfMemory>
     requires times { AreTimes checked.now.diagram planned.now.resolved planned.now.times }
-    requires listed { AreBlocksOf
-        (root_outputs checked.now.diagram (attributes_of checked.now.diagram)) outputs.now }
+    requires listed { AreOutputs checked.now.diagram outputs.now }
     requires there { All (λ block. block < length checked.now.diagram.blocks) outputs.now }
     ensures { IfOk result (λ clocks. clocks ≡ latency_of_output checked.now.diagram
         planned.now.resolved (timing_in planned.now.times) place) }
@@ -89,47 +81,6 @@ fn made_of(alloc: Global, checked: &Checked, planned: &Planned) -> Result<Made, 
     })
 }
 
-/// What a fault of the simulation of a sample leaves to compare its module with: no bytes, where the
-/// stimulus doesn't fit the diagram's columns.
-fn unsimulated(number: u32, fault: Fault) -> Result<Text, SampleFault>
-    requires few { number ≤ 5000 }
-    requires cause { IsSimulationFault (sample_model number) (sample_stimulus number) fault }
-    ensures made { IfOk result (IsSampleResponse number) }
-    ensures refused { IfErr result (IsSampleFault number) }
-{
-    fx_sample::models_stand();
-    match fault {
-        Fault::NotMdl { .. } => unreachable!(),
-        Fault::NotVerilog { .. } => unreachable!(),
-        Fault::Broken { .. } => unreachable!(),
-        Fault::BreaksRule { line } => Err(SampleFault::BreaksRule { line }),
-        Fault::BadTable { .. } => Ok(Text::new()),
-        Fault::OutOfMemory => Err(SampleFault::OutOfMemory),
-    }
-}
-
-/// The lines of the response of the diagram of a sample.
-fn lines_of(
-    alloc: Global,
-    checked: &Checked,
-    mut simulation: Simulation,
-) -> Result<Text, OutOfMemory>
-    requires before { IsBefore checked.now simulation.rows simulation.responding 0 }
-    requires wide { length (row_of simulation.responding) ≡ length (periods_of simulation.text) }
-    ensures { IfOk result (AreLines checked.now simulation.rows (periods_of simulation.text)
-        simulation.rows.lines) }
-{
-    let lines = simulation_text(
-        alloc,
-        checked,
-        &simulation.rows,
-        &mut simulation.responding,
-        &mut simulation.text,
-    );
-    drop(simulation);
-    lines
-}
-
 /// What the module of a sample is compared with: the response of its diagram, and no bytes where the
 /// stimulus doesn't fit the diagram's columns.
 fn sample_response(alloc: Global, checked: &Checked, number: u32) -> Result<Text, SampleFault>
@@ -141,10 +92,17 @@ fn sample_response(alloc: Global, checked: &Checked, number: u32) -> Result<Text
     let stimulus = stimulus_text(alloc, number)?;
     let simulation = match simulation_in(alloc, checked, stimulus.bytes()) {
         Ok(simulation) => simulation,
-        Err(fault) => return unsimulated(number, fault),
+        Err(TableFault::Bad { .. }) => {
+            drop(stimulus);
+            return Ok(Text::new());
+        }
+        Err(TableFault::OutOfMemory) => {
+            drop(stimulus);
+            return Err(SampleFault::OutOfMemory);
+        }
     };
     drop(stimulus);
-    let lines = lines_of(alloc, checked, simulation)?;
+    let lines = response_text(alloc, checked, simulation)?;
     Ok(lines)
 }
 

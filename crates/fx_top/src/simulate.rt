@@ -3,9 +3,10 @@ ghost use Rattle.fx_top.specs.Simulated.{IsSimulationOf};
 ghost use Rattle.fx_top.specs.inner.Refusing.{IsSimulationFault};
 ghost use Rattle.fx_top.specs.inner.Tasks.{IsDone};
 
-use crate::fault::Done;
-use crate::simulated::{simulation_of, write_simulation};
+use crate::fault::{Done, of_model, of_stimulus};
+use fx_designed::checked_of;
 use fx_io::Sink;
+use fx_simulated::{put_response, simulation_in};
 use std::alloc::Global;
 
 /// Puts the response of a model's diagram to a stimulus, a line per sample. All memory is taken before
@@ -15,8 +16,19 @@ pub fn simulate<K: Sink>(alloc: Global, model: &[u8], stimulus: &[u8], out: &mut
         (IsSimulationFault model.now stimulus.now)
         (stream_in K.taken K.faults out.old out.new) result }
 {
-    match simulation_of(alloc, model, stimulus) {
-        Ok(ready) => Ok(write_simulation(ready, out)),
-        Err(fault) => Err(fault),
+    let checked = match checked_of(alloc, model) {
+        Ok(checked) => checked,
+        Err(refusal) => return Err(of_model(refusal)),
+    };
+    match simulation_in(alloc, &checked, stimulus) {
+        Ok(simulation) => {
+            let put = put_response(&checked, simulation, out);
+            drop(checked);
+            Ok(put)
+        }
+        Err(fault) => {
+            drop(checked);
+            Err(of_stimulus(fault))
+        }
     }
 }

@@ -8,10 +8,10 @@ use crate::check::check;
 use crate::explore::explore;
 use crate::fault::{Done, answer_of};
 use crate::fetch::fetch_both;
-use crate::generate::generate;
+use crate::parts::put_design;
 use crate::replay::replay;
 use crate::simulate::simulate;
-use crate::stream::stream;
+use fx_generated::{streamed_of, verilog_of};
 use fx_io::{Shelf, Sink};
 use hw_explore::Range;
 use std::alloc::Global;
@@ -64,12 +64,12 @@ fn put_output<R: Threads + Sync, K: Sink>(
         (stream_in K.taken K.faults out.old out.new) result }
 {
     match task {
-        Task::Generate => generate(rt, alloc, first, second, out),
+        Task::Generate => put_design(rt, alloc, verilog_of(alloc, first, second), out),
         Task::Replay => replay(alloc, first, second, out),
         Task::Simulate => simulate(alloc, first, second, out),
         Task::Explore { range } => explore(rt, alloc, first, range, out),
         Task::Check => check(alloc, first, second, out),
-        Task::Stream => stream(rt, alloc, first, second, out),
+        Task::Stream => put_design(rt, alloc, streamed_of(alloc, first, second), out),
     }
 }
 

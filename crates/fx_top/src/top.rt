@@ -1,5 +1,5 @@
 ghost use Rattle.std.specs.Prelude.{◌≤◌, map, string_bytes};
-ghost use Rattle.fx_top.specs.Benched.{IsTold};
+ghost use Rattle.fx_replayed.specs.Benched.{IsTold};
 ghost use Rattle.fx_top.specs.Call.{files_in, stream_in};
 ghost use Rattle.fx_top.specs.Caused.{IsCarriedOut, Ends};
 ghost use Rattle.fx_top.specs.Command.{asked_of};
@@ -8,11 +8,11 @@ ghost use Rattle.fx_top.specs.Sampled.{HasSampleCause, HasSampleWritten, IfSampl
 ghost use Rattle.fx_top.specs.Summarized.{IsSummed};
 
 use crate::answer::Answer;
-use crate::bench::TrueBench;
 use crate::command::Command;
 use crate::sample::sample;
 use crate::task::over_files;
 use fx_io::{Shelf, Sink};
+use fx_replayed::TrueBench;
 use std::alloc::Global;
 use std::thread::Threads;
 

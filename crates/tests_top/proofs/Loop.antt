@@ -40,4 +40,4 @@ no-loop d n first others loop =
     let below : next < count = mod_below 1 count some in
     let goes_on = reads-are d _ _ (loop.reads next below) in
     let same : bytes_eq d.output register ≡ true = subst (λ (name : List ℕ). bytes_eq d.output name ≡ true) (goes_on.0 ∙ sym begins.1) n.y-y in
-    absurd (cc (same, n.y-register))
+    absurd (cc (same, n.register-y.1))

@@ -12,21 +12,18 @@ use Rattle.vl_ast.specs.declared.expressions.Expr.TheFolds.{para-Expr}
 abbrev pub register : List ℕ
 register = codes "fx_delay"
 
+-- two names are different, whichever is asked first
+abbrev pub AreApart : List ℕ → List ℕ → Type 0
+AreApart one other = (bytes_eq one other ≡ false) × (bytes_eq other one ≡ false)
+
 pub record AreDifferent (u y : List ℕ) : Type 0 where
-  pub clk-u : bytes_eq (codes "clk") u ≡ false
-  pub u-clk : bytes_eq u (codes "clk") ≡ false
-  pub reset-u : bytes_eq (codes "reset") u ≡ false
-  pub u-reset : bytes_eq u (codes "reset") ≡ false
-  pub register-u : bytes_eq register u ≡ false
-  pub u-register : bytes_eq u register ≡ false
-  pub clk-y : bytes_eq (codes "clk") y ≡ false
-  pub y-clk : bytes_eq y (codes "clk") ≡ false
-  pub reset-y : bytes_eq (codes "reset") y ≡ false
-  pub y-reset : bytes_eq y (codes "reset") ≡ false
-  pub register-y : bytes_eq register y ≡ false
-  pub y-register : bytes_eq y register ≡ false
-  pub u-y : bytes_eq u y ≡ false
-  pub y-u : bytes_eq y u ≡ false
+  pub clk-u : AreApart (codes "clk") u
+  pub reset-u : AreApart (codes "reset") u
+  pub register-u : AreApart register u
+  pub clk-y : AreApart (codes "clk") y
+  pub reset-y : AreApart (codes "reset") y
+  pub register-y : AreApart register y
+  pub u-y : AreApart u y
   pub u-u : bytes_eq u u ≡ true
   pub y-y : bytes_eq y y ≡ true
 

@@ -8,9 +8,9 @@ use Rattle.fx_top.specs.Answer.{status_of}
 use Rattle.fx_top.specs.Call.{Files, Stream, Said}
 use Rattle.fx_top.specs.Cause.{IsFetched}
 use Rattle.fx_top.specs.Caused.{Ends, HasCause, IsCarriedOut}
-use Rattle.fx_top.specs.Command.{Asked, Command, OfFiles, Generate, EmptyPlan, asked_of, files_of}
+use Rattle.fx_top.specs.Command.{Asked, Command, OfFiles, Generate, EmptyPlan, Named, asked_of, files_of}
 use Rattle.fx_top.specs.Messages.{usage_line, unread_line}
-use Rattle.fx_top.specs.Output.{IsOutput}
+use Rattle.fx_top.specs.Output.{IsOfFiles, IsOutput}
 
 -- a steady shelf that holds nothing, and fails where it is asked
 abbrev empty : Files
@@ -45,9 +45,9 @@ without-file file is = record {
 }
 
 -- a command over two files that were fetched, whose text was put whole: status 0
-pub done : (words : List (List ℕ)) (files : Files) (command : Command) (first second bytes numbers text : List ℕ) → asked_of words ≡ Some (OfFiles command) → files_of command ≡ first ∷ second ∷ []
-    → IsFetched files first bytes → IsFetched files second numbers → IsOutput command files.held text → Ends words files (took text) (took []) 0
-done words files command first second bytes numbers text asked are fetched given output =
+pub done : (IsMade : List ℕ → List ℕ → List ℕ → Type 0) (words : List (List ℕ)) (files : Files) (command : Command) (first second bytes numbers text : List ℕ) → asked_of words ≡ Some (OfFiles command) → files_of command ≡ first ∷ second ∷ []
+    → IsFetched files first bytes → IsFetched files second numbers → (IsOfFiles IsMade files.held first (Named second) text → IsOutput command files.held text) → IsMade bytes numbers text → Ends words files (took text) (took []) 0
+done IsMade words files command first second bytes numbers text asked are fetched given output made =
     let P : List ℕ → Type 0 = λ file. (found : List ℕ) × IsFetched files file found in
     record {
       answer = Done;
@@ -55,6 +55,6 @@ done words files command first second bytes numbers text asked are fetched given
       said = said [];
       carried_out = subst (λ (wanted : Option Asked). IsCarriedOut files (took text) wanted Done) (sym asked) (
         subst (λ (names : List (List ℕ)). All P names) (sym are) (All-cons P first (second ∷ []) (bytes, fetched) (All-cons P second [] (numbers, given) (All-nil P))),
-        record { text = text; output = output; taken = refl },
+        record { text = text; output = output (record { first_bytes = bytes; second_bytes = numbers; fetched = fetched; says = given; made = made }); taken = refl },
       );
     }

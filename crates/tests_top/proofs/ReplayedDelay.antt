@@ -20,7 +20,7 @@ use Rattle.fx_tables.specs.Response.{response}
 use Rattle.vl_replay.specs.Sampled.{AreReplayed, Sampled, hit_at, numbers_of, window_of}
 use Rattle.vl_ast.specs.Header.{output_port}
 use Rattle.tests_top.proofs.DelayModule.{byte_port}
-use Rattle.fx_top.specs.Replayed.{AreRowsFor, IsReplayOf, IsSoundText}
+use Rattle.fx_replayed.specs.Replayed.{AreRowsFor, IsReplayOf, IsSoundText}
 use Rattle.fx_top.specs.Call.{Files, file_limit}
 use Rattle.fx_top.specs.Caused.{Ends}
 use Rattle.fx_top.specs.Command.{Replay}
@@ -38,11 +38,11 @@ verilog_text = codes "(* fx_cycles = 1 *)\nmodule fx_model (\n  input wire clk,\
 abbrev pub stimulus_text : List ℕ
 stimulus_text = codes "5\n-1\n127\n"
 
-abbrev pub response_text : List ℕ
-response_text = codes "3\n5\n-1\n"
-
 abbrev pub numbers : Table
 numbers = record { lines = 3; columns = 1; cells = pos 5 ∷ negsuc 0 ∷ pos 127 ∷ []; full = refl }
+
+abbrev pub response_text : List ℕ
+response_text = codes "3\n5\n-1\n"
 
 abbrev table : Sample → List ℤ
 table zero = pos 3 ∷ []
@@ -52,24 +52,7 @@ table (suc (suc t)) = negsuc 0 ∷ []
 -- ---- the text spells the module, which breaks no condition
 
 pub different : AreDifferent (codes "u") (codes "y")
-different = record {
-  clk-u = refl;
-  u-clk = refl;
-  reset-u = refl;
-  u-reset = refl;
-  register-u = refl;
-  u-register = refl;
-  clk-y = refl;
-  y-clk = refl;
-  reset-y = refl;
-  y-reset = refl;
-  register-y = refl;
-  y-register = refl;
-  u-y = refl;
-  y-u = refl;
-  u-u = refl;
-  y-y = refl;
-}
+different = record { clk-u = (refl, refl); reset-u = (refl, refl); register-u = (refl, refl); clk-y = (refl, refl); reset-y = (refl, refl); register-y = (refl, refl); u-y = (refl, refl); u-u = refl; y-y = refl }
 
 text-name : (name : List ℕ) → expr_text (Name name) ≡ name
 text-name name = ap expr_text (sym (rolls-Name name)) ∙ fold-roll-Expr (List ℕ) expr_step (Expr-F.Name name)
@@ -209,10 +192,8 @@ fetched bytes within = record { within = within; held = λ entry is. let same : 
 
 replayed-delay : Ends (codes "replay" ∷ codes "v" ∷ codes "s" ∷ []) (both (codes "v") verilog_text) (took response_text) (took []) 0
 replayed-delay =
-    let verilog = fetched verilog_text (omega arith) in
-    let stimulus = fetched stimulus_text (omega arith) in
-    done (codes "replay" ∷ codes "v" ∷ codes "s" ∷ []) (both (codes "v") verilog_text) (Replay (codes "v") (codes "s")) (codes "v") (codes "s") verilog_text stimulus_text response_text refl refl verilog stimulus
-    (record { verilog_bytes = verilog_text; stimulus_bytes = stimulus_text; verilog_fetched = verilog; stimulus_fetched = stimulus; replay = is-replay })
+    done IsReplayOf (codes "replay" ∷ codes "v" ∷ codes "s" ∷ []) (both (codes "v") verilog_text) (Replay (codes "v") (codes "s")) (codes "v") (codes "s") verilog_text stimulus_text response_text refl refl
+    (fetched verilog_text (omega arith)) (fetched stimulus_text (omega arith)) (λ output. output) is-replay
 
 -- and it owes that status, but for want of memory
 owes-replay : (status : ℕ) → IsComplete (both (codes "v") verilog_text) (took response_text) (Replay (codes "v") (codes "s")) status → Contains (0 ∷ 1 ∷ []) status

@@ -21,7 +21,8 @@ use Rattle.fx_type.specs.Conversion.{Stores}
 use Rattle.fx_model.specs.Model.{IsDiagramOf, IsModelOf}
 use Rattle.fx_top.specs.Command.{Simulate}
 use Rattle.fx_top.specs.Caused.{Ends}
-use Rattle.fx_top.specs.Simulated.{IsSimulationOf, output_periods}
+use Rattle.fx_simulated.specs.Simulating.{output_periods}
+use Rattle.fx_top.specs.Simulated.{IsSimulationOf}
 use Rattle.tests_top.proofs.DelayDiagram.{attributes, attributes-are, wired, checked}
 use Rattle.tests_premises.specs.Whole.{int8}
 use Rattle.tests_top.proofs.DelayModel.{diagram, enables, inport, is-flat, is-nested, model_text, nested, stands, tree, wiring}
@@ -133,7 +134,5 @@ is-simulation = record { diagram = diagram; accepted = is-model; rows = numbers;
 
 simulated-delay : Ends (codes "simulate" ∷ codes "m" ∷ codes "s" ∷ []) (both (codes "m") model_text) (took response_text) (took []) 0
 simulated-delay =
-    let model = fetched model_text (omega arith) in
-    let stimulus = fetched stimulus_text (omega arith) in
-    done (codes "simulate" ∷ codes "m" ∷ codes "s" ∷ []) (both (codes "m") model_text) (Simulate (codes "m") (codes "s")) (codes "m") (codes "s") model_text stimulus_text response_text refl refl model stimulus
-    (record { model_bytes = model_text; stimulus_bytes = stimulus_text; model_fetched = model; stimulus_fetched = stimulus; simulation = is-simulation })
+    done IsSimulationOf (codes "simulate" ∷ codes "m" ∷ codes "s" ∷ []) (both (codes "m") model_text) (Simulate (codes "m") (codes "s")) (codes "m") (codes "s") model_text stimulus_text response_text refl refl
+    (fetched model_text (omega arith)) (fetched stimulus_text (omega arith)) (λ output. output) is-simulation

@@ -80,6 +80,13 @@ fn answer_of(alloc: Global, status: u8, out: &[u8], err: &[u8]) -> Result<Answer
     Ok(Answer { status, out, err })
 }
 
+/// A file by its name.
+#[derive(Drop)]
+pub struct Held {
+    pub name: String,
+    pub bytes: Vec<u8>,
+}
+
 /// A shelf of the files.
 fn shelf_of(alloc: Global, case: &Case) -> Result<MemShelf> {
     let mut shelf = MemShelf::new(alloc, case.fetches.as_slice())?;

@@ -1,23 +1,16 @@
 //! What a call finds.
 
-use crate::calls::{Answer, answered, benched};
+use crate::calls::{Answer, Held, answered, benched};
 use crate::ends::put_ends;
 use crate::plans::{FEW, WHOLE, put_explored};
 use crate::samples::{put_sample, put_summary};
 use crate::wires::put_wires;
-use anyhow::{Error, Result};
+use anyhow::Result;
 use fx_sample::plan_text;
 use std::alloc::Global;
 use std::io::Write;
 use std::thread::Threads;
 use tests_rows::{Answers, Line, Row, found, written};
-
-/// A file by its name.
-#[derive(Drop)]
-pub struct Held {
-    pub name: String,
-    pub bytes: Vec<u8>,
-}
 
 /// The files, and what fails at the next call.
 #[derive(Drop)]
@@ -69,26 +62,35 @@ impl Case {
         self.takes = None;
     }
 
-    /// Puts in the file of a name and these bytes, which hold from here on.
-    fn put(&mut self, alloc: Global, name: &str, bytes: &[u8]) -> Result<()> {
+    /// Puts in the file of a name, which holds from here on: so many bytes 0, or the row's text.
+    fn put(&mut self, alloc: Global, row: &mut Row<'_>, zeros: bool) -> Result<()> {
+        let name = row.next()?;
+        let bytes = if zeros {
+            let count = row.number()? as usize;
+            std::vec![in alloc; 0u8; count]?
+        } else {
+            row.text.as_slice().to_vec(alloc)?
+        };
         let name = String::from_str(alloc, name)?;
-        let bytes = bytes.to_vec(alloc)?;
         self.files.push(Held { name, bytes })?;
         Ok(())
-    }
-
-    /// The same of so many bytes 0.
-    fn put_zeros(&mut self, alloc: Global, row: &mut Row<'_>) -> Result<()> {
-        let name = row.next()?;
-        let count = row.number()? as usize;
-        let bytes = std::vec![in alloc; 0u8; count]?;
-        self.put(alloc, name, bytes.as_slice())
     }
 
     /// Standard output takes nothing at the next call, and standard error fails.
     fn stop(&mut self) -> Result<()> {
         self.takes = Some(0);
         self.failing.push(1)?;
+        Ok(())
+    }
+
+    /// The put, or the fetch, of this number fails at the next call.
+    fn fail(&mut self, row: &mut Row<'_>, puts: bool) -> Result<()> {
+        let number = row.long()?;
+        if puts {
+            self.puts.push(number)?;
+        } else {
+            self.fetches.push(number)?;
+        }
         Ok(())
     }
 
@@ -99,12 +101,6 @@ impl Case {
     }
 }
 
-/// Puts the number of a row behind others.
-fn push(numbers: &mut Vec<u64>, row: &mut Row<'_>) -> Result<()> {
-    numbers.push(row.long()?)?;
-    Ok(())
-}
-
 impl Answers for Case {
     fn take<R: Threads + Sync, W: Write>(&mut self, line: &Line<'_, R>, out: &mut W) -> Result<()> {
         let (rt, alloc) = (line.rt, line.alloc);
@@ -113,7 +109,10 @@ impl Answers for Case {
         };
         writeln!(out, "{}", line.text)?;
         match call {
-            Call::Bench => put_benched(rt, alloc, rest, out),
+            Call::Bench => {
+                let answer = benched(rt, alloc, rest.as_bytes())?;
+                put_answer(&answer, out)
+            }
             Call::Run => self.run(rt, alloc, rest, out),
             Call::Ends => put_ends(rt, alloc, self, rest, out),
         }
@@ -123,6 +122,7 @@ impl Answers for Case {
 /// What a line calls.
 #[derive(Clone, Copy)]
 enum Call {
+    /// `sample 1`, by a bench that tells what stands behind.
     Bench,
     Run,
     Ends,
@@ -145,48 +145,34 @@ fn called<'a>(line: &'a str) -> Option<(Call, &'a str)> {
     None
 }
 
-/// Writes what `sample 1` answers by a bench that tells this.
-fn put_benched<R: Threads + Sync, W: Write>(
-    rt: &R,
-    alloc: Global,
-    tells: &str,
-    out: &mut W,
-) -> Result<()> {
-    let answer = benched(rt, alloc, tells.as_bytes())?;
-    put_answer(&answer, out)
-}
-
 /// What a row asks for, or says.
 #[derive(Clone, Copy)]
 enum Command {
     Explored,
     ExploredFew,
-    Met,
-    Wires,
+    Wires { meets: bool },
     Sample,
     SamplePlan,
     Summary,
-    File,
-    Zeros,
+    File { zeros: bool },
     Stuck,
-    Fetch,
-    Put,
+    Fault { puts: bool },
     Piece,
 }
 
 const COMMANDS: &[(&str, Command)] = &[
     ("explored", Command::Explored),
     ("explored_few", Command::ExploredFew),
-    ("met", Command::Met),
-    ("wires", Command::Wires),
+    ("met", Command::Wires { meets: true }),
+    ("wires", Command::Wires { meets: false }),
     ("sample", Command::Sample),
     ("sample_plan", Command::SamplePlan),
     ("summary", Command::Summary),
-    ("file", Command::File),
-    ("zeros", Command::Zeros),
+    ("file", Command::File { zeros: false }),
+    ("zeros", Command::File { zeros: true }),
     ("stuck", Command::Stuck),
-    ("fetch", Command::Fetch),
-    ("put", Command::Put),
+    ("fetch", Command::Fault { puts: false }),
+    ("put", Command::Fault { puts: true }),
     ("piece", Command::Piece),
 ];
 
@@ -201,16 +187,13 @@ fn put_row<R: Threads + Sync, W: Write>(
     match found(row.command, COMMANDS)? {
         Command::Explored => put_explored(rt, alloc, row.text.as_slice(), WHOLE, out),
         Command::ExploredFew => put_explored(rt, alloc, row.text.as_slice(), FEW, out),
-        Command::Met => put_wires(rt, alloc, row, true, out),
-        Command::Wires => put_wires(rt, alloc, row, false, out),
+        Command::Wires { meets } => put_wires(rt, alloc, row, meets, out),
         Command::Sample => put_sample(alloc, row, out),
         Command::SamplePlan => written(out.write_all(plan_text())),
         Command::Summary => put_summary(alloc, row.text.as_slice(), out),
-        Command::File => case.put(alloc, row.next()?, row.text.as_slice()),
-        Command::Zeros => case.put_zeros(alloc, row),
+        Command::File { zeros } => case.put(alloc, row, zeros),
         Command::Stuck => case.stop(),
-        Command::Fetch => push(&mut case.fetches, row),
-        Command::Put => push(&mut case.puts, row),
+        Command::Fault { puts } => case.fail(row, puts),
         Command::Piece => case.narrow(row),
     }
 }

@@ -71,17 +71,8 @@ fn texts_as_expected<R: Threads + Sync>(rt: &R, alloc: Global, count: u32) -> Re
     let module = module_of(alloc, count)?;
     let mut expected = String::new(alloc);
     put_text(&mut expected, count)?;
-    texts_like(rt, alloc, &module, expected.as_bytes())
-}
-
-fn texts_like<R: Threads + Sync>(
-    rt: &R,
-    alloc: Global,
-    module: &Module,
-    expected: &[u8],
-) -> Result<u32> {
     for texts in 0..TEXTS {
-        if !is_written(rt, alloc, module, expected)? {
+        if !is_written(rt, alloc, &module, expected.as_bytes())? {
             return Ok(texts);
         }
     }

@@ -4,6 +4,7 @@ use Rattle.dg_model.specs.declared.diagram.Diagram.{Diagram}
 use Rattle.dg_model.specs.declared.fault.RuleFault.{RuleFault}
 use Rattle.dg_model.specs.declared.plan.Plan.{Plan}
 use Rattle.dg_model.specs.PlanOf.{IsPlanOf}
+use Rattle.dg_model.specs.PlanRange.{IsPlanInRange}
 use Rattle.fx_designed.specs.declared.designing.DesignFault.{DesignFault}
 use Rattle.fx_designed.specs.declared.designing.DesignFault.TheVariants as design
 use Rattle.fx_designed.specs.declared.refusal.ModelRefusal.{ModelRefusal}
@@ -13,7 +14,7 @@ use Rattle.fx_model.specs.declared.accepting.ModelFault.{ModelFault}
 use Rattle.fx_model.specs.declared.accepting.ModelFault.TheVariants as model
 use Rattle.fx_model.specs.RuleLine.{rule_line}
 use Rattle.fx_tables.specs.declared.table.TableFault.TheVariants.{Bad}
-use Rattle.fx_tables.specs.Plan.{IsPlanFault}
+use Rattle.fx_tables.specs.Plan.{IsPlan, IsPlanFault}
 use Rattle.hw_rules.specs.declared.planned.Planned.{Planned}
 use Rattle.hw_rules.specs.Times.{ArePlanned}
 
@@ -40,6 +41,11 @@ IsRefusedPlan diagram plan (design.NotMdl line) = ⊥
 IsRefusedPlan diagram plan (design.BreaksRule line) = TellsOnDiagram diagram plan line
 IsRefusedPlan diagram plan (design.BadPlan line cause) = ⊥
 IsRefusedPlan diagram plan design.OutOfMemory = ⊤
+
+-- the plan that a text says, which is in range
+pub record IsPlanSaid (text : List ℕ) (plan : Plan) : Type 0 where
+  pub says : IsPlan text plan
+  pub in_range : IsPlanInRange plan
 
 -- the plan's numbers and times on a diagram
 pub record IsPlannedSo (diagram : Diagram) (plan : Plan) (planned : Planned) : Type 0 where

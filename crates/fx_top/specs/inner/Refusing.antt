@@ -10,9 +10,9 @@ use Rattle.fx_top.specs.declared.answer.Answer.{Answer}
 use Rattle.fx_top.specs.declared.answer.Answer.TheVariants.{Done, OutOfMemory, CannotWrite, NotMdl, BadTable, BreaksRule, NotVerilog, Broken}
 use Rattle.fx_top.specs.declared.fault.Fault.{Fault}
 use Rattle.fx_top.specs.declared.fault.Fault.TheVariants as fault
-use Rattle.fx_top.specs.Replayed.{IsBadStimulus, IsBroken, IsNotVerilog}
+use Rattle.fx_replayed.specs.Replayed.{IsBadStimulus, IsBroken, IsNotVerilog}
 use Rattle.fx_top.specs.Simulated.{IsBadSimulation}
-use Rattle.fx_top.specs.Streamed.{TellsStreamRule}
+use Rattle.fx_generated.specs.Streamed.{TellsStreamRule}
 
 -- of a model, by what a broken rule says and what a bad line
 abbrev pub OfModel : List ℕ → (List ℕ → Type 0) → (ℕ → TableCause → Type 0) → Fault → Type 0

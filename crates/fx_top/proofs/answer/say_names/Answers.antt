@@ -1,8 +1,9 @@
-use Rattle.std.proofs.Common.{◌∷◌, ℕ, List, [], take, take_all, ap, sym, subst, ◌∙◌}
+use Rattle.std.proofs.Common.{◌∷◌, ℕ, List, [], take, take_all, ap, subst, ◌∙◌}
 use Rattle.std.specs.List.{flat_map}
 use Rattle.fx_io.specs.Sink.{TookProperPrefix, also_took}
 use Rattle.fx_top.specs.Messages.{names_end}
-use Rattle.fx_top.proofs.Sayings.{names-split, said-cut, said-more, took-more}
+use Rattle.fx_io.proofs.Taken.{took-split}
+use Rattle.fx_top.proofs.Sayings.{names-split, said-cut, said-more}
 use Rattle.fx_top.proofs.answer.say_names.Goals as goal
 
 pub returns-in-Err-clause-said : goal.returns-in-Err-clause-said
@@ -10,11 +11,9 @@ returns-in-Err-clause-said g c =
     let told = g.E.Sink.taken c.args.err.now in
     let mid = g.E.Sink.taken c.loop-name.err in
     let now = g.E.Sink.taken c.put_two.new.err in
-    let split = names-split c.args.names.now c.loop-name.name-index c.name-item.result c.loop-name-test.true c.name-item.is in
     let cut = subst (λ (n : List ℕ). TookProperPrefix mid now (32 ∷ n)) c.bytes.ensures c.in-Err.ensures.cut in
     said-cut told now (g.E.Sink.faults c.args.err.now) (g.E.Sink.faults c.loop-name.err) (g.E.Sink.faults c.put_two.new.err) (names_end c.args.names.now) c.loop-name.invariant.later c.in-Err.ensures.cause
-    (subst (λ (bytes : List ℕ). TookProperPrefix told now bytes) (sym split.1)
-    (took-more told mid now (flat_map (λ (name : List ℕ). 32 ∷ name) (take c.loop-name.name-index c.args.names.now)) (32 ∷ c.name-item.result) split.0 c.loop-name.invariant.taken cut))
+    (took-split told mid now (flat_map (λ (name : List ℕ). 32 ∷ name) (take c.loop-name.name-index c.args.names.now)) (32 ∷ c.name-item.result) (names-split c.args.names.now c.loop-name.name-index c.name-item.result c.loop-name-test.true c.name-item.is) c.loop-name.invariant.taken cut)
 
 pub returns-clause-said : goal.returns-clause-said
 returns-clause-said g c =

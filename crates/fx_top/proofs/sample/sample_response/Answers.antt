@@ -1,14 +1,14 @@
-use Rattle.std.proofs.Common.{ℕ, List, inl, ◌∙◌, subst}
+use Rattle.std.proofs.Common.{ℕ, List, inl, inr, ◌∙◌, subst}
 use Rattle.fx_sample.specs.ModelText.{sample_model}
 use Rattle.fx_sample.specs.Stimulus.{sample_stimulus}
-use Rattle.fx_top.specs.inner.Simulating.{IsSimulationIn}
-use Rattle.fx_top.proofs.Samples.{refuses-sample}
+use Rattle.fx_simulated.specs.Simulating.{IsSimulationIn}
+use Rattle.fx_top.proofs.Samples.{unfit}
 use Rattle.fx_top.proofs.Simulations.{is-simulation}
 use Rattle.fx_top.proofs.sample.sample_response.Goals as goal
 
-pub unsimulated-requires-clause-cause : goal.unsimulated-requires-clause-cause
-unsimulated-requires-clause-cause c =
-    refuses-sample c.args.checked.now.diagram (sample_model c.args.number) (sample_stimulus c.args.number) c.bytes.result.now c.in-Err.fault c.requires.model (c.bytes.ensures ∙ c.in_ok-stimulus.ensures) c.in-Err.ensures.refused
+pub returns-in-Err-Bad-clause-made : goal.returns-in-Err-Bad-clause-made
+returns-in-Err-Bad-clause-made c =
+    inr (unfit c.args.number c.in-Err-Bad.field-0-0 c.in-Err-Bad.field-0-1 c.args.checked.now.diagram c.bytes.result.now _ c.requires.model (c.bytes.ensures ∙ c.in_ok-stimulus.ensures) c.in-Err-Bad.field-0-is c.in-Err-Bad.ensures.refused, c.new.ensures)
 
 pub returns-clause-made : goal.returns-clause-made
 returns-clause-made c =

@@ -1,0 +1,5 @@
+pub mod Generated
+pub mod Generating
+pub mod Streamed
+pub mod Streaming
+pub mod inner

@@ -1,0 +1,3 @@
+pub mod Replayed
+pub mod Responses
+pub mod Unreplayed

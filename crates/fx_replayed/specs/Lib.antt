@@ -1,0 +1,4 @@
+pub mod Benched
+pub mod Replayed
+pub mod Responding
+pub mod inner

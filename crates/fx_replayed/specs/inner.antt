@@ -1,0 +1,2 @@
+pub mod Benching
+pub mod Machines

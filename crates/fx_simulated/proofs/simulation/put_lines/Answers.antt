@@ -1,0 +1,15 @@
+use Rattle.std.proofs.Common.{◌<◌, ℤ, List, sym, subst, arith}
+use Rattle.dg_response.specs.Responding.{IsRowAt}
+use Rattle.fx_tables.specs.RowText.{periods_of}
+use Rattle.fx_simulated.proofs.Simulations.{took_part_of_line}
+use Rattle.fx_simulated.proofs.simulation.put_lines.Goals as goal
+
+pub returns-in-Err-clause-cut : goal.returns-in-Err-clause-cut
+returns-in-Err-clause-cut g c =
+    let checked = c.args.checked.now in
+    let rows = c.args.rows.now in
+    let t = c.loop-sample.sample in
+    let below : t < rows.lines = omega (arith, c.loop-sample-test.true, c.count-sample-end.ensures) in
+    let at = subst (λ (numbers : List ℤ). IsRowAt checked rows t numbers) (sym c.row.ensures) c.step.ensures.row in
+    took_part_of_line checked rows (periods_of c.args.text.now) t (periods_of c.loop-sample.text) c.row.result.now c.line.result.now
+    (g.K.Sink.taken c.args.out.now) (g.K.Sink.taken c.loop-sample.out) (g.K.Sink.taken c.put_all.new.sink) c.loop-sample.invariant.periods at c.line.ensures.line below c.loop-sample.invariant.taken c.in-Err.ensures.cut
