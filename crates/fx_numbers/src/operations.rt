@@ -4,10 +4,11 @@ ghost use Rattle.fx_type.specs.FxType.{IsType, InRange};
 ghost use Rattle.dg_model.specs.Operation.{HasArity, HasSigns, HasParameters, HasResultType, HasFullType};
 
 use crate::nets::{Answer, answered};
-use crate::words::{CRITERIA, End, GATES, Operand, RELATIONS, minus, read_end, read_operand};
+use crate::words::{End, Operand, known, read_end, read_operand, read_term};
 use anyhow::{Error, Result};
-use dg_model::{Gate, Op, OpCall};
+use dg_model::{Criterion, Gate, Op, OpCall};
 use fx_type::{FxType, Rounding, TooWide, full_product, full_sum, union};
+use mdl_values::{read_gate, read_relation};
 use std::alloc::Global;
 use tests_rows::Row;
 
@@ -42,8 +43,7 @@ pub fn carried_out(alloc: Global, operation: Operation, words: &mut Row<'_>) -> 
 
 /// An operation of one input.
 fn of_one(alloc: Global, op: Op, signs: &[bool], a: Operand, end: End) -> Result<Answer>
-    requires a_valid { IsType a.kind }
-    requires a_in_range { InRange a.kind a.value }
+    requires a { IsType a.kind × InRange a.kind a.value }
     requires end_valid { IsType end.kind }
     requires arity { HasArity op 1 }
     requires signs { HasSigns op signs.now 1 }
@@ -64,10 +64,8 @@ fn of_one(alloc: Global, op: Op, signs: &[bool], a: Operand, end: End) -> Result
 
 /// An operation of two inputs.
 fn of_two(alloc: Global, op: Op, signs: &[bool], a: Operand, b: Operand, end: End) -> Result<Answer>
-    requires a_valid { IsType a.kind }
-    requires a_in_range { InRange a.kind a.value }
-    requires b_valid { IsType b.kind }
-    requires b_in_range { InRange b.kind b.value }
+    requires a { IsType a.kind × InRange a.kind a.value }
+    requires b { IsType b.kind × InRange b.kind b.value }
     requires end_valid { IsType end.kind }
     requires arity { HasArity op 2 }
     requires signs { HasSigns op signs.now 2 }
@@ -96,12 +94,9 @@ fn of_three(
     c: Operand,
     end: End,
 ) -> Result<Answer>
-    requires a_valid { IsType a.kind }
-    requires a_in_range { InRange a.kind a.value }
-    requires b_valid { IsType b.kind }
-    requires b_in_range { InRange b.kind b.value }
-    requires c_valid { IsType c.kind }
-    requires c_in_range { InRange c.kind c.value }
+    requires a { IsType a.kind × InRange a.kind a.value }
+    requires b { IsType b.kind × InRange b.kind b.value }
+    requires c { IsType c.kind × InRange c.kind c.value }
     requires end_valid { IsType end.kind }
     requires arity { HasArity op 3 }
     requires signs { HasSigns op signs.now 3 }
@@ -137,8 +132,7 @@ fn sum(alloc: Global, words: &mut Row<'_>) -> Result<Answer> {
 }
 
 fn sum_of_one(alloc: Global, words: &mut Row<'_>) -> Result<Answer> {
-    let p = minus(words)?;
-    let a = read_operand(words)?;
+    let (p, a) = read_term(words)?;
     let end = read_end(words)?;
     match full_sum(&[(p, a.kind)]) {
         Ok(_full) => of_one(alloc, Op::Sum, &[p], a, end),
@@ -147,10 +141,8 @@ fn sum_of_one(alloc: Global, words: &mut Row<'_>) -> Result<Answer> {
 }
 
 fn sum_of_two(alloc: Global, words: &mut Row<'_>) -> Result<Answer> {
-    let p = minus(words)?;
-    let a = read_operand(words)?;
-    let q = minus(words)?;
-    let b = read_operand(words)?;
+    let (p, a) = read_term(words)?;
+    let (q, b) = read_term(words)?;
     let end = read_end(words)?;
     match full_sum(&[(p, a.kind), (q, b.kind)]) {
         Ok(_full) => of_two(alloc, Op::Sum, &[p, q], a, b, end),
@@ -159,12 +151,9 @@ fn sum_of_two(alloc: Global, words: &mut Row<'_>) -> Result<Answer> {
 }
 
 fn sum_of_three(alloc: Global, words: &mut Row<'_>) -> Result<Answer> {
-    let p = minus(words)?;
-    let a = read_operand(words)?;
-    let q = minus(words)?;
-    let b = read_operand(words)?;
-    let r = minus(words)?;
-    let c = read_operand(words)?;
+    let (p, a) = read_term(words)?;
+    let (q, b) = read_term(words)?;
+    let (r, c) = read_term(words)?;
     let end = read_end(words)?;
     match full_sum(&[(p, a.kind), (q, b.kind), (r, c.kind)]) {
         Ok(_full) => of_three(alloc, Op::Sum, &[p, q, r], a, b, c, end),
@@ -174,16 +163,13 @@ fn sum_of_three(alloc: Global, words: &mut Row<'_>) -> Result<Answer> {
 
 fn gain(alloc: Global, words: &mut Row<'_>) -> Result<Answer> {
     let a = read_operand(words)?;
-    let factor = read_operand(words)?;
+    let Operand {
+        kind: param,
+        value: coefficient,
+    } = read_operand(words)?;
     let end = read_end(words)?;
-    match full_product(a.kind, factor.kind) {
-        Ok(_full) => {
-            let op = Op::Gain {
-                coefficient: factor.value,
-                param: factor.kind,
-            };
-            of_one(alloc, op, &[], a, end)
-        }
+    match full_product(a.kind, param) {
+        Ok(_full) => of_one(alloc, Op::Gain { coefficient, param }, &[], a, end),
         Err(TooWide) => Err(Error::msg("too wide")),
     }
 }
@@ -202,7 +188,11 @@ fn switch(alloc: Global, words: &mut Row<'_>) -> Result<Answer> {
     let a = read_operand(words)?;
     let control = read_operand(words)?;
     let c = read_operand(words)?;
-    let criterion = words.one_of(CRITERIA)?;
+    let criterion = words.one_of(&[
+        (">=", Criterion::AtLeast),
+        (">", Criterion::Above),
+        ("~=0", Criterion::NotZero),
+    ])?;
     let threshold = threshold(words, control.kind)?;
     let end = read_end(words)?;
     let op = Op::Switch {
@@ -227,7 +217,7 @@ fn threshold(words: &mut Row<'_>, kind: FxType) -> Result<i128>
 
 fn relational(alloc: Global, words: &mut Row<'_>) -> Result<Answer> {
     let a = read_operand(words)?;
-    let operator = words.one_of(RELATIONS)?;
+    let operator = known(read_relation(words.next()?.as_bytes()))?;
     let b = read_operand(words)?;
     match union(a.kind, b.kind) {
         Ok(_union) => of_two(alloc, Op::Relational { operator }, &[], a, b, TRUTH),
@@ -236,7 +226,7 @@ fn relational(alloc: Global, words: &mut Row<'_>) -> Result<Answer> {
 }
 
 fn logic(alloc: Global, words: &mut Row<'_>) -> Result<Answer> {
-    let operator = words.one_of(GATES)?;
+    let operator = known(read_gate(words.next()?.as_bytes()))?;
     match words.byte()? {
         1 => inverted(alloc, words, operator),
         2 => logic_of_two(alloc, words, operator),

@@ -3,8 +3,8 @@ ghost use Rattle.std.specs.Prelude.{IfOk};
 ghost use Rattle.fx_type.specs.FxType.{IsType, InRange};
 
 use anyhow::{Error, Result};
-use dg_model::{Criterion, Gate, Relation};
 use fx_type::{FxType, Rounding};
+use mdl_values::read_rounding;
 use tests_rows::Row;
 
 /// A stored integer and its type.
@@ -22,13 +22,6 @@ pub struct End {
     pub saturate: bool,
 }
 
-fn frac(words: &mut Row<'_>) -> Result<i16> {
-    match words.next()?.parse::<i16>() {
-        Ok(v) => Ok(v),
-        Err(_) => Err(Error::msg("no frac")),
-    }
-}
-
 /// Whether a sign is a minus.
 pub fn minus(words: &mut Row<'_>) -> Result<bool> {
     words.one_of(&[("+", false), ("-", true)])
@@ -42,7 +35,7 @@ fn any_type(words: &mut Row<'_>) -> Result<FxType> {
         _ => return Err(Error::msg("no type")),
     };
     let width = words.byte()?;
-    let frac = frac(words)?;
+    let frac = words.next()?.parse::<i16>()?;
     Ok(FxType::Num {
         signed,
         width,
@@ -71,11 +64,20 @@ pub fn read_operand(words: &mut Row<'_>) -> Result<Operand>
     in_type(kind, value)
 }
 
+/// An operand behind its sign; true where it is subtracted.
+pub fn read_term(words: &mut Row<'_>) -> Result<(bool, Operand)>
+    ensures { IfOk result (λ term. IsType term.1.kind × InRange term.1.kind term.1.value) }
+{
+    let subtracted = minus(words)?;
+    let operand = read_operand(words)?;
+    Ok((subtracted, operand))
+}
+
 pub fn read_end(words: &mut Row<'_>) -> Result<End>
     ensures { IfOk result (λ end. IsType end.kind) }
 {
     let kind = valid_type(words)?;
-    let rounding = words.one_of(ROUNDINGS)?;
+    let rounding = known(read_rounding(words.next()?.as_bytes()))?;
     let saturate = words.one_of(&[("on", true), ("off", false)])?;
     Ok(End {
         kind,
@@ -84,39 +86,13 @@ pub fn read_end(words: &mut Row<'_>) -> Result<End>
     })
 }
 
-const ROUNDINGS: &[(&str, Rounding)] = &[
-    ("Floor", Rounding::Floor),
-    ("Ceiling", Rounding::Ceiling),
-    ("Zero", Rounding::Zero),
-    ("Nearest", Rounding::Nearest),
-    ("Round", Rounding::Round),
-    ("Convergent", Rounding::Convergent),
-];
-
-pub const CRITERIA: &[(&str, Criterion)] = &[
-    (">=", Criterion::AtLeast),
-    (">", Criterion::Above),
-    ("~=0", Criterion::NotZero),
-];
-
-pub const RELATIONS: &[(&str, Relation)] = &[
-    ("==", Relation::Eq),
-    ("~=", Relation::Ne),
-    ("<", Relation::Lt),
-    ("<=", Relation::Le),
-    (">=", Relation::Ge),
-    (">", Relation::Gt),
-];
-
-pub const GATES: &[(&str, Gate)] = &[
-    ("AND", Gate::And),
-    ("OR", Gate::Or),
-    ("NAND", Gate::Nand),
-    ("NOR", Gate::Nor),
-    ("XOR", Gate::Xor),
-    ("NXOR", Gate::Nxor),
-    ("NOT", Gate::Not),
-];
+/// What a word stands for, where it stands for anything.
+pub fn known<T: Copy>(read: Option<T>) -> Result<T> {
+    match read {
+        Some(value) => Ok(value),
+        None => Err(Error::msg("no such word")),
+    }
+}
 
 /// The number of a type, where it is in range.
 pub fn in_type(kind: FxType, value: i128) -> Result<Operand>

@@ -1,97 +1,111 @@
 //! What is told of a model and a plan.
-ghost use Rattle.std.specs.Prelude.{◌≡◌, length};
-ghost use Rattle.dg_model.specs.PlanRange.{IsPlanInRange};
+ghost use Rattle.std.specs.Prelude.{◌≡◌, IfSome, length};
+ghost use Rattle.hw_latency.specs.Latency.{AreLatencies};
 ghost use Rattle.dg_model.specs.PlanOf.{IsPlanOf};
 
-use crate::faults::{put_fault, put_model_fault, put_path};
-use crate::schedules::put_schedule;
-use anyhow::{Error, Result};
-use dg_model::{Block, CheckFault, Checked, Plan, Resolved, Rule, Shown};
+use crate::comparing::put_fault;
+use crate::schedules::{put_path, put_slots};
+use anyhow::Result;
+use dg_model::{Block, Checked, Resolved};
 use dg_rules::resolve;
+use fx_designed::{checked_of, designed_of};
 use fx_io::Longs;
-use fx_model::{ModelFault, accept};
-use fx_tables::{TableFault, read_plan};
-use hw_latency::{Latencies, LatencyFault, latencies_of};
-use hw_sched::depths;
+use fx_tables::read_plan;
+use hw_latency::{Latencies, latencies_of};
+use hw_sched::{Sizing, depths, slots_of};
 use std::alloc::Global;
 use std::io::Write;
 use tests_rows::written;
 
+/// Tells the schedule as far as there is one, and then its size, or what the model and the plan lack.
 pub fn answer<W: Write>(alloc: Global, model: &[u8], plan: &[u8], out: &mut W) -> Result<()> {
-    match accept(alloc, model) {
+    put_found(alloc, model, plan, out)?;
+    match designed_of(alloc, model, plan) {
+        Ok(designed) => {
+            let Sizing { storage, latency } = designed.planned.times.sizing;
+            drop(designed);
+            written(writeln!(out, "storage {storage} latency {latency}"))
+        }
+        Err(fault) => put_fault(fault, out),
+    }
+}
+
+fn put_found<W: Write>(alloc: Global, model: &[u8], plan: &[u8], out: &mut W) -> Result<()> {
+    match checked_of(alloc, model) {
         Ok(checked) => {
-            let put = planned(alloc, &checked, plan, out);
+            let put = put_planned(alloc, &checked, plan, out);
             drop(checked);
             put
         }
-        Err(fault) => {
-            let put = put_refusal(alloc, &fault, out);
-            drop(fault);
-            put
-        }
+        Err(_refusal) => Ok(()),
     }
 }
 
-fn put_refusal<W: Write>(alloc: Global, fault: &ModelFault, out: &mut W) -> Result<()> {
-    match fault {
-        ModelFault::NotMdl { line } => written(writeln!(out, "line {line}")),
-        ModelFault::Broken { fault, blocks } => put_fault(alloc, fault, blocks.as_slice(), out),
-        ModelFault::OutOfMemory => Err(Error::msg("out of memory")),
-    }
-}
-
-fn planned<W: Write>(alloc: Global, checked: &Checked, plan: &[u8], out: &mut W) -> Result<()> {
-    match read_plan(alloc, plan) {
-        Ok(plan) => {
-            let put = found(alloc, checked, &plan, out);
+fn put_planned<W: Write>(alloc: Global, checked: &Checked, plan: &[u8], out: &mut W) -> Result<()> {
+    match resolved_of(alloc, checked, plan) {
+        Some(plan) => {
+            let put = put_times(alloc, checked, &plan, out);
             drop(plan);
             put
         }
-        Err(TableFault::Bad { line, cause }) => {
-            written(writeln!(out, "plan line {line}: {cause}"))
-        }
-        Err(TableFault::OutOfMemory) => Err(Error::msg("out of memory")),
+        None => Ok(()),
     }
 }
 
-fn found<W: Write>(alloc: Global, checked: &Checked, plan: &Plan, out: &mut W) -> Result<()>
-    requires { IsPlanInRange plan.now }
+/// The plan of a text by the blocks of a diagram, where it is one and keeps its rule.
+fn resolved_of(alloc: Global, checked: &Checked, text: &[u8]) -> Option<Resolved>
+    ensures { IfSome result (IsPlanOf checked.now.diagram) }
 {
-    match resolve(alloc, checked, plan) {
-        Ok(resolved) => {
-            let put = scheduled(alloc, checked, &resolved, out);
-            drop(resolved);
-            put
+    match read_plan(alloc, text) {
+        Ok(plan) => {
+            let resolved = resolve(alloc, checked, &plan);
+            drop(plan);
+            resolved.ok()
         }
-        Err(CheckFault::Broken(fault)) => {
-            let put = put_fault(alloc, &fault, checked.diagram().blocks.as_slice(), out);
-            drop(fault);
-            put
-        }
-        Err(CheckFault::OutOfMemory) => Err(Error::msg("out of memory")),
+        Err(_fault) => None,
     }
 }
 
-fn scheduled<W: Write>(alloc: Global, checked: &Checked, plan: &Resolved, out: &mut W) -> Result<()>
+fn put_times<W: Write>(alloc: Global, checked: &Checked, plan: &Resolved, out: &mut W) -> Result<()>
     requires { IsPlanOf checked.now.diagram plan.now }
 {
     match latencies_of(alloc, checked, plan) {
         Ok(latencies) => {
-            let blocks = checked.diagram().blocks.as_slice();
-            list(
-                alloc,
-                blocks,
-                &latencies,
-                &depths(alloc, checked, plan)?,
-                out,
-            )?;
-            put_schedule(alloc, checked, plan, &latencies, out)
+            let put = put_listed(alloc, checked, plan, &latencies, out);
+            drop(latencies);
+            put
         }
-        Err(LatencyFault::Cycle { blocks, total }) => {
-            let shown = Shown::Latency { blocks, total };
-            put_model_fault(alloc, Rule::Latency, shown, checked, out)
+        Err(_fault) => Ok(()),
+    }
+}
+
+fn put_listed<W: Write>(
+    alloc: Global,
+    checked: &Checked,
+    plan: &Resolved,
+    latencies: &Latencies,
+    out: &mut W,
+) -> Result<()>
+    requires plan { IsPlanOf checked.now.diagram plan.now }
+    requires latencies { AreLatencies checked.now.diagram plan.now latencies.now }
+{
+    let depths = depths(alloc, checked, plan)?;
+    let put = list(
+        alloc,
+        checked.diagram().blocks.as_slice(),
+        latencies,
+        &depths,
+        out,
+    );
+    drop(depths);
+    put?;
+    match slots_of(alloc, checked, latencies, plan) {
+        Ok(slots) => {
+            let put = put_slots(alloc, checked, plan, latencies.lat.as_slice(), &slots, out);
+            drop(slots);
+            put
         }
-        Err(LatencyFault::OutOfMemory) => Err(Error::msg("out of memory")),
+        Err(_fault) => Ok(()),
     }
 }
 

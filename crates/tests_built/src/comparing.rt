@@ -30,11 +30,7 @@ pub fn put_comparison<W: Write>(
             drop(designed);
             put
         }
-        Err(fault) => {
-            let put = put_fault(&fault, out);
-            drop(fault);
-            put
-        }
+        Err(fault) => put_fault(fault, out),
     }
 }
 
@@ -132,15 +128,18 @@ fn held_of(nets: &[Net]) -> usize {
     held
 }
 
-/// Prints the line of a broken rule.
-fn put_fault<W: Write>(fault: &DesignFault, out: &mut W) -> Result<()> {
+/// Prints the line of what a model and a plan lack.
+pub fn put_fault<W: Write>(fault: DesignFault, out: &mut W) -> Result<()> {
     match fault {
+        DesignFault::NotMdl { line } => written(writeln!(out, "line {line}")),
         DesignFault::BreaksRule { line } => {
-            out.write_all(line.bytes())?;
-            Ok(())
+            let put = out.write_all(line.bytes());
+            drop(line);
+            written(put)
         }
-        DesignFault::NotMdl { .. } => Err(Error::msg("a text is no model")),
-        DesignFault::BadPlan { .. } => Err(Error::msg("a text is no plan")),
+        DesignFault::BadPlan { line, cause } => {
+            written(writeln!(out, "plan line {line}: {cause}"))
+        }
         DesignFault::OutOfMemory => Err(Error::msg("out of memory")),
     }
 }

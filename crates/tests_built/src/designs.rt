@@ -4,6 +4,7 @@ ghost use Rattle.dg_response.specs.Responding.{IsBefore};
 ghost use Rattle.dg_response.specs.Response.{input_columns, output_columns};
 ghost use Rattle.fx_tables.specs.Stimulus.{FitsColumns};
 
+use crate::windows::sample_at;
 use anyhow::{Error, Result};
 use dg_model::Checked;
 use dg_response::{Responding, RootColumns, columns};
@@ -13,11 +14,48 @@ use std::alloc::Global;
 /// What a simulation takes and gives.
 #[derive(Drop)]
 pub struct Simulated {
-    pub columns: RootColumns,
+    columns: RootColumns,
     /// The numbers of the inputs.
-    pub rows: Rows,
+    rows: Rows,
     /// Those of the outputs, sample by sample.
-    pub shown: Vec<i128>,
+    shown: Vec<i128>,
+}
+
+impl Simulated {
+    /// How many samples there are.
+    pub fn samples(&self) -> u64 {
+        self.rows.count()
+    }
+
+    /// The numbers of all inputs at a clock.
+    pub fn inputs_at(&self, alloc: Global, cycles: u32, clock: u64) -> Result<Vec<i128>> {
+        let mut numbers = Vec::new(alloc);
+        for (place, column) in self.columns.inputs.as_slice().iter().enumerate() {
+            numbers.push(self.driven(cycles, place, *column, clock))?;
+        }
+        Ok(numbers)
+    }
+
+    /// The number of an input at a clock. Behind the last sample it is the greatest.
+    fn driven(&self, cycles: u32, place: usize, column: Column, clock: u64) -> i128 {
+        let Some(sample) = sample_at(cycles, column.period, 0, 0, clock) else {
+            return column.high;
+        };
+        let columns = self.columns.inputs.as_slice().len();
+        number_at(self.rows.cells.as_slice(), columns, sample, place).unwrap_or(column.high)
+    }
+
+    /// The number of an output at a sample, if there is such a sample.
+    pub fn shown_at(&self, sample: u64, place: usize) -> Option<i128> {
+        let columns = self.columns.outputs.as_slice().len();
+        number_at(self.shown.as_slice(), columns, sample, place)
+    }
+}
+
+/// The number of a sample and a column.
+fn number_at(cells: &[i128], columns: usize, sample: u64, place: usize) -> Option<i128> {
+    let at = (sample as usize).checked_mul(columns)?.checked_add(place)?;
+    cells.get(at).copied()
 }
 
 /// The columns of a diagram, where each has a period.

@@ -37,7 +37,6 @@ mod answers;
 mod cases;
 mod comparing;
 mod designs;
-mod faults;
 mod schedules;
 mod stepping;
 mod windows;

@@ -1,85 +1,28 @@
-//! What is told of a schedule: who serves shared operations, and how late and how large all is.
+//! What is told of a schedule: who serves shared operations, and how late outputs are.
 ghost use Rattle.std.specs.Prelude.{◌≡◌, length};
-ghost use Rattle.hw_latency.specs.Latency.{AreLatencies};
 ghost use Rattle.dg_model.specs.PlanOf.{IsPlanOf};
 
-use crate::faults::{put_model_fault, put_path};
 use anyhow::{Error, Result};
-use dg_model::{Block, Checked, Kind, Resolved, Rule, Shown};
-use hw_latency::{Latencies, is_shared};
-use hw_sched::{BudgetFault, SizeFault, Sizing, Slots, check_size, own_width, slots_of};
+use dg_model::{Block, Checked, Kind, Path, Resolved};
+use hw_latency::is_shared;
+use hw_sched::{Slots, own_width};
 use std::alloc::Global;
 use std::io::Write;
 use tests_rows::written;
 
-/// Tells the slots, root outputs and size of a plan, or that there are too few slots.
-pub fn put_schedule<W: Write>(
+/// Tells of each shared operation its slot and its multiplier, and of each root output when it is
+/// ready.
+pub fn put_slots<W: Write>(
     alloc: Global,
     checked: &Checked,
     plan: &Resolved,
-    latencies: &Latencies,
-    out: &mut W,
-) -> Result<()>
-    requires plan { IsPlanOf checked.now.diagram plan.now }
-    requires latencies { AreLatencies checked.now.diagram plan.now latencies.now }
-{
-    match slots_of(alloc, checked, latencies, plan) {
-        Ok(slots) => {
-            let put = put_slots(alloc, checked, plan, latencies, &slots, out);
-            drop(slots);
-            put
-        }
-        Err(BudgetFault::Budget { period, need, have }) => {
-            let shown = Shown::Budget { period, need, have };
-            put_model_fault(alloc, Rule::Budget, shown, checked, out)
-        }
-        Err(BudgetFault::OutOfMemory) => Err(Error::msg("out of memory")),
-    }
-}
-
-fn put_slots<W: Write>(
-    alloc: Global,
-    checked: &Checked,
-    plan: &Resolved,
-    latencies: &Latencies,
+    lats: &[u64],
     slots: &Slots,
     out: &mut W,
 ) -> Result<()>
     requires plan { IsPlanOf checked.now.diagram plan.now }
-    requires latencies { AreLatencies checked.now.diagram plan.now latencies.now }
-    requires ready { length slots.now.ready ≡ length checked.now.diagram.blocks }
-{
-    put_operations(alloc, checked, plan, slots, out)?;
-    let (blocks, ready) = (checked.diagram().blocks.as_slice(), slots.ready.as_slice());
-    put_outputs(
-        alloc,
-        blocks,
-        latencies.lat.as_slice(),
-        ready,
-        plan.cycles,
-        out,
-    )?;
-    match check_size(checked, plan, latencies, ready) {
-        Ok(Sizing { storage, latency }) => {
-            written(writeln!(out, "storage {storage} latency {latency}"))
-        }
-        Err(SizeFault::Size { storage, latency }) => {
-            let shown = Shown::Size { storage, latency };
-            put_model_fault(alloc, Rule::Size, shown, checked, out)
-        }
-        Err(SizeFault::OutOfMemory) => Err(Error::msg("out of memory")),
-    }
-}
-
-/// Tells of each shared operation its slot and its multiplier.
-fn put_operations<W: Write>(
-    alloc: Global,
-    checked: &Checked,
-    plan: &Resolved,
-    slots: &Slots,
-    out: &mut W,
-) -> Result<()>
-    requires plan { IsPlanOf checked.now.diagram plan.now }
+    requires lats { length lats.now ≡ length checked.now.diagram.blocks }
+    requires readys { length slots.now.ready ≡ length checked.now.diagram.blocks }
 {
     checked.keeps_rules();
     let blocks = checked.diagram().blocks.as_slice();
@@ -90,11 +33,18 @@ fn put_operations<W: Write>(
             number = put_elements(alloc, &blocks[place], width, slots, number, out)?;
         }
     }
-    Ok(())
+    put_outputs(
+        alloc,
+        blocks,
+        lats,
+        slots.ready.as_slice(),
+        plan.cycles,
+        out,
+    )
 }
 
-/// Tells these of the elements of a block, whose first operation has this number; gives the number
-/// behind them.
+/// Tells the slots of the elements of a block, whose first operation has this number; gives the
+/// number behind them.
 fn put_elements<W: Write>(
     alloc: Global,
     block: &Block,
@@ -166,4 +116,10 @@ fn declared(lat: u64, cycles: u32, ready: u64) -> Result<u64> {
         return Err(Error::msg("a latency of 2^64 or more"));
     };
     Ok(clocks)
+}
+
+/// Writes the path of a block.
+pub fn put_path<W: Write>(alloc: Global, path: &Path, out: &mut W) -> Result<()> {
+    let text = path.text(alloc)?;
+    written(out.write_all(text.bytes()))
 }

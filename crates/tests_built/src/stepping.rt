@@ -5,7 +5,6 @@ ghost use Rattle.hw_net.specs.Netlist.{IsNetlist};
 use crate::designs::Simulated;
 use crate::windows::{Window, sample_at};
 use anyhow::{Error, Result};
-use fx_tables::Column;
 use hw_net::Netlist;
 use hw_run::NetState;
 use std::alloc::Global;
@@ -21,76 +20,34 @@ pub struct Tally {
 /// No run has so many clocks.
 const MOST_CLOCKS: u64 = 1_048_576;
 
-/// The number of an input at a clock. Behind the last sample it is the greatest.
-fn driven(simulated: &Simulated, cycles: u32, place: usize, column: Column, clock: u64) -> i128 {
-    let Some(sample) = sample_at(cycles, column.period, 0, 0, clock) else {
-        return column.high;
-    };
-    if sample >= simulated.rows.count() {
-        return column.high;
-    }
-    let columns = simulated.columns.inputs.as_slice().len();
-    let cells = simulated.rows.cells.as_slice();
-    match number_at(cells, columns, sample, place) {
-        Some(number) => number,
-        None => column.high,
+impl Tally {
+    /// The tally with a number more, where one is expected.
+    fn with(self, value: i128, expected: Option<i128>) -> Tally {
+        let Some(expected) = expected else {
+            return self;
+        };
+        Tally {
+            equal: self.equal.saturating_add(u64::from(value == expected)),
+            seen: self.seen.saturating_add(1),
+        }
     }
 }
 
-/// The number of a sample and a column.
-fn number_at(cells: &[i128], columns: usize, sample: u64, place: usize) -> Option<i128> {
-    let Some(first) = (sample as usize).checked_mul(columns) else {
-        return None;
-    };
-    let Some(at) = first.checked_add(place) else {
-        return None;
-    };
-    match cells.get(at) {
-        Some(number) => Some(*number),
-        None => None,
-    }
-}
-
-/// The numbers of all inputs at a clock.
-fn numbers_at(alloc: Global, simulated: &Simulated, cycles: u32, clock: u64) -> Result<Vec<i128>> {
-    let mut numbers = Vec::new(alloc);
-    for (place, column) in simulated.columns.inputs.as_slice().iter().enumerate() {
-        numbers.push(driven(simulated, cycles, place, *column, clock))?;
-    }
-    Ok(numbers)
-}
-
-/// Counts what an output shows at a clock, where this is in the window of a hit.
-fn look(
+/// The number that an output is to show at a clock, where this is in the window of a hit.
+fn expected(
     simulated: &Simulated,
     cycles: u32,
     place: usize,
     window: Window,
     clock: u64,
-    value: i128,
-    tally: Tally,
-) -> Tally {
+) -> Option<i128> {
     let Window {
         net: _,
         period,
         start,
         ready,
     } = window;
-    let Some(sample) = sample_at(cycles, period, start, ready, clock) else {
-        return tally;
-    };
-    if sample >= simulated.rows.count() {
-        return tally;
-    }
-    let columns = simulated.columns.outputs.as_slice().len();
-    let expected = number_at(simulated.shown.as_slice(), columns, sample, place);
-    let seen = tally.seen.saturating_add(1);
-    let equal = if expected == Some(value) {
-        tally.equal.saturating_add(1)
-    } else {
-        tally.equal
-    };
-    Tally { equal, seen }
+    simulated.shown_at(sample_at(cycles, period, start, ready, clock)?, place)
 }
 
 /// Steps a netlist for so many clocks, and counts what the output of a place shows.
@@ -111,21 +68,13 @@ fn tally_of(
     }
     let mut state = NetState::new(alloc, netlist)?;
     for clock in 0..clocks {
-        let numbers = numbers_at(alloc, simulated, netlist.cycles(), clock)?;
+        let numbers = simulated.inputs_at(alloc, netlist.cycles(), clock)?;
         if numbers.len() != netlist.inputs().len() {
             return Err(Error::msg("an input lacks a port"));
         }
         state.step(netlist, numbers.as_slice());
-        let value = state.value(window.net);
-        tally = look(
-            simulated,
-            netlist.cycles(),
-            place,
-            window,
-            clock,
-            value,
-            tally,
-        );
+        let expected = expected(simulated, netlist.cycles(), place, window, clock);
+        tally = tally.with(state.value(window.net), expected);
     }
     Ok(tally)
 }
@@ -141,7 +90,7 @@ pub fn tallies_of(
 {
     let mut tallies = Vec::new(alloc);
     for (place, window) in windows.iter().enumerate() {
-        let clocks = window.end(netlist.cycles(), simulated.rows.count())?;
+        let clocks = window.end(netlist.cycles(), simulated.samples())?;
         if clocks > MOST_CLOCKS {
             return Err(Error::msg("too many clocks"));
         }

@@ -21,12 +21,8 @@ pub struct Window {
 
 /// The sample whose number is to be seen at a clock of a frame that begins at `start`, if there is one.
 pub fn sample_at(cycles: u32, period: u32, start: u64, ready: u64, clock: u64) -> Option<u64> {
-    let Some(since) = clock.checked_sub(start) else {
-        return None;
-    };
-    let Some(length) = u64::from(period).checked_mul(u64::from(cycles)) else {
-        return None;
-    };
+    let since = clock.checked_sub(start)?;
+    let length = u64::from(period).checked_mul(u64::from(cycles))?;
     if length == 0 || since % length < ready {
         return None;
     }

@@ -3,10 +3,11 @@
 use crate::lines::{put_chain, put_line};
 use crate::modules::{put_items, put_module, put_spelled};
 use crate::nets::{connect, frame_of, put_label, put_net, put_output, put_port, put_sums};
+use crate::reading::told_in;
 use crate::shared::put_units;
 use crate::slots::put_slots;
-use crate::stepping::{put_shown, read_numbers, view_of};
-use crate::texts::{put_faults, put_read, put_written};
+use crate::stepping::put_shown;
+use crate::texts::{Verilog, put_read, put_written};
 use anyhow::{Error, Result};
 use fx_io::Sizes;
 use hw_net::{FrameIndex, Net, NetKind, Netlist};
@@ -14,7 +15,70 @@ use hw_run::is_netlist;
 use std::alloc::Global;
 use std::io::Write;
 use std::thread::Threads;
-use tests_rows::{Answers, Line, Row, written};
+use tests_rows::{Answers, Line, Row, found, put_cuts, written};
+
+/// What a row says.
+#[derive(Clone, Copy)]
+enum Command {
+    Fault,
+    Cuts,
+    Read,
+    Write,
+    Slots,
+    Show,
+    Find,
+    Counter,
+    Size,
+    Module,
+    Spelled,
+    Items,
+    Sound,
+    New,
+    Net,
+    Port,
+    Output,
+    Label,
+    Connect,
+    Sums,
+    Inputs,
+    Parts,
+    Put,
+    Remove,
+}
+
+fn command_of(row: &Row<'_>) -> Result<Command> {
+    found(
+        row.command,
+        &[
+            ("fault", Command::Fault),
+            ("cuts", Command::Cuts),
+            ("read", Command::Read),
+            ("write", Command::Write),
+            ("slots", Command::Slots),
+            ("show", Command::Show),
+            ("find", Command::Find),
+            ("counter", Command::Counter),
+            ("size", Command::Size),
+            ("module", Command::Module),
+            ("spelled", Command::Spelled),
+            ("items", Command::Items),
+            ("sound", Command::Sound),
+            ("new", Command::New),
+            ("net", Command::Net),
+            ("port", Command::Port),
+            ("output", Command::Output),
+            ("label", Command::Label),
+            ("connect", Command::Connect),
+            ("sums", Command::Sums),
+            ("inputs", Command::Inputs),
+            ("chain", Command::Parts),
+            ("line", Command::Parts),
+            ("share", Command::Parts),
+            ("put", Command::Put),
+            ("remove", Command::Remove),
+        ],
+    )
+}
 
 /// What stands between rows.
 #[derive(Drop)]
@@ -44,37 +108,33 @@ impl Bench {
         row: &mut Row<'_>,
         out: &mut W,
     ) -> Result<()> {
-        match row.command {
-            "fault" => put_faults(alloc, row.text.as_slice(), row.text.len(), out),
-            "cuts" => put_faults(alloc, row.text.as_slice(), 0, out),
-            "read" => put_read(alloc, row.text.as_slice(), out),
-            "write" => put_written(rt, alloc, row.text.as_slice(), out),
-            "slots" => put_slots(alloc, row, out),
-            "show" => self.show(alloc, row, out),
-            "find" => self.find(row, out),
-            "counter" => put_counter(&mut self.netlist, row, out),
-            "size" => put_size(&self.netlist, self.answers.as_slice().len(), out),
-            "module" => put_module(rt, alloc, &self.netlist, out),
-            "spelled" => put_spelled(rt, alloc, &self.netlist, row, out),
-            "items" => put_items(alloc, &self.netlist, out),
-            "sound" => put_sound(alloc, &self.netlist, out),
-            _ => self.change(alloc, row),
-        }
-    }
-
-    /// Does what a row says that prints nothing.
-    fn change(&mut self, alloc: Global, row: &mut Row<'_>) -> Result<()> {
-        match row.command {
-            "new" => self.begin(alloc, row),
-            "net" => put_net(alloc, &mut self.netlist, row),
-            "port" => put_port(alloc, &mut self.netlist, row),
-            "output" => put_output(alloc, &mut self.netlist, row),
-            "label" => put_label(alloc, &mut self.netlist, row),
-            "connect" => connect(alloc, &mut self.netlist, row),
-            "sums" => put_sums(alloc, &mut self.netlist, row),
-            "inputs" => read_numbers(alloc, row.text.as_slice(), &mut self.inputs),
-            "chain" | "line" | "share" => self.put_parts(alloc, row),
-            _ => self.index_by(row),
+        let command = command_of(row)?;
+        let text = row.text.as_slice();
+        match command {
+            Command::Fault => put_cuts::<Verilog, W>(alloc, text, text.len(), out),
+            Command::Cuts => put_cuts::<Verilog, W>(alloc, text, 0, out),
+            Command::Read => put_read(alloc, text, out),
+            Command::Write => put_written(rt, alloc, text, out),
+            Command::Slots => put_slots(alloc, row, out),
+            Command::Show => self.show(alloc, row, out),
+            Command::Find => self.find(row, out),
+            Command::Counter => put_counter(&mut self.netlist, row, out),
+            Command::Size => put_size(&self.netlist, self.answers.as_slice().len(), out),
+            Command::Module => put_module(rt, alloc, &self.netlist, out),
+            Command::Spelled => put_spelled(rt, alloc, &self.netlist, row, out),
+            Command::Items => put_items(alloc, &self.netlist, out),
+            Command::Sound => put_sound(alloc, &self.netlist, out),
+            Command::New => self.begin(alloc, row),
+            Command::Net => put_net(alloc, &mut self.netlist, row),
+            Command::Port => put_port(alloc, &mut self.netlist, row),
+            Command::Output => put_output(alloc, &mut self.netlist, row),
+            Command::Label => put_label(alloc, &mut self.netlist, row),
+            Command::Connect => connect(alloc, &mut self.netlist, row),
+            Command::Sums => put_sums(alloc, &mut self.netlist, row),
+            Command::Inputs => self.take_inputs(alloc, text),
+            Command::Parts => self.put_parts(alloc, row),
+            Command::Put => self.put(row),
+            Command::Remove => self.remove(row),
         }
     }
 
@@ -88,6 +148,12 @@ impl Bench {
         Ok(())
     }
 
+    /// Takes the numbers of a text as those of the inputs.
+    fn take_inputs(&mut self, alloc: Global, text: &[u8]) -> Result<()> {
+        self.inputs = told_in(alloc, text, 1)?;
+        Ok(())
+    }
+
     /// Begins a netlist.
     fn begin(&mut self, alloc: Global, row: &mut Row<'_>) -> Result<()> {
         let cycles = row.number()?;
@@ -95,17 +161,16 @@ impl Bench {
         Ok(())
     }
 
-    /// Changes the index of frames.
-    fn index_by(&mut self, row: &mut Row<'_>) -> Result<()> {
+    /// Puts a number into the index of frames.
+    fn put(&mut self, row: &mut Row<'_>) -> Result<()> {
         let frame = frame_of(row)?;
-        match row.command {
-            "put" => Ok(self.index.put(frame, row.number()?)?),
-            "remove" => {
-                self.index.remove(frame);
-                Ok(())
-            }
-            _ => Err(Error::msg("no command")),
-        }
+        Ok(self.index.put(frame, row.number()?)?)
+    }
+
+    /// Takes a frame out of the index.
+    fn remove(&mut self, row: &mut Row<'_>) -> Result<()> {
+        self.index.remove(frame_of(row)?);
+        Ok(())
     }
 
     /// The net of a word.
@@ -123,13 +188,12 @@ impl Bench {
 
     fn show<W: Write>(&self, alloc: Global, row: &mut Row<'_>, out: &mut W) -> Result<()> {
         let number = self.net(row.next()?)?;
-        let view = view_of(row)?;
         put_shown(
             alloc,
             &self.netlist,
             self.inputs.as_slice(),
             number,
-            view,
+            row,
             out,
         )
     }

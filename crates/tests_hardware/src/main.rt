@@ -40,6 +40,7 @@ mod bench;
 mod lines;
 mod modules;
 mod nets;
+mod reading;
 mod shared;
 mod shown;
 mod slots;

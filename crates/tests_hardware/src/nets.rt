@@ -98,24 +98,25 @@ fn op_of(name: &str, row: &mut Row<'_>) -> Result<NetOp> {
             let low = row.byte()?;
             Ok(NetOp::Slice { high, low })
         }
-        _ => found(name, PLAIN),
+        _ => found(
+            name,
+            &[
+                ("resize", NetOp::Resize),
+                ("add", NetOp::Add),
+                ("subtract", NetOp::Subtract),
+                ("negate", NetOp::Negate),
+                ("multiply", NetOp::Multiply),
+                ("and", NetOp::And),
+                ("or", NetOp::Or),
+                ("xor", NetOp::Xor),
+                ("not", NetOp::Not),
+                ("less", NetOp::Less),
+                ("equal", NetOp::Equal),
+                ("choose", NetOp::Choose),
+            ],
+        ),
     }
 }
-
-const PLAIN: &[(&str, NetOp)] = &[
-    ("resize", NetOp::Resize),
-    ("add", NetOp::Add),
-    ("subtract", NetOp::Subtract),
-    ("negate", NetOp::Negate),
-    ("multiply", NetOp::Multiply),
-    ("and", NetOp::And),
-    ("or", NetOp::Or),
-    ("xor", NetOp::Xor),
-    ("not", NetOp::Not),
-    ("less", NetOp::Less),
-    ("equal", NetOp::Equal),
-    ("choose", NetOp::Choose),
-];
 
 pub fn put_net(alloc: Global, netlist: &mut Netlist, row: &mut Row<'_>) -> Result<()> {
     let _ = netlist.add(net_of(alloc, row)?)?;

@@ -4,6 +4,7 @@ ghost use Rattle.hw_share.specs.Operations.{IsOperation, SameWord, AreApart, Can
 ghost use Rattle.tests_hardware.specs.inner.Tried.{AreUsed, IsApartAt};
 
 use crate::nets::frame_of;
+use crate::reading::{Told, told_in};
 use anyhow::{Error, Result};
 use fx_io::{OutOfMemory, Sizes};
 use fx_num::is_word;
@@ -129,30 +130,22 @@ fn can_share(net: &Netlist, operations: &[Operation]) -> Result<bool, OutOfMemor
     Ok(are_used(operations, count))
 }
 
-/// The operations of a text.
-fn operations_of(alloc: Global, text: &[u8]) -> Result<Vec<Operation>> {
-    let mut table = Row::of(alloc, str::from_utf8(text)?)?;
-    let mut operations = Vec::new(alloc);
-    for _ in 0..table.left() / 6 {
-        operations.push(operation_of(&mut table)?)?;
+impl Told for Operation {
+    fn told(row: &mut Row<'_>) -> Result<Operation> {
+        Ok(Operation {
+            frame: frame_of(row)?,
+            slot: row.long()?,
+            unit: row.long()?,
+            left: row.number()?,
+            right: row.number()?,
+        })
     }
-    Ok(operations)
-}
-
-fn operation_of(table: &mut Row<'_>) -> Result<Operation> {
-    Ok(Operation {
-        frame: frame_of(table)?,
-        slot: table.long()?,
-        unit: table.long()?,
-        left: table.number()?,
-        right: table.number()?,
-    })
 }
 
 /// Puts in the multipliers of a text's operations, and gives the numbers of their products and then
 /// the operands of the Unit nets.
 pub fn put_units(alloc: Global, net: &mut Netlist, row: &Row<'_>) -> Result<Sizes> {
-    let operations = operations_of(alloc, row.text.as_slice())?;
+    let operations = told_in::<Operation>(alloc, row.text.as_slice(), 6)?;
     let mut answers = put_products(alloc, net, operations.as_slice())?;
     put_operands(net, &mut answers)?;
     Ok(answers)

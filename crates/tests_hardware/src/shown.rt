@@ -119,26 +119,37 @@ fn put_attrs(out: &mut String, attrs: &Attrs) -> Result<()> {
     Ok(())
 }
 
-fn put_net(out: &mut String, word: &str, signed: bool, width: u32, name: &Text) -> Result<()> {
+/// The width, the sign and the name of a port or a net.
+fn put_net(out: &mut String, signed: bool, width: u32, name: &Text) -> Result<()> {
     let sign = sign(signed);
-    write!(out, "{word} {width}{sign} ")?;
+    write!(out, "{width}{sign} ")?;
     put_text(out, name)
 }
 
+/// The word with which an item begins.
+fn word_of(item: &ModItem) -> &'static str {
+    match item {
+        ModItem::Wire { .. } => "wire ",
+        ModItem::Reg { .. } => "reg ",
+        ModItem::Assign { .. } => "assign ",
+        ModItem::Always { .. } => "always ",
+    }
+}
+
 fn put_item(out: &mut String, item: &ModItem) -> Result<()> {
+    out.push_str(word_of(item))?;
     match item {
         ModItem::Wire {
             signed,
             width,
             name,
-        } => put_net(out, "wire", *signed, *width, name),
-        ModItem::Reg {
+        }
+        | ModItem::Reg {
             signed,
             width,
             name,
-        } => put_net(out, "reg", *signed, *width, name),
+        } => put_net(out, *signed, *width, name),
         ModItem::Assign { name, value } => {
-            out.push_str("assign ")?;
             put_text(out, name)?;
             put_part(out, value)
         }
@@ -147,21 +158,28 @@ fn put_item(out: &mut String, item: &ModItem) -> Result<()> {
             first,
             condition,
             value,
-        } => {
-            out.push_str("always ")?;
-            put_text(out, name)?;
-            out.push(' ')?;
-            put_sized(out, first)?;
-            match condition {
-                None => out.push_str(" else")?,
-                Some(condition) => {
-                    out.push_str(" if")?;
-                    put_part(out, condition)?;
-                }
-            }
-            put_part(out, value)
+        } => put_always(out, name, first, condition, value),
+    }
+}
+
+fn put_always(
+    out: &mut String,
+    name: &Text,
+    first: &Sized,
+    condition: &Option<Expr>,
+    value: &Expr,
+) -> Result<()> {
+    put_text(out, name)?;
+    out.push(' ')?;
+    put_sized(out, first)?;
+    match condition {
+        None => out.push_str(" else")?,
+        Some(condition) => {
+            out.push_str(" if")?;
+            put_part(out, condition)?;
         }
     }
+    put_part(out, value)
 }
 
 /// A module: its name and attributes on a line, then each port and each item on a line.
@@ -171,8 +189,8 @@ pub fn put_shown(out: &mut String, module: &Module) -> Result<()> {
     put_attrs(out, &module.attrs)?;
     out.push('\n')?;
     for port in module.ports.as_slice() {
-        let word = if port.input { "in" } else { "out" };
-        put_net(out, word, port.signed, port.width, &port.name)?;
+        out.push_str(if port.input { "in " } else { "out " })?;
+        put_net(out, port.signed, port.width, &port.name)?;
         put_attrs(out, &port.attrs)?;
         out.push('\n')?;
     }

@@ -1,42 +1,29 @@
 //! Slots and multipliers of operations.
 
+use crate::reading::{Told, all_told, told_in};
 use anyhow::{Error, Result};
 use hw_slots::{Operation, SlotFault, Slots, Span, slots_of};
 use std::alloc::Global;
 use std::io::Write;
 use tests_rows::{Row, written};
 
-/// The operations of a text.
-fn operations_of(alloc: Global, text: &[u8]) -> Result<Vec<Operation>> {
-    let mut table = Row::of(alloc, str::from_utf8(text)?)?;
-    let mut operations = Vec::new(alloc);
-    for _ in 0..table.left() / 3 {
-        operations.push(operation_of(&mut table)?)?;
+impl Told for Operation {
+    fn told(row: &mut Row<'_>) -> Result<Operation> {
+        Ok(Operation {
+            kind: row.long()?,
+            period: row.long()?,
+            level: row.long()?,
+        })
     }
-    Ok(operations)
 }
 
-fn operation_of(table: &mut Row<'_>) -> Result<Operation> {
-    Ok(Operation {
-        kind: table.long()?,
-        period: table.long()?,
-        level: table.long()?,
-    })
-}
-
-/// The periods of the words that are left.
-fn periods_of(alloc: Global, row: &mut Row<'_>) -> Result<Vec<Span>> {
-    let mut periods = Vec::new(alloc);
-    for _ in 0..row.left() / 2 {
-        periods.push(span_of(row)?)?;
+impl Told for Span {
+    fn told(row: &mut Row<'_>) -> Result<Span> {
+        Ok(Span {
+            start: row.long()?,
+            have: row.long()?,
+        })
     }
-    Ok(periods)
-}
-
-fn span_of(row: &mut Row<'_>) -> Result<Span> {
-    let start = row.long()?;
-    let have = row.long()?;
-    Ok(Span { start, have })
 }
 
 /// What is asked of a row's operations.
@@ -61,8 +48,8 @@ fn asked_of(row: &mut Row<'_>) -> Result<Asked> {
 /// Prints the slots and multipliers of operations, or the period that is short.
 pub fn put_slots<W: Write>(alloc: Global, row: &mut Row<'_>, out: &mut W) -> Result<()> {
     let asked = asked_of(row)?;
-    let periods = periods_of(alloc, row)?;
-    let operations = operations_of(alloc, row.text.as_slice())?;
+    let periods = all_told::<Span>(alloc, row, 2)?;
+    let operations = told_in::<Operation>(alloc, row.text.as_slice(), 3)?;
     put_found(alloc, operations.as_slice(), periods.as_slice(), asked, out)
 }
 

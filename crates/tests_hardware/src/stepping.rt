@@ -10,44 +10,21 @@ use std::alloc::Global;
 use std::io::Write;
 use tests_rows::{Row, written};
 
-/// Which clocks of a run are printed.
-#[derive(Clone, Copy)]
-pub struct View {
-    pub clocks: u32,
-    pub first: u32,
-    pub step: u32,
-}
-
-pub fn view_of(row: &mut Row<'_>) -> Result<View> {
-    Ok(View {
-        clocks: row.number()?,
-        first: row.number()?,
-        step: row.number()?,
-    })
-}
-
-/// Reads the numbers of a text in the place of others.
-pub fn read_numbers(alloc: Global, text: &[u8], numbers: &mut Vec<i128>) -> Result<()> {
-    let mut table = Row::of(alloc, str::from_utf8(text)?)?;
-    numbers.clear();
-    for _ in 0..table.left() {
-        numbers.push(table.integer()?)?;
-    }
-    Ok(())
-}
-
-/// Prints what a net shows in the clocks of a view, where the inputs are these one behind another.
+/// Prints what a net shows in the clocks that a row tells, where the inputs are these one behind
+/// another.
 pub fn put_shown<W: Write>(
     alloc: Global,
     net: &Netlist,
     inputs: &[i128],
     number: u32,
-    view: View,
+    row: &mut Row<'_>,
     out: &mut W,
 ) -> Result<()> {
-    let values = values_of(alloc, net, inputs, number, view.clocks)?;
-    let step = view.step.max(1) as usize;
-    for value in values.iter().skip(view.first as usize).step_by(step) {
+    let clocks = row.number()?;
+    let first = row.number()? as usize;
+    let step = row.number()?.max(1) as usize;
+    let values = values_of(alloc, net, inputs, number, clocks)?;
+    for value in values.iter().skip(first).step_by(step) {
         write!(out, "{value} ")?;
     }
     written(out.write_all(b"\n"))

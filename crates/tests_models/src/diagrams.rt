@@ -62,21 +62,15 @@ fn put_blocks(alloc: Global, text: &mut String, count: u32) -> Result<()> {
 fn put_built<W: Write>(alloc: Global, asked: Asked, tree: &Tree, out: &mut W) -> Result<()> {
     match build(alloc, tree) {
         Ok(nested) => {
-            let put = put_model(alloc, asked, &nested, out);
+            let put = match asked {
+                Asked::Build => written(out.write_all(b"kept\n")),
+                Asked::Nested => put_nested(&nested, out),
+                _ => put_flattened(alloc, asked, &nested, out),
+            };
             drop(nested);
             put
         }
         Err(fault) => put_fault(alloc, fault, &[], out),
-    }
-}
-
-fn put_model<W: Write>(alloc: Global, asked: Asked, nested: &Nested, out: &mut W) -> Result<()>
-    requires { IsSound nested.now }
-{
-    match asked {
-        Asked::Build => written(out.write_all(b"kept\n")),
-        Asked::Nested => put_nested(nested, out),
-        _ => put_flattened(alloc, asked, nested, out),
     }
 }
 
@@ -85,23 +79,17 @@ fn put_flattened<W: Write>(alloc: Global, asked: Asked, nested: &Nested, out: &m
 {
     match flatten(alloc, nested) {
         Ok(diagram) => {
-            let put = put_asked(alloc, asked, &diagram, out);
+            let put = match asked {
+                Asked::Flat => put_flat(alloc, &diagram, out),
+                Asked::Widths => put_widths(alloc, &diagram, out),
+                Asked::Types => put_types(alloc, &diagram, out),
+                Asked::Rates => put_rates(alloc, &diagram, out),
+                _ => put_order(alloc, &diagram, out),
+            };
             drop(diagram);
             put
         }
         Err(fault) => put_fault(alloc, fault, &[], out),
-    }
-}
-
-fn put_asked<W: Write>(alloc: Global, asked: Asked, diagram: &Diagram, out: &mut W) -> Result<()>
-    requires { IsWired diagram.now }
-{
-    match asked {
-        Asked::Flat => put_flat(alloc, diagram, out),
-        Asked::Widths => put_widths(alloc, diagram, out),
-        Asked::Types => put_types(alloc, diagram, out),
-        Asked::Rates => put_rates(alloc, diagram, out),
-        _ => put_order(alloc, diagram, out),
     }
 }
 

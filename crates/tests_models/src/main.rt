@@ -9,7 +9,7 @@
 //! | `tree NAME` | each item: a dot for each section that holds it, its name, a sign of its kind, its content and a bar; or the line at which the text is none |
 //! | `syntax NAME` | that line, 0 where the text is one |
 //! | `cuts NAME` | that line of each of the text's beginnings, the shortest first |
-//! | `number = LOW HIGH`, `list =`, `sizes =`, `signs =`, `period =`, `sample_time =`, `constant_time =`, `width =`, `type =`, `word = KIND` | the value of a parameter |
+//! | `value = KIND`, `value = number LOW HIGH` | the value of a parameter (`values.rt` has the kinds) |
 //! | `build NAME` | `kept`, or the rule of structure, library or parameter that is broken |
 //! | `many = COUNT` | the same of a model of so many blocks |
 //! | `nested NAME` | each block that is built, and each line |
@@ -31,12 +31,12 @@ mod trees;
 mod values;
 
 use crate::diagrams::Asked;
-use crate::values::Kind;
+use crate::trees::Mdl;
 use anyhow::Result;
 use std::alloc::Global;
 use std::io::Write;
 use std::thread::Threads;
-use tests_rows::{Answers, Line, Row, answer_lines, found};
+use tests_rows::{Answers, Line, Row, answer_lines, found, put_cuts};
 
 /// The last plan.
 #[derive(Drop)]
@@ -63,13 +63,13 @@ enum Command {
     Tree,
     Syntax,
     Cuts,
-    Model(Asked),
     Many,
     Plan,
     Stages,
     Rows,
     Accept,
-    Value(Kind),
+    Value,
+    Model(Asked),
 }
 
 const COMMANDS: &[(&str, Command)] = &[
@@ -88,16 +88,7 @@ const COMMANDS: &[(&str, Command)] = &[
     ("stages", Command::Stages),
     ("rows", Command::Rows),
     ("accept", Command::Accept),
-    ("list", Command::Value(Kind::List)),
-    ("sizes", Command::Value(Kind::Sizes)),
-    ("signs", Command::Value(Kind::Signs)),
-    ("period", Command::Value(Kind::Period)),
-    ("sample_time", Command::Value(Kind::SampleTime)),
-    ("constant_time", Command::Value(Kind::ConstantTime)),
-    ("width", Command::Value(Kind::Width)),
-    ("type", Command::Value(Kind::Type)),
-    ("number", Command::Value(Kind::Number)),
-    ("word", Command::Value(Kind::Word)),
+    ("value", Command::Value),
 ];
 
 /// Answers a row, and keeps its text where this is a plan.
@@ -110,14 +101,14 @@ fn answer<W: Write>(
     let text = row.text.as_slice();
     match found(row.command, COMMANDS)? {
         Command::Tree => trees::tree(alloc, text, out),
-        Command::Syntax => trees::lines(alloc, text, text.len(), out),
-        Command::Cuts => trees::lines(alloc, text, 0, out),
+        Command::Syntax => put_cuts::<Mdl, W>(alloc, text, text.len(), out),
+        Command::Cuts => put_cuts::<Mdl, W>(alloc, text, 0, out),
         Command::Model(asked) => diagrams::model(alloc, asked, text, out),
         Command::Many => diagrams::many(alloc, row, out),
         Command::Plan => tables::plan(alloc, text, plan, out),
         Command::Stages => tables::stages(alloc, text, plan.as_slice(), out),
         Command::Rows => tables::rows(alloc, row, out),
         Command::Accept => tables::accepted(alloc, text, out),
-        Command::Value(kind) => values::value(alloc, kind, row, out),
+        Command::Value => values::value(alloc, row, out),
     }
 }

@@ -126,35 +126,18 @@ fn put_stages<W: Write>(stages: &[u32], out: &mut W) -> Result<()> {
     written(out.write_all(b"\n"))
 }
 
-/// The columns that a word names.
-#[derive(Clone, Copy)]
-enum Columns {
-    Byte,
-    Slow,
-    Wide,
-    Both,
-    None,
-}
-
-const COLUMNS: &[(&str, Columns)] = &[
-    ("byte", Columns::Byte),
-    ("slow", Columns::Slow),
-    ("wide", Columns::Wide),
-    ("both", Columns::Both),
-    ("none", Columns::None),
-];
-
 /// What is read of a stimulus of columns that a word names.
 pub fn rows<W: Write>(alloc: Global, row: &mut Row<'_>, out: &mut W) -> Result<()> {
-    let columns = row.one_of(COLUMNS)?;
+    let columns = row.next()?;
     let outputs = row.long()?;
     let text = row.text.as_slice();
     match columns {
-        Columns::Byte => put_rows(alloc, text, &[BYTE], outputs, out),
-        Columns::Slow => put_rows(alloc, text, &[SLOW], outputs, out),
-        Columns::Wide => put_rows(alloc, text, &[WIDE], outputs, out),
-        Columns::Both => put_rows(alloc, text, &[BYTE, SLOW], outputs, out),
-        Columns::None => put_rows(alloc, text, &[], outputs, out),
+        "byte" => put_rows(alloc, text, &[BYTE], outputs, out),
+        "slow" => put_rows(alloc, text, &[SLOW], outputs, out),
+        "wide" => put_rows(alloc, text, &[WIDE], outputs, out),
+        "both" => put_rows(alloc, text, &[BYTE, SLOW], outputs, out),
+        "none" => put_rows(alloc, text, &[], outputs, out),
+        _ => Err(Error::msg("no columns")),
     }
 }
 

@@ -13,7 +13,7 @@ use tests_rows::{Row, put_debug, written};
 
 /// A kind of value.
 #[derive(Clone, Copy)]
-pub enum Kind {
+enum Kind {
     List,
     Sizes,
     Signs,
@@ -23,11 +23,33 @@ pub enum Kind {
     Width,
     Type,
     Number,
-    Word,
+    Rounding,
+    Relation,
+    Gate,
+    Criterion,
+    Switch,
+    Reset,
 }
 
-/// Tells the value of a text by its kind, `None` where it has none.
-pub fn value<W: Write>(alloc: Global, kind: Kind, row: &mut Row<'_>, out: &mut W) -> Result<()> {
+/// Tells the value of a text by the kind that a word names, `None` where it has none.
+pub fn value<W: Write>(alloc: Global, row: &mut Row<'_>, out: &mut W) -> Result<()> {
+    let kind = row.one_of(&[
+        ("list", Kind::List),
+        ("sizes", Kind::Sizes),
+        ("signs", Kind::Signs),
+        ("period", Kind::Period),
+        ("sample_time", Kind::SampleTime),
+        ("constant_time", Kind::ConstantTime),
+        ("width", Kind::Width),
+        ("type", Kind::Type),
+        ("number", Kind::Number),
+        ("rounding", Kind::Rounding),
+        ("relation", Kind::Relation),
+        ("gate", Kind::Gate),
+        ("criterion", Kind::Criterion),
+        ("switch", Kind::Switch),
+        ("reset", Kind::Reset),
+    ])?;
     let text = row.text.as_slice();
     match kind {
         Kind::List => list(alloc, text, out),
@@ -39,7 +61,12 @@ pub fn value<W: Write>(alloc: Global, kind: Kind, row: &mut Row<'_>, out: &mut W
         Kind::Width => put_debug(&read_width(alloc, text)?, out),
         Kind::Type => put_debug(&read_type(text), out),
         Kind::Number => number(row, out),
-        Kind::Word => word(row, out),
+        Kind::Rounding => put_debug(&read_rounding(text), out),
+        Kind::Relation => put_debug(&read_relation(text), out),
+        Kind::Gate => put_debug(&read_gate(text), out),
+        Kind::Criterion => put_debug(&read_criterion(text), out),
+        Kind::Switch => put_debug(&read_switch(text), out),
+        Kind::Reset => put_debug(&read_reset(text), out),
     }
 }
 
@@ -85,39 +112,5 @@ fn signs<W: Write>(alloc: Global, text: &[u8], out: &mut W) -> Result<()> {
     match read_signs(alloc, text)? {
         Some(signs) => put_debug(&signs.as_slice(), out),
         None => written(out.write_all(b"None\n")),
-    }
-}
-
-/// A kind of word.
-#[derive(Clone, Copy)]
-enum Words {
-    Rounding,
-    Relation,
-    Gate,
-    Criterion,
-    Switch,
-    Reset,
-}
-
-const WORDS: &[(&str, Words)] = &[
-    ("rounding", Words::Rounding),
-    ("relation", Words::Relation),
-    ("gate", Words::Gate),
-    ("criterion", Words::Criterion),
-    ("switch", Words::Switch),
-    ("reset", Words::Reset),
-];
-
-/// Tells the word of a kind.
-fn word<W: Write>(row: &mut Row<'_>, out: &mut W) -> Result<()> {
-    let kind = row.one_of(WORDS)?;
-    let text = row.text.as_slice();
-    match kind {
-        Words::Rounding => put_debug(&read_rounding(text), out),
-        Words::Relation => put_debug(&read_relation(text), out),
-        Words::Gate => put_debug(&read_gate(text), out),
-        Words::Criterion => put_debug(&read_criterion(text), out),
-        Words::Switch => put_debug(&read_switch(text), out),
-        Words::Reset => put_debug(&read_reset(text), out),
     }
 }

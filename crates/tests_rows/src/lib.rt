@@ -7,11 +7,13 @@
 //! the name `=` the text is the first part itself.
 #![tactic(auto)]
 
+mod cuts;
 mod escapes;
 mod lines;
 mod row;
 mod texts;
 
+pub use cuts::{Reads, put_bad_line, put_cuts};
 pub use escapes::{put_escaped, unescaped};
 pub use lines::{Answers, Line, answer_lines, put_debug, written};
 pub use row::{Row, found};

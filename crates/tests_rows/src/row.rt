@@ -38,31 +38,19 @@ impl<'a> Row<'a> {
     }
 
     pub fn byte(&mut self) -> Result<u8> {
-        match self.next()?.parse::<u8>() {
-            Ok(v) => Ok(v),
-            Err(_) => Err(Error::msg("no byte")),
-        }
+        Ok(self.next()?.parse::<u8>()?)
     }
 
     pub fn number(&mut self) -> Result<u32> {
-        match self.next()?.parse::<u32>() {
-            Ok(v) => Ok(v),
-            Err(_) => Err(Error::msg("no number")),
-        }
+        Ok(self.next()?.parse::<u32>()?)
     }
 
     pub fn long(&mut self) -> Result<u64> {
-        match self.next()?.parse::<u64>() {
-            Ok(v) => Ok(v),
-            Err(_) => Err(Error::msg("no long number")),
-        }
+        Ok(self.next()?.parse::<u64>()?)
     }
 
     pub fn integer(&mut self) -> Result<i128> {
-        match self.next()?.parse::<i128>() {
-            Ok(v) => Ok(v),
-            Err(_) => Err(Error::msg("no integer")),
-        }
+        Ok(self.next()?.parse::<i128>()?)
     }
 
     /// What the next word stands for in a table.

@@ -28,7 +28,7 @@ answered-requires c =
       prepared = record {
         arity = need.arity;
         signs = need.signs;
-        types = three_types c.args.a.kind c.args.b.kind c.args.c.kind need.a_valid need.b_valid need.c_valid;
+        types = three_types c.args.a.kind c.args.b.kind c.args.c.kind need.a.0 need.b.0 need.c.0;
         parameters = need.parameters;
         result = need.end_valid;
         result_type = need.result_type;
@@ -36,6 +36,6 @@ answered-requires c =
       };
       values = record {
         count = refl;
-        in_range = three_in_range c.args.a.kind c.args.b.kind c.args.c.kind c.args.a.value c.args.b.value c.args.c.value need.a_in_range need.b_in_range need.c_in_range;
+        in_range = three_in_range c.args.a.kind c.args.b.kind c.args.c.kind c.args.a.value c.args.b.value c.args.c.value need.a.1 need.b.1 need.c.1;
       };
     })
