@@ -112,12 +112,14 @@ class Wanting(unittest.TestCase):
             "match g() {\n    Some(a) => Ok(a),\n    None => Err(OutOfMemory),\n}",
             "match g() {\n    Err(OutOfMemory) => Ok(1),\n    Ok(_) => Err(SizeFault::OutOfMemory),\n}",
             "g().ok_or(OutOfMemory)",
+            "matches!(a, b); Err(F::OutOfMemory)",
             "match g() {\n    Err(OutOfMemory) => {\n        let a = 1;\n        Err(OutOfMemory)\n    }\n}",
         ):
             self.assertEqual(self.ends(line), 1, line)
         for line in (
             "// allocation: the buffer's\nreturn Err(OutOfMemory);",
             "match g() {\n    Ok(a) => Ok(a),\n    Err(AllocError) => Err(OutOfMemory),\n}",
+            "!matches!(fault, F::OutOfMemory)",
             "match g() {\n    Err(SizeFault::OutOfMemory) => return Err(OutOfMemory),\n}",
             "match g() {\n    Err(OutOfMemory) => {\n        drop(a);\n        return Err(F::OutOfMemory);\n    }\n}",
             "}\nimpl From<OutOfMemory> for F {\n    fn from(_refused: OutOfMemory) -> F {\n        F::OutOfMemory\n    }",
@@ -214,21 +216,27 @@ class Gate(unittest.TestCase):
         "tools/cross_check", "tools/cross_values", "tools/cross_nets",
     )
 
-    def gate(self, status, last, statuses):
+    def gate(self, status, last, statuses, shell=()):
         """What the gate ends with, where `rt ci` ends with a status and a last line, and the checks with theirs."""
         with tempfile.TemporaryDirectory() as room:
             rt = f"#!/bin/sh\necho jobs $RT_JOBS\necho '{last}'\nexit {status}\n"
             for name, text in [("bin/rt", rt), ("top/tools/jobs", "#!/bin/sh\necho 3\n")] + [(f"top/{name}", f"#!/bin/sh\n{text_of(code)}\n") for name, code in statuses.items()]:
                 write(os.path.join(room, name), text)
                 os.chmod(os.path.join(room, name), 0o755)
-            for name in (".ci/run", "tilecatnip"):
+            for name in (".ci/run", "tools/gate", "tilecatnip"):
                 os.makedirs(os.path.join(room, "top/.ci"), exist_ok=True)
                 shutil.copy(os.path.join(TOP, name), os.path.join(room, "top", name))
             env = {**os.environ, "PATH": os.path.join(room, "bin") + ":" + os.environ["PATH"]}
             env.pop("RT_JOBS", None)
-            done = subprocess.run([os.path.join(room, "top/.ci/run")], cwd="/", env=env, capture_output=True, text=True, timeout=60)
+            done = subprocess.run([*shell, os.path.join(room, "top/.ci/run")], cwd="/", env=env, capture_output=True, text=True, timeout=60)
             self.assertEqual(done.stdout.splitlines()[0], "jobs 3")
             return done.returncode, done.stdout.splitlines()[-1], [line for line in done.stdout.splitlines() if "skipped" in line]
+
+    def test_a_shell_may_be_given_it(self):
+        good = dict.fromkeys(self.CHECKS, 0)
+        for shell in ("sh", "bash"):
+            self.assertEqual(self.gate(0, "12 passed, 0 failed", good, (shell,)), (0, "12 passed, 0 failed", []))
+            self.assertEqual(self.gate(1, "11 passed, 1 failed", good, (shell,)), (1, "11 passed, 1 failed", []))
 
     def test_its_last_line_and_status_tell_of_all_checks(self):
         good = dict.fromkeys(self.CHECKS, 0)
