@@ -33,14 +33,14 @@ fn product(a: i128, b: i128) -> i128
 }
 
 /// Times a power of two.
-fn up(v: i128, places: u8) -> i128
+fn shift_up(v: i128, places: u8) -> i128
     ensures { IsCongruent result (v *ℤ pos (2 ^ places)) (2 ^ 128) }
 {
     if places < 128 { v << places } else { 0 }
 }
 
 /// By a power of two, rounded down.
-fn down(v: i128, places: u8) -> i128
+fn floor_quotient(v: i128, places: u8) -> i128
     ensures { result ≡ shifted_down v places }
 {
     if places < 127 {
@@ -70,7 +70,7 @@ fn one_of(a: i128, b: i128) -> i128
     a ^ b
 }
 
-fn inverted(a: i128) -> i128
+fn complement(a: i128) -> i128
     ensures { IsCongruent result (negsuc 0 -ℤ a) (2 ^ 128) }
 {
     !a
@@ -95,17 +95,17 @@ fn slice(v: i128, high: u8, low: u8) -> i128
 }
 
 /// The number itself.
-fn kept(v: i128) -> i128
+fn identity(v: i128) -> i128
     ensures { IsCongruent result v (2 ^ 128) }
 {
     v
 }
 
 /// By a power of two, rounded down.
-fn lowered(v: i128, places: u8) -> i128
+fn shift_down(v: i128, places: u8) -> i128
     ensures { IsCongruent result (shifted_down v places) (2 ^ 128) }
 {
-    down(v, places)
+    floor_quotient(v, places)
 }
 
 /// Whether the first is below the second.
@@ -123,25 +123,25 @@ fn equal(a: i128, b: i128) -> i128
 }
 
 /// The second where the first is not 0, else the third.
-fn chosen(a: i128, b: i128, c: i128) -> i128
+fn choice(a: i128, b: i128, c: i128) -> i128
     ensures { IsCongruent result (if not (int_eq a (pos 0)) then b else c) (2 ^ 128) }
 {
     if a == 0 { c } else { b }
 }
 
 /// What an operation gives of three numbers, of which it looks at those that it asks for.
-fn given(op: NetOp, inputs: &[i128], first: i128, second: i128, third: i128) -> i128
+fn result_of(op: NetOp, inputs: &[i128], first: i128, second: i128, third: i128) -> i128
     requires { CanGive (length inputs.now) op }
     ensures { IsCongruent result
         (given_by op (row_of inputs.now) (record { first = first; second = second; third = third }))
         (2 ^ 128) }
 {
     match op {
-        NetOp::Input(number) => kept(inputs[number as usize]),
-        NetOp::Const(value) => kept(value),
-        NetOp::Resize => kept(first),
-        NetOp::ShiftUp(places) => up(first, places),
-        NetOp::ShiftDown(places) => lowered(first, places),
+        NetOp::Input(number) => identity(inputs[number as usize]),
+        NetOp::Const(value) => identity(value),
+        NetOp::Resize => identity(first),
+        NetOp::ShiftUp(places) => shift_up(first, places),
+        NetOp::ShiftDown(places) => shift_down(first, places),
         NetOp::Add => sum(first, second),
         NetOp::Subtract => difference(first, second),
         NetOp::Negate => difference(0, first),
@@ -149,10 +149,10 @@ fn given(op: NetOp, inputs: &[i128], first: i128, second: i128, third: i128) -> 
         NetOp::And => both(first, second),
         NetOp::Or => either(first, second),
         NetOp::Xor => one_of(first, second),
-        NetOp::Not => inverted(first),
+        NetOp::Not => complement(first),
         NetOp::Less => less(first, second),
         NetOp::Equal => equal(first, second),
-        NetOp::Choose => chosen(first, second, third),
+        NetOp::Choose => choice(first, second, third),
         NetOp::Slice { high, low } => slice(first, high, low),
     }
 }
@@ -173,11 +173,11 @@ pub fn operate(
         (given_by op (row_of inputs.now) (record { first = first; second = second; third = third }))
         width signed result }
 {
-    wrap(given(op, inputs, first, second, third), width, signed)
+    wrap(result_of(op, inputs, first, second, third), width, signed)
 }
 
 /// A product, cut to a word.
-pub fn multiplied(left: i128, right: i128, width: u8, signed: bool) -> i128
+pub fn word_product(left: i128, right: i128, width: u8, signed: bool) -> i128
     requires { IsWord width signed }
     ensures { IsWrapped (left *ℤ right) width signed result }
 {

@@ -206,9 +206,9 @@ fn spread(
     Ok(())
 }
 
-/// The nets in an order in which each stands after those that it reads in the same clock, as far as
-/// there is one, and the places of the nets in it.
-fn ordered(
+/// Gives the nets places in an order in which each stands after those that it reads in the same clock,
+/// as far as there is one, and returns the nets in it.
+fn rank_nets(
     alloc: Global,
     nets: &[Net],
     readers: &mut [Sizes],
@@ -237,7 +237,7 @@ pub fn order_of(alloc: Global, net: &Netlist) -> Result<Vec<u32>, OutOfMemory>
     let nets = net.nets();
     let mut readers = empty_lists(alloc, nets.len())?;
     let mut ranks: Vec<Option<u32>> = vec![in alloc; None; nets.len()]?;
-    ordered(alloc, nets, readers.as_mut_slice(), ranks.as_mut_slice())
+    rank_nets(alloc, nets, readers.as_mut_slice(), ranks.as_mut_slice())
 }
 
 /// Whether all places are there.
@@ -260,7 +260,7 @@ fn are_ordered(
     requires fresh { (k : ℕ) → place_of ranks.old k ≡ None }
     ensures { IfOk result (λ is. IsTrue is ↔ ((rank : ℕ → ℕ) × IsRanked nets.now rank)) }
 {
-    let _order = ordered(alloc, nets, readers, ranks)?;
+    let _order = rank_nets(alloc, nets, readers, ranks)?;
     Ok(are_some(ranks))
 }
 

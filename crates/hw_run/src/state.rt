@@ -5,7 +5,7 @@ ghost use Rattle.hw_run.specs.State.{State, IsOrder, IsStateOf, row_of};
 ghost use Rattle.hw_net.specs.Step.{Goes};
 
 use crate::order::order_of;
-use crate::stepping::shown;
+use crate::stepping::net_value;
 use fx_io::OutOfMemory;
 use hw_net::Netlist;
 use std::alloc::Global;
@@ -48,7 +48,7 @@ fn sweep(net: &Netlist, order: &[u32], clock: u64, now: &[i128], next: &mut [i12
     let cycles = net.cycles();
     for place in order {
         let k = *place as usize;
-        let value = shown(&nets[k], cycles, clock, now[k], now, next, inputs);
+        let value = net_value(&nets[k], cycles, clock, now[k], now, next, inputs);
         next[k] = value;
     }
 }

@@ -8,7 +8,7 @@ ghost use Rattle.hw_net.specs.NetRows.{number_at, operands_at, span_of};
 ghost use Rattle.hw_run.specs.State.{row_of};
 ghost use Rattle.hw_net.specs.Step.{RegSteps, EnRegSteps, BridgeSteps, CounterSteps, NetGoes};
 
-use crate::operation::{multiplied, operate};
+use crate::operation::{operate, word_product};
 use crate::timing::{first_count, is_live, length_of, takes};
 use hw_net::{Frame, Net, NetKind, NetOp};
 
@@ -23,8 +23,15 @@ fn number_at(row: &[i128], args: &[u32], place: usize) -> i128
     }
 }
 
-/// What an operation gives of the nets of a list.
-fn operated(op: NetOp, args: &[u32], row: &[i128], inputs: &[i128], width: u8, signed: bool) -> i128
+/// What a Comb net shows: what its operation gives of the nets of a list.
+fn comb_value(
+    op: NetOp,
+    args: &[u32],
+    row: &[i128],
+    inputs: &[i128],
+    width: u8,
+    signed: bool,
+) -> i128
     requires word { IsWord width signed }
     requires there { All (λ net. net < length row.now) args.now }
     requires parts { CanGive (length inputs.now) op }
@@ -38,7 +45,7 @@ fn operated(op: NetOp, args: &[u32], row: &[i128], inputs: &[i128], width: u8, s
 }
 
 /// What a register shows after the edge that ends a clock.
-fn register(frame: Frame, cycles: u32, slot: u32, clock: u64, from: i128, old: i128) -> i128
+fn register_value(frame: Frame, cycles: u32, slot: u32, clock: u64, from: i128, old: i128) -> i128
     requires period { 0 < frame.period }
     requires cycles { 0 < cycles }
     ensures { RegSteps (span_of cycles frame) slot clock from old result }
@@ -51,7 +58,7 @@ fn register(frame: Frame, cycles: u32, slot: u32, clock: u64, from: i128, old: i
 }
 
 /// What a register with enable shows at a clock.
-fn enabled(
+fn enabled_register_value(
     frame: Frame,
     cycles: u32,
     reset: bool,
@@ -80,7 +87,7 @@ fn enabled(
 }
 
 /// What a bridge shows at a clock.
-fn bridged(frame: Frame, cycles: u32, live: u32, clock: u64, from: i128, old: i128) -> i128
+fn bridge_value(frame: Frame, cycles: u32, live: u32, clock: u64, from: i128, old: i128) -> i128
     requires period { 0 < frame.period }
     requires cycles { 0 < cycles }
     ensures { Shows clock (result ≡ from)
@@ -94,7 +101,7 @@ fn bridged(frame: Frame, cycles: u32, live: u32, clock: u64, from: i128, old: i1
 }
 
 /// What a counter shows at a clock.
-fn counted(frame: Frame, cycles: u32, clock: u64, old: i128) -> i128
+fn counter_value(frame: Frame, cycles: u32, clock: u64, old: i128) -> i128
     requires period { 0 < frame.period }
     requires cycles { 0 < cycles }
     ensures { Shows clock
@@ -112,7 +119,7 @@ fn counted(frame: Frame, cycles: u32, clock: u64, old: i128) -> i128
 
 /// What a net shows at a clock, from the row of the clock before and the nets that it reads in the
 /// same clock.
-pub fn shown(
+pub fn net_value(
     one: &Net,
     cycles: u32,
     clock: u64,
@@ -131,7 +138,7 @@ pub fn shown(
 {
     let (width, signed) = (one.width, one.signed);
     match &one.kind {
-        NetKind::Comb { op, args } => operated(*op, args.as_slice(), next, inputs, width, signed),
+        NetKind::Comb { op, args } => comb_value(*op, args.as_slice(), next, inputs, width, signed),
         NetKind::Reg {
             frame,
             slot,
@@ -141,7 +148,7 @@ pub fn shown(
             if clock == 0 {
                 return *first;
             }
-            register(*frame, cycles, *slot, clock - 1, now[*from as usize], old)
+            register_value(*frame, cycles, *slot, clock - 1, now[*from as usize], old)
         }
         NetKind::EnReg {
             frame,
@@ -152,15 +159,15 @@ pub fn shown(
         } => {
             let allowed = now[*enable as usize];
             let offered = now[*from as usize];
-            enabled(*frame, cycles, *reset, *first, clock, allowed, offered, old)
+            enabled_register_value(*frame, cycles, *reset, *first, clock, allowed, offered, old)
         }
         NetKind::Bridge { frame, live, from } => {
-            bridged(*frame, cycles, *live, clock, next[*from as usize], old)
+            bridge_value(*frame, cycles, *live, clock, next[*from as usize], old)
         }
         NetKind::Unit { left, right } => {
             let (left, right) = (next[*left as usize], next[*right as usize]);
-            multiplied(left, right, width, signed)
+            word_product(left, right, width, signed)
         }
-        NetKind::Counter { frame } => counted(*frame, cycles, clock, old),
+        NetKind::Counter { frame } => counter_value(*frame, cycles, clock, old),
     }
 }

@@ -40,7 +40,7 @@ pub fn first_count(frame: Frame, cycles: u32) -> i128
 }
 
 /// The clocks since the first value began, if it has.
-fn passed(frame: Frame, cycles: u32, clock: u64) -> Option<u64>
+fn clocks_since_start(frame: Frame, cycles: u32, clock: u64) -> Option<u64>
     ensures { SomeIff result (frame.latency * cycles ≤ clock) (clock - frame.latency * cycles) }
 {
     let start = start_of(frame, cycles);
@@ -56,7 +56,7 @@ pub fn takes(frame: Frame, cycles: u32, slot: u64, clock: u64) -> bool
     requires cycles { 0 < cycles }
     ensures { IsTrue result ↔ Takes (span_of cycles frame) slot clock }
 {
-    match passed(frame, cycles, clock) {
+    match clocks_since_start(frame, cycles, clock) {
         Some(passed) => passed % length_of(frame, cycles) == slot,
         None => false,
     }
@@ -69,7 +69,7 @@ pub fn is_live(frame: Frame, cycles: u32, live: u32, clock: u64) -> bool
     ensures { IsTrue result ↔ IsLive (span_of cycles frame) (live * cycles) clock }
 {
     let lives = u64::from(live) * u64::from(cycles);
-    match passed(frame, cycles, clock) {
+    match clocks_since_start(frame, cycles, clock) {
         Some(passed) => passed % length_of(frame, cycles) < lives,
         None => true,
     }

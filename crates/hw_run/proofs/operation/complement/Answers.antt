@@ -1,5 +1,5 @@
 use Rattle.hw_net.proofs.Modular.{inverted-congruent}
-use Rattle.hw_run.proofs.operation.inverted.Goals as goal
+use Rattle.hw_run.proofs.operation.complement.Goals as goal
 
 pub returns : goal.returns
 returns c = inverted-congruent c.args.a c.ranges.a

@@ -2,7 +2,7 @@ use Rattle.std.specs.Int.{w128}
 use Rattle.std.proofs.lemmas.Int.{to_z-of_z}
 use Rattle.fx_num.proofs.Words.{word-width}
 use Rattle.hw_net.proofs.Modular.{cut-through}
-use Rattle.hw_run.proofs.operation.multiplied.Goals as goal
+use Rattle.hw_run.proofs.operation.word_product.Goals as goal
 
 pub returns : goal.returns
 returns c =

@@ -1,6 +1,6 @@
 use Rattle.std.proofs.Common.{arith}
 use Rattle.hw_net.proofs.Modular.{up-congruent, far-up}
-use Rattle.hw_run.proofs.operation.up.Goals as goal
+use Rattle.hw_run.proofs.operation.shift_up.Goals as goal
 
 pub returns-then-places-lt128 : goal.returns-then-places-lt128
 returns-then-places-lt128 c = up-congruent c.args.v c.args.places c.ranges.v

@@ -1,7 +1,7 @@
 use Rattle.std.proofs.Common.{arith}
 use Rattle.std.proofs.lemmas.Int.{ints}
 use Rattle.hw_net.proofs.Modular.{far-down}
-use Rattle.hw_run.proofs.operation.down.Goals as goal
+use Rattle.hw_run.proofs.operation.floor_quotient.Goals as goal
 
 pub returns-then-v-lt0 : goal.returns-then-v-lt0
 returns-then-v-lt0 c = (far-down c.args.v c.args.places c.ranges.v (omega (arith, c.if-places-lt127.false))).0 (omega (arith, ints, c.if-v-lt0.true))

@@ -1,5 +1,5 @@
 use Rattle.hw_net.proofs.Modular.{kept-as, choice}
-use Rattle.hw_run.proofs.operation.chosen.Goals as goal
+use Rattle.hw_run.proofs.operation.choice.Goals as goal
 
 pub returns-then-a-eq0 : goal.returns-then-a-eq0
 returns-then-a-eq0 c = kept-as c.args.c _ c.ranges.c ((choice c.args.a c.args.b c.args.c c.ranges.a).0 c.if-a-eq0.true)
