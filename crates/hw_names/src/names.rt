@@ -77,7 +77,7 @@ fn port_name(alloc: Global, name: Vec<u8>) -> Result<Vec<u8>, OutOfMemory>
 }
 
 /// A name with a number.
-fn numbered(alloc: Global, name: &[u8], number: u32) -> Result<Vec<u8>, OutOfMemory>
+fn numbered_name(alloc: Global, name: &[u8], number: u32) -> Result<Vec<u8>, OutOfMemory>
     ensures { IfOk result (λ other. other.items ≡ numbered_of name.now number) }
 {
     let mut other = Vec::from_slice(alloc, name)?;
@@ -169,7 +169,7 @@ impl Names {
             AreTried list name.now.items number) }
     {
         for number in self.first_number(name)..u32::MAX {
-            let other = numbered(alloc, name.as_slice(), number)?;
+            let other = numbered_name(alloc, name.as_slice(), number)?;
             if !self.is_taken(&other) {
                 return Ok(number);
             }
@@ -198,7 +198,7 @@ impl Names {
             return self.put(alloc, name);
         }
         let number = self.least_number(alloc, &name)?;
-        let other = numbered(alloc, name.as_slice(), number)?;
+        let other = numbered_name(alloc, name.as_slice(), number)?;
         let text = self.put(alloc, other)?;
         let _ = self.numbers.insert(name, number + 1)?;
         Ok(text)

@@ -8,7 +8,7 @@ use fx_io::OutOfMemory;
 use std::alloc::Global;
 
 /// How many slots so many operations need.
-fn shared(count: u64, multipliers: u64) -> Result<u64, OutOfMemory>
+fn slot_count(count: u64, multipliers: u64) -> Result<u64, OutOfMemory>
     requires some { 0 < multipliers }
     ensures { IfOk result (λ slots. slots ≡ shared_out count multipliers) }
 {
@@ -31,7 +31,7 @@ pub fn widths_of(
     for operation in operations {
         let operation = *operation;
         let count = counts.get(operation.kind, operation.level);
-        let slots = shared(count, multipliers)?;
+        let slots = slot_count(count, multipliers)?;
         widths.raise(operation.period, operation.level, slots)?;
     }
     Ok(widths)
