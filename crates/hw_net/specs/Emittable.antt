@@ -17,16 +17,28 @@ pub record IsPortName (name : List ℕ) : Type 0 where
   pub no_enabled : name ≢ codes "ce_out"
   pub no_own : (rest : List ℕ) → name ≢ codes "fx_" ++ rest
 
+-- the greatest period of a port, in base samples
+abbrev pub most_period : ℕ
+most_period = 4096
+
+-- the greatest latency of an output, in clocks
+abbrev pub most_latency : ℕ
+most_latency = 16777216
+
+-- the most clocks of a base sample
+abbrev pub most_cycles : ℕ
+most_cycles = 1024
+
 -- an input's period, and an output's period and latency, are in the ranges of their attributes
 pub record IsPeriod (period : ℕ) : Type 0 where
   pub some : 1 ≤ period
-  pub most : period ≤ 4096
+  pub most : period ≤ most_period
 
 pub record ArePorts (inputs outputs : List NetPort) : Type 0 where
   pub names : (port : NetPort) → Contains (inputs ++ outputs) port → IsPortName port.name
   pub differ : AllPairs (λ one other. one.name ≢ other.name) (inputs ++ outputs)
   pub periods : (port : NetPort) → Contains (inputs ++ outputs) port → IsPeriod port.period
-  pub latencies : (port : NetPort) → Contains outputs port → port.latency ≤ 16777216
+  pub latencies : (port : NetPort) → Contains outputs port → port.latency ≤ most_latency
 
 -- a label is an identifier that begins with `fx_m` or `fx_p`
 pub record IsLabelName (name : List ℕ) : Type 0 where
@@ -42,7 +54,7 @@ pub record AreLabels (count : ℕ) (labels : List NetLabel) : Type 0 where
   pub names_differ : AllPairs (λ one other. one.name ≢ other.name) labels
 
 pub record IsEmittable (netlist : Circuit) : Type 0 where
-  pub cycles : netlist.cycles ≤ 1024
+  pub cycles : netlist.cycles ≤ most_cycles
   pub counters : HasCounters netlist.nets
   pub ports : ArePorts netlist.inputs netlist.outputs
   pub labels : AreLabels (length netlist.nets) netlist.labels

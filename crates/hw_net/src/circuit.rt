@@ -172,7 +172,7 @@ impl Netlist {
 }
 
 /// The frame that a net counts, if it is a Counter.
-fn counted(kind: &NetKind) -> Option<Frame>
+fn counted_frame(kind: &NetKind) -> Option<Frame>
     ensures { result ≡ counted_frame kind.now }
 {
     match kind {
@@ -197,7 +197,7 @@ fn append(nets: &mut Nets, counters: &mut FrameIndex, net: Net) -> Result<u32, O
         // word: the number of a net, of 32 bits
         return Err(OutOfMemory);
     };
-    let Some(frame) = counted(&net.kind) else {
+    let Some(frame) = counted_frame(&net.kind) else {
         nets.push(net)?;
         return Ok(number);
     };
