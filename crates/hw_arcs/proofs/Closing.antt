@@ -7,7 +7,7 @@ use Rattle.hw_arcs.specs.declared.found.Gaining.{Gaining}
 use Rattle.hw_arcs.specs.declared.found.Found.{Found}
 use Rattle.hw_arcs.specs.declared.found.Found.TheVariants.{Least, Gains}
 use Rattle.hw_arcs.specs.Latencies.{latency_at, IsFeasible}
-use Rattle.hw_arcs.specs.Found.{AreKnown, AreLeast, IsFound, IsGaining, most_gain}
+use Rattle.hw_arcs.specs.Found.{AreKnown, AreLeast, IsFound, IsGaining, most_gain, most_joined_blocks}
 use Rattle.hw_arcs.specs.inner.State.{State, AreLabels, IsState}
 use Rattle.hw_arcs.specs.inner.Walk.{AreGiven, IsClosed, IsEnded, IsRing, IsTurnedBack, IsWalked, gains_of, slacks_of}
 use Rattle.hw_arcs.proofs.Chains.{gains_small}
@@ -42,7 +42,7 @@ ring_after arcs lat tight slice first path ring found place labels same is walke
     subst (λ (r : List ℕ). IsRing arcs slice r (length slice)) (sym after)
     (ring_of arcs lat slice first path (length slice) place (subst (λ (t : List (Option ℕ)). AreLabels arcs lat t) (sym same) labels) (closed_at arcs slice first path found place is walked))
 
-pub gaining_is : (arcs : List Arc) (lat : List ℕ) (tight slice : List (Option ℕ)) (ring blocks : List ℕ) (total : ℕ) → AreKnown arcs (length lat) → length lat ≤ 20000 → AreLabels arcs lat tight → slice ≡ tight → IsRing arcs slice ring (length slice) → IsTurnedBack ring blocks
+pub gaining_is : (arcs : List Arc) (lat : List ℕ) (tight slice : List (Option ℕ)) (ring blocks : List ℕ) (total : ℕ) → AreKnown arcs (length lat) → length lat ≤ most_joined_blocks → AreLabels arcs lat tight → slice ≡ tight → IsRing arcs slice ring (length slice) → IsTurnedBack ring blocks
     → total + slacks_of arcs slice ring ≡ gains_of arcs slice ring → IsGaining arcs (record { blocks = blocks; total = total })
 gaining_is arcs lat tight slice ring blocks total known few labels same is turned sum =
     let told : AreLabels arcs lat slice = subst (λ (t : List (Option ℕ)). AreLabels arcs lat t) (sym same) labels in

@@ -15,6 +15,10 @@ pub record IsIn (xs : List ℕ) (x : ℕ) : Type 0 where
 abbrev pub most_gain : ℕ
 most_gain = 279172874240
 
+-- the most blocks that arcs join
+abbrev pub most_joined_blocks : ℕ
+most_joined_blocks = 20000
+
 -- arcs join blocks that are there
 pub record AreKnown (arcs : List Arc) (count : ℕ) : Type 0 where
   pub from : (number : ℕ) (arc : Arc) → slice_get arcs number ≡ Some arc → arc.from < count

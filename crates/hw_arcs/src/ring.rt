@@ -1,5 +1,5 @@
 ghost use Rattle.std.specs.Prelude.{◌≡◌, ◌+◌, ◌≤◌, ◌<◌, All, IfOk, length, slice_index};
-ghost use Rattle.hw_arcs.specs.Found.{AreKnown, most_gain};
+ghost use Rattle.hw_arcs.specs.Found.{AreKnown, most_gain, most_joined_blocks};
 ghost use Rattle.hw_arcs.specs.inner.Walk.{AreGiven, IsRing, IsTurnedBack, gain_into, gains_of, slack_into, slacks_of};
 
 use crate::arc::Arc;
@@ -55,7 +55,7 @@ fn asked_into(arcs: &[Arc], tight: &[Option<u32>], block: u32) -> (u64, u64)
 pub fn total_of(arcs: &[Arc], tight: &[Option<u32>], ring: &[u32]) -> u64
     requires known { AreKnown arcs.now (length tight.now) }
     requires given { AreGiven arcs.now tight.now }
-    requires few { length tight.now ≤ 20000 }
+    requires few { length tight.now ≤ most_joined_blocks }
     requires ring { IsRing arcs.now tight.now ring.now (length tight.now) }
     ensures { result + slacks_of arcs.now tight.now ring.now
         ≡ gains_of arcs.now tight.now ring.now }

@@ -1,7 +1,7 @@
 ghost use Rattle.std.specs.Prelude.{◌≡◌, ◌*◌, ◌≤◌, ◌^◌, [], IfNone, IfOk, IfSome};
 ghost use Rattle.std.specs.Prelude.{MatchOption, OnOk, length};
 ghost use Rattle.hw_arcs.specs.Latencies.{IsFeasible, latency_at};
-ghost use Rattle.hw_arcs.specs.Found.{AreKnown, IsFound, IsGaining, IsWhole, most_gain};
+ghost use Rattle.hw_arcs.specs.Found.{AreKnown, IsFound, IsGaining, IsWhole, most_gain, most_joined_blocks};
 ghost use Rattle.hw_arcs.specs.declared.found.Found.TheVariants.{Gains, Least};
 ghost use Rattle.hw_arcs.specs.inner.State.{AreRows, AreSettled, AreWithin, CanGoBack, IsState, seen};
 
@@ -65,7 +65,7 @@ fn relax_all(
 ) -> Result<Option<Gaining>, OutOfMemory>
     requires known { AreKnown arcs.now (length state.old.lat.items) }
     requires rows { AreRows arcs.now (length state.old.lat.items) rows.now }
-    requires few { length state.old.lat.items ≤ 20000 }
+    requires few { length state.old.lat.items ≤ most_joined_blocks }
     requires state { IsState arcs.now (length state.old.lat.items) (seen state.old) }
     requires within { AreWithin 0 (seen state.old) }
     requires settled { AreSettled arcs.now (seen state.old) [] }
@@ -130,7 +130,7 @@ pub fn latencies(
 ) -> Result<Found, OutOfMemory>
     requires known { AreKnown arcs.now count }
     requires few { length arcs.now ≤ 2 ^ 32 }
-    requires small { count ≤ 20000 }
+    requires small { count ≤ most_joined_blocks }
     requires whole { IsWhole order.now count }
     ensures { IfOk result (IsFound arcs.now count) }
 {

@@ -5,7 +5,7 @@ use Rattle.fx_io.specs.Rows.{row_at}
 use Rattle.hw_arcs.specs.declared.arc.Arc.{Arc}
 use Rattle.hw_arcs.specs.declared.relaxing.Relaxing.{Relaxing}
 use Rattle.hw_arcs.specs.Latencies.{latency_at, IsFeasible}
-use Rattle.hw_arcs.specs.Found.{IsIn, AreKnown}
+use Rattle.hw_arcs.specs.Found.{IsIn, AreKnown, most_joined_blocks}
 use Rattle.hw_arcs.specs.declared.relaxing.Step.{Step}
 use Rattle.hw_arcs.specs.declared.relaxing.Step.TheVariants.{Done, Settled, Above}
 
@@ -136,7 +136,7 @@ pub record IsRelaxing (arcs : List Arc) (count limit : ℕ) (s : State) : Type 0
 -- from the block a way back along the arcs that gave the latencies can be walked
 pub record CanGoBack (arcs : List Arc) (s : State) (block : ℕ) : Type 0 where
   pub known : AreKnown arcs (length s.lat)
-  pub few : length s.lat ≤ 20000
+  pub few : length s.lat ≤ most_joined_blocks
   pub state : IsState arcs (length s.lat) s
   pub there : block < length s.lat
 

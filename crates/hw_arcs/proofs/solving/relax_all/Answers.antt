@@ -4,7 +4,7 @@ use Rattle.hw_arcs.specs.declared.arc.Arc.{Arc}
 use Rattle.hw_arcs.specs.declared.found.Gaining.{Gaining}
 use Rattle.hw_arcs.specs.declared.relaxing.Step.{Step}
 use Rattle.hw_arcs.specs.declared.relaxing.Step.TheVariants.{Settled, Above}
-use Rattle.hw_arcs.specs.Found.{AreKnown, IsGaining, most_gain}
+use Rattle.hw_arcs.specs.Found.{AreKnown, IsGaining, most_gain, most_joined_blocks}
 use Rattle.hw_arcs.specs.inner.State.{State, AreRows, CanGoBack, IsAbove, IsRelaxing, IsState, IsStepEnd, IsStepOn, seen}
 use Rattle.hw_arcs.specs.Latencies.{latency_at}
 use Rattle.hw_arcs.proofs.Closing.{cycle_there}
@@ -25,7 +25,7 @@ goes_on arcs count before limit block old new first size state end = record {
   settled = end.settled;
 }
 
-goes_back : (arcs : List Arc) (count before block : ℕ) (new : State) → before ≡ count → length new.lat ≡ before → AreKnown arcs count → count ≤ 20000 → IsState arcs before new → block < before → CanGoBack arcs new block
+goes_back : (arcs : List Arc) (count before block : ℕ) (new : State) → before ≡ count → length new.lat ≡ before → AreKnown arcs count → count ≤ most_joined_blocks → IsState arcs before new → block < before → CanGoBack arcs new block
 goes_back arcs count before block new first size known few state there = record {
   known = subst (λ (n : ℕ). AreKnown arcs n) (sym (size ∙ first)) known;
   few = omega (arith, size, first, few);
