@@ -79,12 +79,20 @@ storage diagram attributes plan timing = lines_in_all diagram attributes plan ti
 abbrev pub greatest_latency : Diagram → Attributes → Resolved → Timing → ℕ
 greatest_latency diagram attributes plan timing = greatest (map (λ e. declared_latency diagram attributes plan timing e.block) (root_outputs diagram attributes))
 
+-- the most registers of a module
+abbrev pub most_storage : ℕ
+most_storage = 400000
+
+-- the greatest latency of a module, in clocks
+abbrev pub most_latency : ℕ
+most_latency = 16777216
+
 -- the rule is kept
 pub record KeepsSize (diagram : Diagram) (plan : Resolved) (timing : Timing) : Type 0 where
-  pub few : storage diagram (attributes_of diagram) plan timing ≤ 400000
-  pub short : greatest_latency diagram (attributes_of diagram) plan timing ≤ 16777216
+  pub few : storage diagram (attributes_of diagram) plan timing ≤ most_storage
+  pub short : greatest_latency diagram (attributes_of diagram) plan timing ≤ most_latency
 
 -- the rule is broken, with this fault
 pub record BreaksSize (diagram : Diagram) (plan : Resolved) (timing : Timing) (fault : RuleFault) : Type 0 where
-  pub broken : (400000 < storage diagram (attributes_of diagram) plan timing) ⊎ (16777216 < greatest_latency diagram (attributes_of diagram) plan timing)
+  pub broken : (most_storage < storage diagram (attributes_of diagram) plan timing) ⊎ (most_latency < greatest_latency diagram (attributes_of diagram) plan timing)
   pub fault_is : fault ≡ fault_of Rule.Size [] (Size (storage diagram (attributes_of diagram) plan timing) (greatest_latency diagram (attributes_of diagram) plan timing))

@@ -44,7 +44,7 @@ fn multipliers_of(plan: &Resolved) -> u64
 }
 
 /// The slots of the shared operations of a diagram by depths.
-fn served(
+fn slots_by_depths(
     alloc: Global,
     checked: &Checked,
     latencies: &Latencies,
@@ -89,7 +89,7 @@ pub fn slots_of(
 {
     let depths = depths(alloc, checked, plan)?;
     let by_block = depths.as_slice();
-    let made = served(alloc, checked, latencies, by_block, plan)?;
+    let made = slots_by_depths(alloc, checked, latencies, by_block, plan)?;
     let ready = ready_of(alloc, checked, latencies, by_block, &made.bases);
     let hw_slots::Slots {
         starts,

@@ -21,7 +21,7 @@ use Rattle.hw_latency.specs.Shared.{is_shared}
 use Rattle.hw_sched.specs.declared.edge_lines.Line.{Line}
 use Rattle.hw_sched.specs.declared.sizing.Sizing.{Sizing}
 use Rattle.hw_sched.specs.Slots.{Timing}
-use Rattle.hw_sched.specs.Storage.{kept_by_role, line_of}
+use Rattle.hw_sched.specs.Storage.{kept_by_role, line_of, most_latency, most_storage}
 
 -- what counts lines begins with: a plan of the diagram, and its latencies by it
 pub record HasLatencies (diagram : Diagram) (plan : Resolved) (latencies : Latencies) : Type 0 where
@@ -88,4 +88,4 @@ output_latency diagram attributes plan lat ready place = if is_output diagram at
 
 -- a size is within its bounds
 abbrev pub are_within : Sizing → Bool
-are_within sizing = nat_le sizing.storage 400000 && nat_le sizing.latency 16777216
+are_within sizing = nat_le sizing.storage most_storage && nat_le sizing.latency most_latency

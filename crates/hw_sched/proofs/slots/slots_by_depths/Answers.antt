@@ -6,7 +6,7 @@ use Rattle.hw_sched.specs.Answer.{IsBudgetFault, timing_of}
 use Rattle.hw_sched.specs.inner.Served.{IsServed}
 use Rattle.std.proofs.lemmas.Result.{IfOk-weaker, IfErr-weaker}
 use Rattle.hw_sched.proofs.Serving.{is_served, fault_told}
-use Rattle.hw_sched.proofs.slots.served.Goals as goal
+use Rattle.hw_sched.proofs.slots.slots_by_depths.Goals as goal
 
 pub returns-clause-slots : goal.returns-clause-slots
 returns-clause-slots c =
