@@ -10,12 +10,16 @@ choices_of range = range.high_multipliers - range.low_multipliers + 1
 abbrev pub pairs_of : Range → ℕ
 pairs_of range = (range.high_cycles - range.low_cycles + 1) * choices_of range
 
+-- the most pairs of clocks and multipliers in a range
+abbrev pub most_pairs : ℕ
+most_pairs = 4096
+
 -- 1 to 1024 clocks and 0 to 64 multipliers, each from the lowest to the highest, and at most 4096 pairs
 abbrev pub is_range : Range → Bool
 is_range range =
     nat_le 1 range.low_cycles && nat_le range.low_cycles range.high_cycles && nat_le range.high_cycles 1024
     && nat_le range.low_multipliers range.high_multipliers && nat_le range.high_multipliers 64
-    && nat_le (pairs_of range) 4096
+    && nat_le (pairs_of range) most_pairs
 
 abbrev pub IsRange : Range → Type 0
 IsRange range = is_range range ≡ true

@@ -5,11 +5,11 @@ ghost use Rattle.hw_explore.specs.Findings.{AreFindings, IsLeast, IsRanked};
 ghost use Rattle.hw_explore.specs.declared.rank.Rank.{Rank};
 ghost use Rattle.hw_explore.specs.inner.Best.{IsBest};
 ghost use Rattle.hw_explore.specs.inner.Timed.{AreTimed};
-ghost use Rattle.hw_explore.specs.Range.{IsRange, pairs_of};
+ghost use Rattle.hw_explore.specs.Range.{IsRange, most_pairs, pairs_of};
 
 use crate::finding::{Finding, Judged};
 use crate::findings::{FindingRows, Findings};
-use crate::judging::found;
+use crate::judging::finding_at;
 use crate::range::Range;
 use crate::rank::Rank;
 use crate::timed::BySharing;
@@ -65,7 +65,7 @@ fn best_with(rows: &[Finding], place: u32, best: Option<Best>) -> Option<Best>
 
 /// The number of the least good plan.
 fn least_of(rows: &[Finding]) -> Option<u32>
-    requires { length rows.now ≤ 4096 }
+    requires { length rows.now ≤ most_pairs }
     ensures { IsLeast rows.now result }
 {
     let mut best: Option<Best> = None;
@@ -103,7 +103,7 @@ fn all_found<R: Threads + Sync, G: Gate + Sync>(
                 ensures { IfOk result (IsFinding checked.entry.now.diagram range place) }
             {
                 gate.pass(u64::from(place));
-                found(alloc, checked, timed, range, place)
+                finding_at(alloc, checked, timed, range, place)
             },
         )
         .collect(rt, alloc)?;

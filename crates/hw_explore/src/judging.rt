@@ -91,7 +91,7 @@ impl Timed {
 }
 
 /// What is found of the plan of this number.
-pub fn found(
+pub fn finding_at(
     alloc: Global,
     checked: &Checked,
     timed: &BySharing,
