@@ -1,12 +1,12 @@
 //! Numbers of several types in one unit.
 ghost use Rattle.std.specs.Prelude.{◌≡◌, ◌<◌, ◌≤◌, length, IfOk};
 ghost use Rattle.fx_num.specs.Word.{IsWrapped};
-ghost use Rattle.fx_type.specs.FxType.{aligned as aligned_of};
+ghost use Rattle.fx_type.specs.FxType.{aligned};
 ghost use Rattle.hw_lower.specs.inner.Planned.{IsMade, word_of};
 ghost use Rattle.hw_lower.specs.inner.Spread.{CanAlign, argument_of, side_of};
 
 use crate::plan::{Made, Operand, Plan, Word, word_of};
-use crate::settling::shifted;
+use crate::settling::shift;
 use fx_type::FxType;
 
 /// A step with its type.
@@ -43,12 +43,12 @@ pub fn side_of(types: &[FxType], input: usize) -> Side
 
 /// A number of a type with `frac` bits behind the point, of which there are no fewer, cut to a
 /// word.
-pub fn aligned(plan: &mut Plan, side: Side, frac: i16, word: Word) -> Made
+pub fn align(plan: &mut Plan, side: Side, frac: i16, word: Word) -> Made
     requires { CanAlign plan.old side frac word }
     ensures { IfOk result (λ made. IsMade plan.old plan.new word (λ numbers.
-        IsWrapped (aligned_of frac side.kind (numbers side.from.place)) word.width word.signed
+        IsWrapped (aligned frac side.kind (numbers side.from.place)) word.width word.signed
         (numbers made.place)) made) }
 {
     let up = (frac - side.kind.frac()) as u8;
-    shifted(plan, side.from, up, word)
+    shift(plan, side.from, up, word)
 }

@@ -34,7 +34,7 @@ fn opposite(plan: &mut Plan, op: NetOp, one: Operand, other: Operand) -> Made
 }
 
 /// Whether two numbers in one unit are so related.
-pub fn related(plan: &mut Plan, operator: Relation, one: Operand, other: Operand) -> Made
+pub fn compare(plan: &mut Plan, operator: Relation, one: Operand, other: Operand) -> Made
     requires one { IsAt plan.old one }
     requires other { IsAt plan.old other }
     ensures { IfOk result (λ made. IsMade plan.old plan.new bit_word (λ numbers. numbers made.place
@@ -51,7 +51,7 @@ pub fn related(plan: &mut Plan, operator: Relation, one: Operand, other: Operand
 }
 
 /// The first number where the criterion holds of the control, else the other.
-pub fn switched(plan: &mut Plan, criterion: Criterion, threshold: i128, of: Branches) -> Made
+pub fn switch(plan: &mut Plan, criterion: Criterion, threshold: i128, of: Branches) -> Made
     requires { CanSwitch plan.old of threshold }
     ensures { IfOk result (λ made. IsMade plan.old plan.new of.first.word (λ numbers.
         IsSwitched (meets criterion threshold (numbers of.control.place)) (numbers of.first.place)
@@ -72,6 +72,6 @@ fn against(plan: &mut Plan, operator: Relation, threshold: i128, of: Branches) -
         (numbers of.first.place) (numbers of.other.place) (numbers made.place)) made) }
 {
     let bound = constant(plan, threshold, of.control.word)?;
-    let test = related(plan, operator, of.control, bound)?;
+    let test = compare(plan, operator, of.control, bound)?;
     choose(plan, test, of.first, of.other, of.first.word)
 }

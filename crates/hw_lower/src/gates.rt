@@ -21,8 +21,8 @@ pub enum Joining {
     Odd,
 }
 
-/// One number more.
-fn joined(plan: &mut Plan, joining: Joining, test: Operand, bit: Operand) -> Made
+/// Joins the truth of one number more.
+fn join(plan: &mut Plan, joining: Joining, test: Operand, bit: Operand) -> Made
     requires test { IsAt plan.old test }
     requires bit { IsAt plan.old bit }
     requires word { bit.word ≡ bit_word }
@@ -43,7 +43,7 @@ fn joined(plan: &mut Plan, joining: Joining, test: Operand, bit: Operand) -> Mad
 }
 
 /// The truths of all arguments, joined.
-fn joined_all(plan: &mut Plan, joining: Joining, types: &[FxType]) -> Made
+fn join_all(plan: &mut Plan, joining: Joining, types: &[FxType]) -> Made
     requires { HasSome plan.old types.now }
     ensures { IfOk result (λ made. IsMade plan.old plan.new bit_word (λ numbers.
         OfArguments types.now numbers (λ values.
@@ -54,19 +54,19 @@ fn joined_all(plan: &mut Plan, joining: Joining, types: &[FxType]) -> Made
     let mut bit = first;
     for input in 1..types.len() {
         let one = argument_of(types, input);
-        bit = joined(plan, joining, one, bit)?;
+        bit = join(plan, joining, one, bit)?;
     }
     Ok(bit)
 }
 
 /// The inverse of the same.
-fn joined_not(plan: &mut Plan, joining: Joining, types: &[FxType]) -> Made
+fn join_inverted(plan: &mut Plan, joining: Joining, types: &[FxType]) -> Made
     requires { HasSome plan.old types.now }
     ensures { IfOk result (λ made. IsMade plan.old plan.new bit_word (λ numbers.
         OfArguments types.now numbers (λ values.
         numbers made.place ≡ stored_truth (not (truth_of joining values)))) made) }
 {
-    let bit = joined_all(plan, joining, types)?;
+    let bit = join_all(plan, joining, types)?;
     inverse(plan, bit)
 }
 
@@ -78,12 +78,12 @@ pub fn gate(plan: &mut Plan, operator: Gate, types: &[FxType]) -> Made
         numbers made.place ≡ stored_truth (gate_of operator values))) made) }
 {
     match operator {
-        Gate::And => joined_all(plan, Joining::Every, types),
-        Gate::Or => joined_all(plan, Joining::Any, types),
-        Gate::Nand => joined_not(plan, Joining::Every, types),
-        Gate::Nor => joined_not(plan, Joining::Any, types),
-        Gate::Not => joined_not(plan, Joining::Any, types),
-        Gate::Xor => joined_all(plan, Joining::Odd, types),
-        Gate::Nxor => joined_not(plan, Joining::Odd, types),
+        Gate::And => join_all(plan, Joining::Every, types),
+        Gate::Or => join_all(plan, Joining::Any, types),
+        Gate::Nand => join_inverted(plan, Joining::Every, types),
+        Gate::Nor => join_inverted(plan, Joining::Any, types),
+        Gate::Not => join_inverted(plan, Joining::Any, types),
+        Gate::Xor => join_all(plan, Joining::Odd, types),
+        Gate::Nxor => join_inverted(plan, Joining::Odd, types),
     }
 }

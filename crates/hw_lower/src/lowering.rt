@@ -7,7 +7,7 @@ ghost use Rattle.hw_lower.specs.inner.Spread.{AreInputs};
 ghost use Rattle.hw_lower.specs.inner.Placed.{AreNumbers, AreNets, CanPut, net_by};
 
 use crate::plan::{Plan, Step, put_alone, word_of};
-use crate::planning::planned;
+use crate::planning::plan_operation;
 use dg_model::OpCall;
 use fx_io::{OutOfMemory, Sequence, Sizes};
 use fx_type::FxType;
@@ -88,7 +88,7 @@ pub fn lower(
         IsLowered net.old net.new (operation_of call.now) args.now number) }
 {
     let mut plan = inputs_of(alloc, call.types)?;
-    let result = planned(&mut plan, call)?;
+    let result = plan_operation(&mut plan, call)?;
     let numbers = put_nets(alloc, net, plan.as_slice(), args)?;
     Ok(numbers[result.place as usize])
 }

@@ -13,18 +13,18 @@ ghost use Rattle.hw_lower.specs.inner.Spread.{HasArguments, OfArguments, IsPlann
 ghost use Rattle.hw_lower.specs.Lowered.{multiply_of};
 
 use crate::aligning::{Side, argument_of, side_of};
-use crate::comparing::{Branches, switched};
+use crate::comparing::{Branches, switch};
 use crate::gates::gate;
 use crate::plan::{Made, Operand, Plan, Word, multiply, put_alone, word_of};
-use crate::relating::compared;
-use crate::settling::converted;
-use crate::sums::summed;
+use crate::relating::compare_arguments;
+use crate::settling::convert;
+use crate::sums::sum_arguments;
 use dg_model::{Criterion, Op, OpCall, sum_type, without_frac};
 use fx_type::FxType;
 use hw_net::NetOp;
 
 /// A number with `frac` bits behind the point, converted to the result type of the call.
-fn settled(plan: &mut Plan, call: &OpCall, from: Operand, frac: i16) -> Made
+fn convert_to_result(plan: &mut Plan, call: &OpCall, from: Operand, frac: i16) -> Made
     requires at { IsAt plan.old from }
     requires low { negsuc 63 ≤ℤ frac }
     requires high { frac ≤ℤ pos 128 }
@@ -33,11 +33,11 @@ fn settled(plan: &mut Plan, call: &OpCall, from: Operand, frac: i16) -> Made
         (kind : FxType) → frac_of kind ≡ frac → IsConverted (operation_of call.now)
         (numbers from.place) kind (numbers made.place)) made) }
 {
-    converted(plan, from, frac, call.result, call.rounding, call.saturate)
+    convert(plan, from, frac, call.result, call.rounding, call.saturate)
 }
 
 /// An argument converted to the result type of the call.
-fn argument_settled(plan: &mut Plan, call: &OpCall, input: usize) -> Made
+fn convert_argument(plan: &mut Plan, call: &OpCall, input: usize) -> Made
     requires arguments { HasArguments plan.old call.now.types.now }
     requires inside { input < length call.now.types.now }
     requires few { length call.now.types.now ≤ 32 }
@@ -49,11 +49,11 @@ fn argument_settled(plan: &mut Plan, call: &OpCall, input: usize) -> Made
 {
     let frac = call.types[input].frac();
     let from = argument_of(call.types, input);
-    settled(plan, call, from, frac)
+    convert_to_result(plan, call, from, frac)
 }
 
 /// A Sum.
-fn planned_sum(plan: &mut Plan, call: &OpCall) -> Made
+fn plan_sum(plan: &mut Plan, call: &OpCall) -> Made
     requires arguments { HasArguments plan.old call.now.types.now }
     requires signs { length call.now.signs.now ≡ length call.now.types.now }
     requires some { 1 ≤ length call.now.types.now }
@@ -70,8 +70,8 @@ fn planned_sum(plan: &mut Plan, call: &OpCall) -> Made
         (numbers made.place))) made) }
 {
     let full = sum_type(call.signs, call.types);
-    let exact = summed(plan, call.signs, call.types, full)?;
-    settled(plan, call, exact, full.frac())
+    let exact = sum_arguments(plan, call.signs, call.types, full)?;
+    convert_to_result(plan, call, exact, full.frac())
 }
 
 /// The word of a product.
@@ -88,7 +88,7 @@ fn product_word(one: FxType, other: FxType) -> Word
 }
 
 /// The product of two numbers, converted to the result type of the call.
-fn scaled(plan: &mut Plan, call: &OpCall, one: Side, other: Side) -> Made
+fn convert_product(plan: &mut Plan, call: &OpCall, one: Side, other: Side) -> Made
     requires one { IsAt plan.old one.from }
     requires other { IsAt plan.old other.from }
     requires left { IsType one.kind }
@@ -103,11 +103,11 @@ fn scaled(plan: &mut Plan, call: &OpCall, one: Side, other: Side) -> Made
 {
     let word = product_word(one.kind, other.kind);
     let exact = multiply(plan, one.from, other.from, word)?;
-    settled(plan, call, exact, one.kind.frac() + other.kind.frac())
+    convert_to_result(plan, call, exact, one.kind.frac() + other.kind.frac())
 }
 
 /// A Gain.
-fn planned_gain(plan: &mut Plan, call: &OpCall, coefficient: i128, param: FxType) -> Made
+fn plan_gain(plan: &mut Plan, call: &OpCall, coefficient: i128, param: FxType) -> Made
     requires arguments { HasArguments plan.old call.now.types.now }
     requires single { length call.now.types.now ≡ 1 }
     requires types { All IsType call.now.types.now }
@@ -123,11 +123,11 @@ fn planned_gain(plan: &mut Plan, call: &OpCall, coefficient: i128, param: FxType
 {
     let from = put_alone(plan, NetOp::Const(coefficient), word_of(param))?;
     let one = side_of(call.types, 0);
-    scaled(plan, call, one, Side { kind: param, from })
+    convert_product(plan, call, one, Side { kind: param, from })
 }
 
 /// A Product.
-fn planned_product(plan: &mut Plan, call: &OpCall) -> Made
+fn plan_product(plan: &mut Plan, call: &OpCall) -> Made
     requires arguments { HasArguments plan.old call.now.types.now }
     requires two { length call.now.types.now ≡ 2 }
     requires types { All IsType call.now.types.now }
@@ -143,11 +143,11 @@ fn planned_product(plan: &mut Plan, call: &OpCall) -> Made
 {
     let one = side_of(call.types, 0);
     let other = side_of(call.types, 1);
-    scaled(plan, call, one, other)
+    convert_product(plan, call, one, other)
 }
 
 /// A Switch.
-fn planned_switch(plan: &mut Plan, call: &OpCall, criterion: Criterion, threshold: i128) -> Made
+fn plan_switch(plan: &mut Plan, call: &OpCall, criterion: Criterion, threshold: i128) -> Made
     requires arguments { HasArguments plan.old call.now.types.now }
     requires three { length call.now.types.now ≡ 3 }
     requires types { All IsType call.now.types.now }
@@ -161,19 +161,19 @@ fn planned_switch(plan: &mut Plan, call: &OpCall, criterion: Criterion, threshol
         (IsConverted (operation_of call.now) (value_of values 2) (type_of call.now.types.now 2)
         (numbers made.place)))) made) }
 {
-    let first = argument_settled(plan, call, 0)?;
-    let other = argument_settled(plan, call, 2)?;
+    let first = convert_argument(plan, call, 0)?;
+    let other = convert_argument(plan, call, 2)?;
     let control = argument_of(call.types, 1);
     let of = Branches {
         control,
         first,
         other,
     };
-    switched(plan, criterion, threshold, of)
+    switch(plan, criterion, threshold, of)
 }
 
 /// The stored integer of an argument converted, with both fracs taken as 0.
-fn planned_store(plan: &mut Plan, call: &OpCall) -> Made
+fn plan_store(plan: &mut Plan, call: &OpCall) -> Made
     requires arguments { HasArguments plan.old call.now.types.now }
     requires single { length call.now.types.now ≡ 1 }
     requires types { All IsType call.now.types.now }
@@ -185,11 +185,11 @@ fn planned_store(plan: &mut Plan, call: &OpCall) -> Made
 {
     let to = without_frac(call.result);
     let from = argument_of(call.types, 0);
-    converted(plan, from, 0, to, call.rounding, call.saturate)
+    convert(plan, from, 0, to, call.rounding, call.saturate)
 }
 
 /// A conversion, of the real value or of the stored integer.
-fn planned_conversion(plan: &mut Plan, call: &OpCall, stored: bool) -> Made
+fn plan_conversion(plan: &mut Plan, call: &OpCall, stored: bool) -> Made
     requires arguments { HasArguments plan.old call.now.types.now }
     requires single { length call.now.types.now ≡ 1 }
     requires types { All IsType call.now.types.now }
@@ -200,13 +200,13 @@ fn planned_conversion(plan: &mut Plan, call: &OpCall, stored: bool) -> Made
         (numbers made.place))) made) }
 {
     if stored {
-        return planned_store(plan, call);
+        return plan_store(plan, call);
     }
-    argument_settled(plan, call, 0)
+    convert_argument(plan, call, 0)
 }
 
 /// The steps of an operation behind its arguments, and the one that has its result.
-pub fn planned(plan: &mut Plan, call: &OpCall) -> Made
+pub fn plan_operation(plan: &mut Plan, call: &OpCall) -> Made
     requires arguments { HasArguments plan.old call.now.types.now }
     requires can { CanPrepare (operation_of call.now) }
     ensures { IfOk result (λ made. IsPlanned plan.old plan.new (multiply_of call.now.op)
@@ -214,16 +214,16 @@ pub fn planned(plan: &mut Plan, call: &OpCall) -> Made
         OpGives (operation_of call.now) values (numbers made.place))) made) }
 {
     match call.op {
-        Op::Sum => planned_sum(plan, call),
-        Op::Gain { coefficient, param } => planned_gain(plan, call, coefficient, param),
-        Op::Product => planned_product(plan, call),
+        Op::Sum => plan_sum(plan, call),
+        Op::Gain { coefficient, param } => plan_gain(plan, call, coefficient, param),
+        Op::Product => plan_product(plan, call),
         Op::Switch {
             criterion,
             threshold,
-        } => planned_switch(plan, call, criterion, threshold),
-        Op::Relational { operator } => compared(plan, operator, call.types),
+        } => plan_switch(plan, call, criterion, threshold),
+        Op::Relational { operator } => compare_arguments(plan, operator, call.types),
         Op::Logic { operator } => gate(plan, operator, call.types),
-        Op::Convert { stored } => planned_conversion(plan, call, stored),
+        Op::Convert { stored } => plan_conversion(plan, call, stored),
         Op::Pass => Ok(argument_of(call.types, 0)),
     }
 }

@@ -1,20 +1,20 @@
 //! Relations of numbers of two types, compared in their union.
 ghost use Rattle.std.specs.Prelude.{◌≡◌, ◌≤ℤ◌, length, All, IfOk};
 ghost use Rattle.fx_type.specs.declared.kind.FxType.{FxType};
-ghost use Rattle.fx_type.specs.FxType.{IsType, InRange, frac_of, aligned as aligned_of};
+ghost use Rattle.fx_type.specs.FxType.{IsType, InRange, frac_of, aligned};
 ghost use Rattle.fx_type.specs.FullType.{HoldsType, IsUnion};
 ghost use Rattle.dg_model.specs.Operation.{compares_values, stored_truth, type_of, value_of};
 ghost use Rattle.hw_lower.specs.inner.Planned.{IsAt, IsMade, bit_word, word_of};
 ghost use Rattle.hw_lower.specs.inner.Spread.{HasArguments, OfArguments};
 
-use crate::aligning::{Side, aligned, side_of};
-use crate::comparing::related;
+use crate::aligning::{Side, align, side_of};
+use crate::comparing::compare;
 use crate::plan::{Made, Operand, Plan, word_of};
 use dg_model::Relation;
 use fx_type::{FxType, union};
 
 /// A number in the word and the units of a type that has it.
-fn held(plan: &mut Plan, side: Side, holder: FxType) -> Made
+fn widen(plan: &mut Plan, side: Side, holder: FxType) -> Made
     requires at { IsAt plan.old side.from }
     requires kind { IsType side.kind }
     requires holder { IsType holder }
@@ -22,13 +22,13 @@ fn held(plan: &mut Plan, side: Side, holder: FxType) -> Made
     requires holds { HoldsType holder side.kind }
     ensures { IfOk result (λ made. IsMade plan.old plan.new (word_of holder) (λ numbers.
         InRange side.kind (numbers side.from.place) → numbers made.place
-        ≡ aligned_of (frac_of holder) side.kind (numbers side.from.place)) made) }
+        ≡ aligned (frac_of holder) side.kind (numbers side.from.place)) made) }
 {
-    aligned(plan, side, holder.frac(), word_of(holder))
+    align(plan, side, holder.frac(), word_of(holder))
 }
 
 /// Whether the real values of two arguments are so related, compared in the union of their types.
-pub fn compared(plan: &mut Plan, operator: Relation, types: &[FxType]) -> Made
+pub fn compare_arguments(plan: &mut Plan, operator: Relation, types: &[FxType]) -> Made
     requires arguments { HasArguments plan.old types.now }
     requires two { length types.now ≡ 2 }
     requires types { All IsType types.now }
@@ -41,7 +41,7 @@ pub fn compared(plan: &mut Plan, operator: Relation, types: &[FxType]) -> Made
     let both = union(types[0], types[1]).unwrap();
     let one = side_of(types, 0);
     let other = side_of(types, 1);
-    let left = held(plan, one, both)?;
-    let right = held(plan, other, both)?;
-    related(plan, operator, left, right)
+    let left = widen(plan, one, both)?;
+    let right = widen(plan, other, both)?;
+    compare(plan, operator, left, right)
 }

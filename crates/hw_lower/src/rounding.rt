@@ -13,7 +13,7 @@ use fx_type::Rounding;
 use hw_net::NetOp;
 
 /// The number divided by 2 to the power `by`, rounded by the mode.
-pub fn rounded(plan: &mut Plan, from: Operand, by: u8, mode: Rounding) -> Made
+pub fn round(plan: &mut Plan, from: Operand, by: u8, mode: Rounding) -> Made
     requires { CanRound plan.old from by }
     ensures { IfOk result (IsRounded mode plan.old plan.new from by) }
 {
@@ -37,7 +37,7 @@ fn down(plan: &mut Plan, from: Operand, by: u8) -> Made
 }
 
 /// Rounded down, and the carry added.
-fn raised(plan: &mut Plan, from: Operand, by: u8, carry: Operand) -> Made
+fn round_by_carry(plan: &mut Plan, from: Operand, by: u8, carry: Operand) -> Made
     requires { CanRaise plan.old from by carry }
     ensures { IfOk result (λ made. IsMade plan.old plan.new from.word (λ numbers.
         numbers made.place ≡ shifted_down (numbers from.place) by +ℤ numbers carry.place) made) }
@@ -53,7 +53,7 @@ fn up(plan: &mut Plan, from: Operand, by: u8) -> Made
 {
     let low = lowest(plan, from, by)?;
     let carry = truth(plan, low)?;
-    raised(plan, from, by, carry)
+    round_by_carry(plan, from, by, carry)
 }
 
 /// Rounded to 0: up where the number is negative and bits are lost.
@@ -65,7 +65,7 @@ fn to_zero(plan: &mut Plan, from: Operand, by: u8) -> Made
         let low = lowest(plan, from, by)?;
         let sign = bit(plan, from, from.word.width - 1)?;
         let carry = both(plan, low, sign)?;
-        return raised(plan, from, by, carry);
+        return round_by_carry(plan, from, by, carry);
     }
     down(plan, from, by)
 }
@@ -76,7 +76,7 @@ fn to_nearest(plan: &mut Plan, from: Operand, by: u8) -> Made
     ensures { IfOk result (IsRounded Nearest plan.old plan.new from by) }
 {
     let half = bit(plan, from, by - 1)?;
-    raised(plan, from, by, half)
+    round_by_carry(plan, from, by, half)
 }
 
 /// Rounded to the nearest, ties away from 0: up where the highest lost bit is set, but not from a
@@ -91,7 +91,7 @@ fn from_zero(plan: &mut Plan, from: Operand, by: u8) -> Made
         let zero = constant(plan, 0, bit_word())?;
         let tie = choose(plan, sign, zero, half, bit_word())?;
         let carry = past_tie(plan, from, by, half, tie)?;
-        return raised(plan, from, by, carry);
+        return round_by_carry(plan, from, by, carry);
     }
     to_nearest(plan, from, by)
 }
@@ -106,7 +106,7 @@ fn to_even(plan: &mut Plan, from: Operand, by: u8) -> Made
     let odd = bit(plan, from, by)?;
     let tie = both(plan, half, odd)?;
     let carry = past_tie(plan, from, by, half, tie)?;
-    raised(plan, from, by, carry)
+    round_by_carry(plan, from, by, carry)
 }
 
 /// The highest lost bit where a lower one is set, and else what a tie gives.

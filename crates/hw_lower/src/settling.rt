@@ -10,13 +10,13 @@ ghost use Rattle.hw_lower.specs.inner.Planned.{CanHold, HoldsAbove, HoldsBelow, 
 
 use crate::bits::{bit_word, truth};
 use crate::plan::{Made, Operand, Plan, Word, binary, choose, constant, unary, word_of};
-use crate::rounding::rounded;
+use crate::rounding::round;
 use fx_num::{highest, lowest};
 use fx_type::{FxType, Rounding};
 use hw_net::NetOp;
 
 /// The number times 2 to the power `up`, cut to the word.
-pub fn shifted(plan: &mut Plan, from: Operand, up: u8, word: Word) -> Made
+pub fn shift(plan: &mut Plan, from: Operand, up: u8, word: Word) -> Made
     requires at { IsAt plan.old from }
     requires word { IsWord word.width word.signed }
     ensures { IfOk result (λ made. IsMade plan.old plan.new word (λ numbers.
@@ -61,7 +61,7 @@ fn least(up: u8, word: Word) -> i128
 }
 
 /// The number where the test isn't 0, else the value.
-fn held(plan: &mut Plan, test: Operand, end: i128, value: Operand) -> Made
+fn choose_end(plan: &mut Plan, test: Operand, end: i128, value: Operand) -> Made
     requires { CanHold plan.old test value end }
     ensures { IfOk result (λ made. IsMade plan.old plan.new value.word (λ numbers. IsChosen
         (numbers test.place) end (numbers value.place) (numbers made.place)) made) }
@@ -83,7 +83,7 @@ fn held_below(plan: &mut Plan, from: Operand, up: u8, value: Operand) -> Made
     let end = constant(plan, bound, from.word)?;
     let test = binary(plan, NetOp::Less, end, from, bit_word())?;
     let most = highest(value.word.width, value.word.signed);
-    held(plan, test, most, value)
+    choose_end(plan, test, most, value)
 }
 
 /// The least number of the word where the shifted number would pass it, else the given one.
@@ -99,19 +99,19 @@ fn held_above(plan: &mut Plan, from: Operand, up: u8, value: Operand) -> Made
     let end = constant(plan, bound, from.word)?;
     let test = binary(plan, NetOp::Less, from, end, bit_word())?;
     let fewest = lowest(value.word.width, value.word.signed);
-    held(plan, test, fewest, value)
+    choose_end(plan, test, fewest, value)
 }
 
 /// The number times 2 to the power `up`, put into the word: with `saturate` the nearest number of
 /// it, else the congruent one. Bounds are compared before the shift.
-pub fn settled(plan: &mut Plan, from: Operand, up: u8, word: Word, saturate: bool) -> Made
+pub fn settle(plan: &mut Plan, from: Operand, up: u8, word: Word, saturate: bool) -> Made
     requires at { IsAt plan.old from }
     requires word { IsWord word.width word.signed }
     ensures { IfOk result (λ made. IsMade plan.old plan.new word (λ numbers. (frac : ℤ)
         → Settles (Num word.signed word.width frac) saturate (numbers from.place *ℤ pos (2 ^ up))
         (numbers made.place)) made) }
 {
-    let value = shifted(plan, from, up, word)?;
+    let value = shift(plan, from, up, word)?;
     if saturate {
         let below = held_below(plan, from, up, value)?;
         return held_above(plan, from, up, below);
@@ -120,7 +120,7 @@ pub fn settled(plan: &mut Plan, from: Operand, up: u8, word: Word, saturate: boo
 }
 
 /// The number divided by 2 to the power `by`, rounded by the mode, and put into the word.
-fn lowered(
+fn settle_quotient(
     plan: &mut Plan,
     from: Operand,
     by: u8,
@@ -135,12 +135,12 @@ fn lowered(
         → StoresQuotient (numbers from.place) (2 ^ by) (Num word.signed word.width frac) mode
         saturate (numbers made.place)) made) }
 {
-    let whole = rounded(plan, from, by, mode)?;
-    settled(plan, whole, 0, word, saturate)
+    let whole = round(plan, from, by, mode)?;
+    settle(plan, whole, 0, word, saturate)
 }
 
 /// A number with `frac` bits behind the point, converted to a type.
-pub fn converted(
+pub fn convert(
     plan: &mut Plan,
     from: Operand,
     frac: i16,
@@ -166,7 +166,7 @@ pub fn converted(
     };
     let word = Word { signed, width };
     if behind >= frac {
-        return settled(plan, from, (behind - frac) as u8, word, saturate);
+        return settle(plan, from, (behind - frac) as u8, word, saturate);
     }
-    lowered(plan, from, (frac - behind) as u8, word, mode, saturate)
+    settle_quotient(plan, from, (frac - behind) as u8, word, mode, saturate)
 }

@@ -17,11 +17,11 @@ returns c =
 pub constant-requires-clause-word : goal.constant-requires-clause-word
 constant-requires-clause-word c = c.requires.control.valid
 
-pub related-requires-clause-one : goal.related-requires-clause-one
-related-requires-clause-one c = at-later _ _ c.args.of.control c.in_ok-bound.ensures.grows c.requires.control
+pub compare-requires-clause-one : goal.compare-requires-clause-one
+compare-requires-clause-one c = at-later _ _ c.args.of.control c.in_ok-bound.ensures.grows c.requires.control
 
-pub related-requires-clause-other : goal.related-requires-clause-other
-related-requires-clause-other c = c.in_ok-bound.ensures.at
+pub compare-requires-clause-other : goal.compare-requires-clause-other
+compare-requires-clause-other c = c.in_ok-bound.ensures.at
 
 pub choose-requires-clause-test : goal.choose-requires-clause-test
 choose-requires-clause-test c = c.in_ok-test.ensures.at

@@ -9,5 +9,5 @@ use Rattle.hw_lower.proofs.gates.gate.Goals as goal
 pub returns-in-Nxor : goal.returns-in-Nxor
 returns-in-Nxor c =
     rw c.in-Nxor.is
-    (if-map _ _ _ _ (λ made numbers. OfArguments c.args.types.now numbers (λ values. numbers made.place ≡ stored_truth (gate_of Nxor values))) _ c.joined_not-in-Nxor.ensures
+    (if-map _ _ _ _ (λ made numbers. OfArguments c.args.types.now numbers (λ values. numbers made.place ≡ stored_truth (gate_of Nxor values))) _ c.join_inverted-in-Nxor.ensures
     (λ made numbers has p values are. p values are ∙ ap stored_truth (even-is values)))

@@ -9,8 +9,8 @@ use Rattle.hw_lower.proofs.Chained.{if-map, if-then, made-both}
 use Rattle.hw_lower.proofs.Rounded.{nearest-round, round-rounds}
 use Rattle.hw_lower.proofs.rounding.from_zero.Goals as goal
 
-pub raised-requires : goal.raised-requires
-raised-requires c = record {
+pub round_by_carry-requires : goal.round_by_carry-requires
+round_by_carry-requires c = record {
   at = at-later _ _ c.args.from c.in_ok-carry.ensures.grows (at-later _ _ c.args.from c.in_ok-tie.ensures.grows (at-later _ _ c.args.from c.in_ok-zero.ensures.grows (at-later _ _ c.args.from c.in_ok-sign.ensures.grows (at-later _ _ c.args.from c.in_ok-half.ensures.grows c.requires.at))));
   one = c.in_ok-carry.ensures.at;
   bit = c.in_ok-carry.ensures.has_word;
@@ -36,7 +36,7 @@ choose-requires-clause-other c = at-later _ _ c.in_ok-half.half c.in_ok-zero.ens
 pub returns-then-from : goal.returns-then-from
 returns-then-from c =
     if-then _ _ _ _ _ _ _ (λ made numbers. Rounds Round (numbers c.args.from.place) (2 ^ c.args.by) (numbers made.place)) _ _
-    (made-both c.in_ok-half.ensures (made-both c.in_ok-sign.ensures (made-both c.in_ok-zero.ensures (made-both c.in_ok-tie.ensures c.in_ok-carry.ensures)))) c.raised.ensures
+    (made-both c.in_ok-half.ensures (made-both c.in_ok-sign.ensures (made-both c.in_ok-zero.ensures (made-both c.in_ok-tie.ensures c.in_ok-carry.ensures)))) c.round_by_carry.ensures
     (λ made numbers has later p q.
     let own : InWord c.args.from.word.width true (numbers c.args.from.place) = subst (λ (s : Bool). InWord c.args.from.word.width s (numbers c.args.from.place)) c.if-from.true (has c.args.from c.requires.at) in
     let tie : IsChosen (numbers c.in_ok-sign.sign.place) (pos 0) (numbers c.in_ok-half.half.place) (numbers c.in_ok-tie.tie.place) = rw p.1.1.0 at p.1.1.1.0 in

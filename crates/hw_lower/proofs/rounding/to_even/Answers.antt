@@ -6,8 +6,8 @@ use Rattle.hw_lower.proofs.Chained.{if-then, made-both}
 use Rattle.hw_lower.proofs.Rounded.{convergent-rounds}
 use Rattle.hw_lower.proofs.rounding.to_even.Goals as goal
 
-pub raised-requires : goal.raised-requires
-raised-requires c = record {
+pub round_by_carry-requires : goal.round_by_carry-requires
+round_by_carry-requires c = record {
   at = at-later _ _ c.args.from c.in_ok-carry.ensures.grows (at-later _ _ c.args.from c.in_ok-tie.ensures.grows (at-later _ _ c.args.from c.in_ok-odd.ensures.grows (at-later _ _ c.args.from c.in_ok-half.ensures.grows c.requires.at)));
   one = c.in_ok-carry.ensures.at;
   bit = c.in_ok-carry.ensures.has_word;
@@ -27,7 +27,7 @@ past_tie-requires c = record {
 pub returns : goal.returns
 returns c =
     if-then _ _ _ _ _ _ _ (λ made numbers. Rounds Convergent (numbers c.args.from.place) (2 ^ c.args.by) (numbers made.place)) _ _
-    (made-both c.in_ok-half.ensures (made-both c.in_ok-odd.ensures (made-both c.in_ok-tie.ensures c.in_ok-carry.ensures))) c.raised.ensures
+    (made-both c.in_ok-half.ensures (made-both c.in_ok-odd.ensures (made-both c.in_ok-tie.ensures c.in_ok-carry.ensures))) c.round_by_carry.ensures
     (λ made numbers has later p q. convergent-rounds (numbers c.args.from.place) c.args.by c.requires.some (numbers c.in_ok-half.half.place) (numbers c.in_ok-odd.odd.place) (numbers c.in_ok-tie.tie.place) (numbers c.in_ok-carry.carry.place)
     (numbers made.place) p.0 p.1.0 p.1.1.0 p.1.1.1 q)
 

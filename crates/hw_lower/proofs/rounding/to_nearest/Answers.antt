@@ -6,8 +6,8 @@ use Rattle.hw_lower.proofs.Rounded.{nearest-rounds}
 use Rattle.hw_lower.proofs.Made.{at-later}
 use Rattle.hw_lower.proofs.rounding.to_nearest.Goals as goal
 
-pub raised-requires : goal.raised-requires
-raised-requires c = record {
+pub round_by_carry-requires : goal.round_by_carry-requires
+round_by_carry-requires c = record {
   at = at-later _ _ c.args.from c.in_ok-half.ensures.grows c.requires.at;
   one = c.in_ok-half.ensures.at;
   bit = c.in_ok-half.ensures.has_word;
@@ -16,5 +16,5 @@ raised-requires c = record {
 
 pub returns : goal.returns
 returns c =
-    if-then _ _ _ _ _ _ _ (λ made numbers. Rounds Nearest (numbers c.args.from.place) (2 ^ c.args.by) (numbers made.place)) _ _ c.in_ok-half.ensures c.raised.ensures
+    if-then _ _ _ _ _ _ _ (λ made numbers. Rounds Nearest (numbers c.args.from.place) (2 ^ c.args.by) (numbers made.place)) _ _ c.in_ok-half.ensures c.round_by_carry.ensures
     (λ made numbers has later p q. nearest-rounds (numbers c.args.from.place) c.args.by c.requires.some (numbers c.in_ok-half.half.place) (numbers made.place) p q)

@@ -7,8 +7,8 @@ use Rattle.hw_lower.proofs.Chained.{if-map, if-then, made-both}
 use Rattle.hw_lower.proofs.Rounded.{zero-down, zero-rounds}
 use Rattle.hw_lower.proofs.rounding.to_zero.Goals as goal
 
-pub raised-requires : goal.raised-requires
-raised-requires c = record {
+pub round_by_carry-requires : goal.round_by_carry-requires
+round_by_carry-requires c = record {
   at = at-later _ _ c.args.from c.in_ok-carry.ensures.grows (at-later _ _ c.args.from c.in_ok-sign.ensures.grows (at-later _ _ c.args.from c.in_ok-low.ensures.grows c.requires.at));
   one = c.in_ok-carry.ensures.at;
   bit = c.in_ok-carry.ensures.has_word;
@@ -24,7 +24,7 @@ both-requires-clause-test c = at-later _ _ c.in_ok-low.low c.in_ok-sign.ensures.
 pub returns-then-from : goal.returns-then-from
 returns-then-from c =
     if-then _ _ _ _ _ _ _ (λ made numbers. Rounds Zero (numbers c.args.from.place) (2 ^ c.args.by) (numbers made.place)) _ _
-    (made-both c.in_ok-low.ensures (made-both c.in_ok-sign.ensures c.in_ok-carry.ensures)) c.raised.ensures
+    (made-both c.in_ok-low.ensures (made-both c.in_ok-sign.ensures c.in_ok-carry.ensures)) c.round_by_carry.ensures
     (λ made numbers has later p q.
     let own : InWord c.args.from.word.width true (numbers c.args.from.place) = subst (λ (s : Bool). InWord c.args.from.word.width s (numbers c.args.from.place)) c.if-from.true (has c.args.from c.requires.at) in
     zero-rounds (numbers c.args.from.place) c.args.by c.args.from.word.width (numbers c.in_ok-low.low.place) (numbers c.in_ok-sign.sign.place) (numbers c.in_ok-carry.carry.place) (numbers made.place) own p.0 p.1.0 p.1.1 q)

@@ -27,8 +27,8 @@ binary-requires-clause-other c = c.in_ok-end.ensures.at
 pub binary-requires-clause-word : goal.binary-requires-clause-word
 binary-requires-clause-word c = rw c.bit_word.ensures (omega arith, omega arith)
 
-pub held-requires : goal.held-requires
-held-requires c =
+pub choose_end-requires : goal.choose_end-requires
+choose_end-requires c =
     let end = to_z-of_z w128 c.lowest-fewest.result (record { sfits = c.lowest-fewest.type_inv }) in
     record { at = c.in_ok-test.ensures.at; value_at = at-later _ _ c.args.value c.in_ok-test.ensures.grows (at-later _ _ c.args.value c.in_ok-end.ensures.grows c.requires.value); fits = record { low = omega (arith, ints, end, c.lowest-fewest.ensures); high = omega (arith, ints, end, c.lowest-fewest.ensures, lowest-below c.args.value.word.width c.args.value.word.signed, highest-least c.args.value.word.width c.args.value.word.signed) } }
 
@@ -42,5 +42,5 @@ returns-then-bound-lowest c =
 
 pub returns : goal.returns
 returns c =
-    if-then _ _ _ _ _ _ _ (λ made numbers. IsHeldAbove c.args.value.word (numbers c.args.from.place *ℤ pos (2 ^ c.args.up)) (numbers c.args.value.place) (numbers made.place)) _ _ (made-both c.in_ok-end.ensures (rw c.bit_word.ensures at c.in_ok-test.ensures)) c.held.ensures
+    if-then _ _ _ _ _ _ _ (λ made numbers. IsHeldAbove c.args.value.word (numbers c.args.from.place *ℤ pos (2 ^ c.args.up)) (numbers c.args.value.place) (numbers made.place)) _ _ (made-both c.in_ok-end.ensures (rw c.bit_word.ensures at c.in_ok-test.ensures)) c.choose_end.ensures
     (λ made numbers has later p q. held-above c.args.value.word _ (numbers c.args.from.place) c.least-bound.result _ _ (numbers c.in_ok-test.test.place) _ _ (c.least-bound.ensures.bound (numbers c.args.from.place)) (p.0 ∙ to_z-of_z w128 c.least-bound.result (record { sfits = c.least-bound.type_inv })) (to_z-of_z w128 c.lowest-fewest.result (record { sfits = c.lowest-fewest.type_inv }) ∙ c.lowest-fewest.ensures) p.1 q)
