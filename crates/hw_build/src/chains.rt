@@ -52,7 +52,7 @@ fn put_classes(
 }
 
 /// The nets at these places.
-fn taken(alloc: Global, answers: &[Sizes], seats: &[Seat]) -> Result<Sizes, OutOfMemory>
+fn nets_at(alloc: Global, answers: &[Sizes], seats: &[Seat]) -> Result<Sizes, OutOfMemory>
     requires { ArePlaces answers.now seats.now }
     ensures { IfOk result (λ numbers. AreTaken seats.now answers.now numbers (length seats.now)) }
 {
@@ -78,7 +78,7 @@ pub fn put_wants(alloc: Global, net: &mut Netlist, wants: &[Want]) -> Result<Siz
     };
     let seats = seats_of(alloc, &mut classes, wants)?;
     let answers = put_classes(alloc, net, classes.list.as_slice())?;
-    taken(alloc, answers.as_slice(), seats.as_slice())
+    nets_at(alloc, answers.as_slice(), seats.as_slice())
 }
 
 /// The nets of what ends ask: one for each ask.

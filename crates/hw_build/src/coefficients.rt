@@ -17,8 +17,8 @@ use fx_type::{Decimal, FxType};
 use hw_net::Netlist;
 use std::alloc::Global;
 
-/// The entry of a list parameter for an element, stored in a type.
-pub fn stored(list: &[Decimal], element: u32, kind: FxType) -> i128
+/// The coefficient of an element: the entry of a list parameter, stored in a type.
+pub fn coefficient(list: &[Decimal], element: u32, kind: FxType) -> i128
     requires valid { IsType kind }
     requires there { repeated (length list.now) element < length list.now }
     ensures { StoresEntry list.now element kind result }
@@ -41,7 +41,7 @@ fn put_coefficient(
         IsCoefficient net.old net.new list.now element kind number) }
     ensures adds { OnOk result (AddsConstants net.old net.new) }
 {
-    let value = stored(list, element, kind);
+    let value = coefficient(list, element, kind);
     let number = put_const(alloc, net, word_of(kind), value)?;
     Ok(number)
 }

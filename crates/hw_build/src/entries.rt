@@ -8,11 +8,11 @@ ghost use Rattle.hw_build.specs.inner.Sites.{CanKeep, HasOperands, IsReady, IsSi
 
 use crate::entry::{Entry, Made, plain};
 use crate::firsts::list_of;
-use crate::kept::{delayed, passed_out};
+use crate::kept::{pass_out, put_delay};
 use crate::lowering::initial;
 use crate::parts::{put_const, word_of};
 use crate::site::Site;
-use crate::worked::{carried, op_of, tested};
+use crate::worked::{op_of, put_enable_test, put_operation};
 use dg_model::Kind;
 use dg_tables::operations_prepare;
 use fx_type::Decimal;
@@ -20,7 +20,7 @@ use hw_net::Netlist;
 use std::alloc::Global;
 
 /// An element that is what is offered.
-pub fn handed<'a>(net: &Netlist, site: Site<'a>) -> Entry
+pub fn offered_entry<'a>(net: &Netlist, site: Site<'a>) -> Entry
     requires hands { hands_on site.one.now.enable (period_into site.design.checked.now.diagram
         (attributes_of site.design.checked.now.diagram) site.place.block 1) site.one.now.kind
         ≡ true }
@@ -64,12 +64,12 @@ fn put_alone<'a>(alloc: Global, net: &mut Netlist, site: Site<'a>) -> Made
     let list = list_of(&site.one.kind);
     match &site.one.kind {
         Kind::Inport { .. } | Kind::Mux { .. } | Kind::Demux { .. } | Kind::RateTransition { .. } =>
-            Ok(handed(net, site)),
+            Ok(offered_entry(net, site)),
         Kind::Constant { .. } => constant(alloc, net, site, list),
         Kind::Ground => ground(alloc, net, site),
-        Kind::EnableTest => tested(alloc, net, site),
-        Kind::Delay { length, reset, .. } => delayed(net, site, *length, list, *reset),
-        Kind::EnOut { reset, .. } => passed_out(alloc, net, site, list, *reset),
+        Kind::EnableTest => put_enable_test(alloc, net, site),
+        Kind::Delay { length, reset, .. } => put_delay(net, site, *length, list, *reset),
+        Kind::EnOut { reset, .. } => pass_out(alloc, net, site, list, *reset),
         _ => unreachable!(),
     }
 }
@@ -83,7 +83,7 @@ pub fn put_entry<'a>(alloc: Global, net: &mut Netlist, site: Site<'a>) -> Made
     ensures { IfOk result (Puts site.entry net.old net.new) }
 {
     match op_of(site) {
-        Some(op) => carried(alloc, net, site, op),
+        Some(op) => put_operation(alloc, net, site, op),
         None => put_alone(alloc, net, site),
     }
 }

@@ -8,7 +8,7 @@ ghost use Rattle.dg_model.specs.Wires.{period_into};
 ghost use Rattle.hw_build.specs.inner.Registering.{enables_by};
 ghost use Rattle.hw_build.specs.inner.Sites.{CanKeep, HasEnabledOperands, HasOperands, IsKept, IsSite, PassesOut, Puts, TakesAs};
 
-use crate::entries::handed;
+use crate::entries::offered_entry;
 use crate::entry::{Entry, Made, plain};
 use crate::laws::schedules_are_timed;
 use crate::lowering::initial;
@@ -131,7 +131,7 @@ fn driver_period(checked: &Checked, block: u32, one: &Block) -> Option<u32>
 }
 
 /// Puts in an element of a Delay: what its line shows, or the last of registers of its own.
-pub fn delayed<'a>(
+pub fn put_delay<'a>(
     net: &mut Netlist,
     site: Site<'a>,
     count: u32,
@@ -152,7 +152,7 @@ pub fn delayed<'a>(
             keep(net, site, count, initial, reset, Some(by))
         }
         None => match driver_period(site.design.checked, site.place.block, site.one) {
-            Some(_) => Ok(handed(net, site)),
+            Some(_) => Ok(offered_entry(net, site)),
             None => keep(net, site, count, initial, reset, None),
         },
     }
@@ -160,7 +160,7 @@ pub fn delayed<'a>(
 
 /// Puts in an element of an output port of an enabled subsystem: its input where that is enabled,
 /// and else its initial value or what it had.
-pub fn passed_out<'a>(
+pub fn pass_out<'a>(
     alloc: Global,
     net: &mut Netlist,
     site: Site<'a>,

@@ -17,7 +17,7 @@ use fx_type::{Decimal, FxType};
 use hw_net::Netlist;
 
 /// The entry of a list of a block for an element, stored in a type.
-pub fn stored<'a>(site: Site<'a>, list: &[Decimal], kind: FxType) -> i128
+pub fn parameter_value<'a>(site: Site<'a>, list: &[Decimal], kind: FxType) -> i128
     requires shown { IsSite site }
     requires list { (row_of site.one.now.kind).signal.lists ≡ list.now ∷ [] }
     requires kind { IsType kind }
@@ -48,7 +48,7 @@ pub fn initial<'a>(site: Site<'a>, list: &[Decimal]) -> Begun
     site.design.checked.keeps_rules();
     operations_prepare();
     let kind = site.design.checked.result(site.place.block);
-    let first = stored(site, list, kind);
+    let first = parameter_value(site, list, kind);
     Begun {
         word: word_of(kind),
         first,

@@ -9,7 +9,7 @@ use crate::controls::some_above;
 use crate::design::Design;
 use crate::entry::{Entry, Made, plain};
 use crate::firsts::list_of;
-use crate::lowering::{multiply_behind, stored};
+use crate::lowering::{multiply_behind, parameter_value};
 use crate::site::Site;
 use dg_model::{Block, Kind, Op, OpCall};
 use dg_tables::{Place, operations_prepare};
@@ -31,12 +31,12 @@ pub fn op_of<'a>(site: Site<'a>) -> Option<Op>
         Kind::Sum { .. } => Some(Op::Sum),
         Kind::Gain { .. } => {
             let param = site.design.checked.param(site.place.block);
-            let coefficient = stored(site, list, param);
+            let coefficient = parameter_value(site, list, param);
             Some(Op::Gain { coefficient, param })
         }
         Kind::Product => Some(Op::Product),
         Kind::Switch { criterion, .. } => {
-            let threshold = stored(site, list, site.types[1]);
+            let threshold = parameter_value(site, list, site.types[1]);
             Some(Op::Switch {
                 criterion: *criterion,
                 threshold,
@@ -60,7 +60,7 @@ pub fn op_of<'a>(site: Site<'a>) -> Option<Op>
 }
 
 /// Puts in an element that an operation of its block gives.
-pub fn carried<'a>(alloc: Global, net: &mut Netlist, site: Site<'a>, op: Op) -> Made
+pub fn put_operation<'a>(alloc: Global, net: &mut Netlist, site: Site<'a>, op: Op) -> Made
     requires ready { IsReady net.old site }
     requires op { IsOpAt site op }
     ensures { IfOk result (Puts site.entry net.old net.new) }
@@ -88,7 +88,7 @@ pub fn carried<'a>(alloc: Global, net: &mut Netlist, site: Site<'a>, op: Op) -> 
 }
 
 /// Puts in the element of the control of an enabled subsystem.
-pub fn tested<'a>(alloc: Global, net: &mut Netlist, site: Site<'a>) -> Made
+pub fn put_enable_test<'a>(alloc: Global, net: &mut Netlist, site: Site<'a>) -> Made
     requires ready { IsReady net.old site }
     requires kind { site.one.now.kind ≡ Kind.EnableTest }
     ensures { IfOk result (Puts site.entry net.old net.new) }

@@ -3,7 +3,7 @@ use Rattle.std.proofs.lemmas.Option.{same_Some, slice_get_within, slice_get_read
 use Rattle.std.specs.Prelude.{get_or}
 use Rattle.hw_build.specs.declared.wants.Seat.{Seat}
 use Rattle.hw_build.proofs.Seating.{taken_more}
-use Rattle.hw_build.proofs.chains.taken.Goals as goal
+use Rattle.hw_build.proofs.chains.nets_at.Goals as goal
 
 abbrev no_seat : Seat
 no_seat = record { class = 0; place = 0 }

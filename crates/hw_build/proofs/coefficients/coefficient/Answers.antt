@@ -5,7 +5,7 @@ use Rattle.std.proofs.lemmas.Option.{slice_get_read}
 use Rattle.fx_type.specs.declared.decimal.Decimal.{Decimal}
 use Rattle.fx_type.specs.Conversion.{Stores}
 use Rattle.dg_model.specs.Wires.{entry_of}
-use Rattle.hw_build.proofs.coefficients.stored.Goals as goal
+use Rattle.hw_build.proofs.coefficients.coefficient.Goals as goal
 
 pub returns : goal.returns
 returns c =

@@ -9,12 +9,12 @@ use Rattle.hw_build.proofs.coefficients.put_coefficient.Goals as goal
 
 pub returns-clause-is : goal.returns-clause-is
 returns-clause-is c =
-    let same = to_z-of_z w128 c.stored-value.result (record { sfits = c.stored-value.type_inv }) in
-    let grown = typed_net c.args.net.now c.put_const.new.net c.word_of.result c.args.kind (Comb (Const c.stored-value.result) []) c.word_of.ensures (rw (← same) c.in_ok-number.ensures.grown) in
-    coefficient_is c.args.net.now c.put_const.new.net c.args.list.now c.args.element c.args.kind c.stored-value.result c.in_ok-number.number c.stored-value.ensures c.in_ok-number.ensures.number grown
+    let same = to_z-of_z w128 c.coefficient-value.result (record { sfits = c.coefficient-value.type_inv }) in
+    let grown = typed_net c.args.net.now c.put_const.new.net c.word_of.result c.args.kind (Comb (Const c.coefficient-value.result) []) c.word_of.ensures (rw (← same) c.in_ok-number.ensures.grown) in
+    coefficient_is c.args.net.now c.put_const.new.net c.args.list.now c.args.element c.args.kind c.coefficient-value.result c.in_ok-number.number c.coefficient-value.ensures c.in_ok-number.ensures.number grown
 
 pub returns-clause-adds : goal.returns-clause-adds
 returns-clause-adds c =
-    let same = to_z-of_z w128 c.stored-value.result (record { sfits = c.stored-value.type_inv }) in
-    let grown = typed_net c.args.net.now c.put_const.new.net c.word_of.result c.args.kind (Comb (Const c.stored-value.result) []) c.word_of.ensures (rw (← same) c.in_ok-number.ensures.grown) in
-    adds_one c.args.net.now c.put_const.new.net c.args.kind c.stored-value.result c.requires.valid grown
+    let same = to_z-of_z w128 c.coefficient-value.result (record { sfits = c.coefficient-value.type_inv }) in
+    let grown = typed_net c.args.net.now c.put_const.new.net c.word_of.result c.args.kind (Comb (Const c.coefficient-value.result) []) c.word_of.ensures (rw (← same) c.in_ok-number.ensures.grown) in
+    adds_one c.args.net.now c.put_const.new.net c.args.kind c.coefficient-value.result c.requires.valid grown

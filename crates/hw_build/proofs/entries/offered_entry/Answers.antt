@@ -2,7 +2,7 @@ use Rattle.std.proofs.Common.{ap}
 use Rattle.hw_build.specs.declared.entry.Entry.{Entry}
 use Rattle.hw_build.specs.inner.Designed.{timing_for}
 use Rattle.hw_build.proofs.EnteringHanded.{handed_entry, one_there}
-use Rattle.hw_build.proofs.entries.handed.Goals as goal
+use Rattle.hw_build.proofs.entries.offered_entry.Goals as goal
 
 pub bounds-site-0 : goal.bounds-site-0
 bounds-site-0 c = one_there c.args.site.design.checked.now.diagram c.args.net.now c.args.site.place.block c.args.site.one.now c.args.site.place.port c.args.site.operands.now c.requires.hands c.requires.operands

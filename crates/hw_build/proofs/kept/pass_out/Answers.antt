@@ -1,7 +1,7 @@
 use Rattle.std.proofs.Common.{subst}
 use Rattle.hw_build.specs.inner.Sites.{PassesOut}
 use Rattle.hw_build.proofs.Parameters.{passes_out}
-use Rattle.hw_build.proofs.kept.passed_out.Goals as goal
+use Rattle.hw_build.proofs.kept.pass_out.Goals as goal
 
 pub pass_reset-requires-clause-out : goal.pass_reset-requires-clause-out
 pass_reset-requires-clause-out c =

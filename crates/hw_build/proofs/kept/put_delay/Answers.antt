@@ -7,7 +7,7 @@ use Rattle.hw_build.specs.inner.Entries.{hands_on}
 use Rattle.hw_build.specs.inner.Sites.{HasOperands}
 use Rattle.hw_build.proofs.EnteringKept.{second_operand}
 use Rattle.hw_build.proofs.Parameters.{readable}
-use Rattle.hw_build.proofs.kept.delayed.Goals as goal
+use Rattle.hw_build.proofs.kept.put_delay.Goals as goal
 
 pub bounds-site-1 : goal.bounds-site-1
 bounds-site-1 c =
@@ -28,8 +28,8 @@ driver_period-requires-clause-some c =
     let ports = subst (λ (kind : Kind). HasPorts kind c.args.site.one.now.inputs c.args.site.one.now.outputs) c.requires.kind (readable c.args.site.design.checked.now.diagram c.args.site.place.block c.args.site.one.now c.requires.can.designed.scheduled.checked c.requires.can.shown.block_is).ports in
     omega (arith, ports.0)
 
-pub handed-requires-clause-hands : goal.handed-requires-clause-hands
-handed-requires-clause-hands c =
+pub offered_entry-requires-clause-hands : goal.offered_entry-requires-clause-hands
+offered_entry-requires-clause-hands c =
     let diagram = c.args.site.design.checked.now.diagram in
     let period = c.in-Some-driver_period.field-0 in
     let driver : period_into diagram (attributes_of diagram) c.args.site.place.block 1 ≡ Some period = sym c.driver_period.ensures ∙ c.in-Some-driver_period.is in

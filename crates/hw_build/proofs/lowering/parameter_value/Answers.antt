@@ -7,7 +7,7 @@ use Rattle.fx_type.specs.Conversion.{Stores}
 use Rattle.fx_type.specs.FxType.{InRange}
 use Rattle.dg_model.specs.Wires.{entry_of}
 use Rattle.hw_build.proofs.Parameters.{entry_there}
-use Rattle.hw_build.proofs.lowering.stored.Goals as goal
+use Rattle.hw_build.proofs.lowering.parameter_value.Goals as goal
 
 pub bounds-list-place_in : goal.bounds-list-place_in
 bounds-list-place_in c =

@@ -11,7 +11,7 @@ use Rattle.hw_build.specs.inner.Designed.{timing_for}
 use Rattle.hw_build.specs.inner.Entries.{operand_types}
 use Rattle.hw_build.proofs.EnteringOut.{tested_entry}
 use Rattle.hw_build.proofs.Parameters.{args_there, first_type, one_type}
-use Rattle.hw_build.proofs.worked.tested.Goals as goal
+use Rattle.hw_build.proofs.worked.put_enable_test.Goals as goal
 
 pub some_above-requires-clause-kind : goal.some_above-requires-clause-kind
 some_above-requires-clause-kind c =

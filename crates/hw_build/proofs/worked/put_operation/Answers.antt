@@ -6,7 +6,7 @@ use Rattle.hw_lower.specs.Lowered.{AreArgs}
 use Rattle.hw_build.specs.inner.Designed.{timing_for}
 use Rattle.hw_build.proofs.EnteringWorked.{carried_entry, types_carried}
 use Rattle.std.proofs.lemmas.Option.{slice_get_within}
-use Rattle.hw_build.proofs.worked.carried.Goals as goal
+use Rattle.hw_build.proofs.worked.put_operation.Goals as goal
 
 pub lower-requires-clause-args : goal.lower-requires-clause-args
 lower-requires-clause-args c =
