@@ -38,7 +38,7 @@ fn end_at(
 /// The chain of a source: one register for each of its frames up to the last that is used, and
 /// behind these at most one more net for each different use. Uses that are seen in one frame share
 /// it.
-fn chained(
+fn put_chain(
     alloc: Global,
     net: &mut Netlist,
     source: Source,
@@ -93,7 +93,7 @@ pub fn chain(
         first,
         registered,
     };
-    chained(alloc, net, source, uses)
+    put_chain(alloc, net, source, uses)
 }
 
 /// Shows a net later to one reader: a chain with one use.

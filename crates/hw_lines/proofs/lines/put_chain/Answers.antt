@@ -6,7 +6,7 @@ use Rattle.hw_lines.specs.declared.source.Use.{Use}
 use Rattle.hw_lines.specs.Chain.{most_frames, different}
 use Rattle.hw_lines.specs.inner.Ends.{frames_of}
 use Rattle.hw_lines.proofs.Chained.{room, most-of, taps-can-hold, done-start, done-more, done-answers, done-chained}
-use Rattle.hw_lines.proofs.lines.chained.Goals as goal
+use Rattle.hw_lines.proofs.lines.put_chain.Goals as goal
 
 pub end_at-requires : goal.end_at-requires
 end_at-requires c =

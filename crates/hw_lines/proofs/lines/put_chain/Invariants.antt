@@ -2,7 +2,7 @@ use Rattle.std.proofs.Common.{◌+◌}
 use Rattle.hw_net.specs.Frames.{register_count}
 use Rattle.hw_lines.specs.Chain.{most_frames, different}
 use Rattle.hw_lines.specs.inner.Ends.{IsDone, frames_of}
-use Rattle.hw_lines.proofs.lines.chained.Given as goal
+use Rattle.hw_lines.proofs.lines.put_chain.Given as goal
 
 abbrev pub invariant-loop-one : goal.invariant-loop-one
 invariant-loop-one l =
