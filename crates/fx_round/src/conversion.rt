@@ -33,9 +33,9 @@ pub fn convert(v: i128, from: FxType, to: FxType, mode: Rounding, saturate: bool
             } => {
                 let up = frac - point;
                 if up >= 0 {
-                    raised(v, bits, from_signed, up as u16, width, signed, saturate)
+                    stored_product(v, bits, from_signed, up as u16, width, signed, saturate)
                 } else {
-                    lowered(v, bits, -up as u16, width, signed, mode, saturate)
+                    stored_quotient(v, bits, -up as u16, width, signed, mode, saturate)
                 }
             }
             FxType::Logical if frac >= 0 => settled_up(v, frac as u16, width, signed, saturate),
@@ -48,7 +48,7 @@ pub fn convert(v: i128, from: FxType, to: FxType, mode: Rounding, saturate: bool
 /// What a number type of this word stores for `v`, a number of a word of so many bits and this sign,
 /// times 2 to the power `by`. A word of the same sign that has as many bits as the product keeps it
 /// as it is.
-fn raised(
+fn stored_product(
     v: i128,
     bits: u8,
     from_signed: bool,
@@ -65,11 +65,11 @@ fn raised(
 {
     let most = u16::from(bits) + by;
     if u16::from(width) | most <= 63 {
-        let shifted = narrow::raised(v as i64, by);
+        let shifted = narrow::shift_up(v as i64, by);
         if from_signed == signed && most <= u16::from(width) {
             i128::from(shifted)
         } else {
-            i128::from(narrow::settled(shifted, width, signed, saturate))
+            i128::from(narrow::stored_number(shifted, width, signed, saturate))
         }
     } else {
         settled_up(v, by, width, signed, saturate)
@@ -78,7 +78,7 @@ fn raised(
 
 /// What a number type of this word stores for `v`, a number of a word of so many bits, over 2 to the
 /// power `by`.
-fn lowered(
+fn stored_quotient(
     v: i128,
     bits: u8,
     by: u16,
@@ -93,7 +93,7 @@ fn lowered(
 {
     if u16::from(width | bits) | by <= 63 {
         let rounded = narrow::rounded_down(v as i64, by, mode);
-        i128::from(narrow::settled(rounded, width, signed, saturate))
+        i128::from(narrow::stored_number(rounded, width, signed, saturate))
     } else {
         lowered_far(v, by, width, signed, mode, saturate)
     }
@@ -127,5 +127,5 @@ fn wrapped_far(v: i128, by: u16, width: u8, signed: bool, mode: Rounding) -> i12
     requires { IsLowering by width signed }
     ensures { (frac : ℤ) → StoresQuotient v (2 ^ by) (Num signed width frac) mode false result }
 {
-    settle::wrapped(split::rounded_down(v, u32::from(by), mode), width, signed)
+    settle::residue(split::rounded_down(v, u32::from(by), mode), width, signed)
 }

@@ -8,7 +8,7 @@ ghost use Rattle.fx_round.specs.inner.Narrow.{IsTie, least_beside};
 use fx_type::Rounding;
 
 /// `v` times 2 to the power `by`.
-pub fn raised(v: i64, by: u16) -> i64
+pub fn shift_up(v: i64, by: u16) -> i64
     requires few { by ≤ 63 }
     requires room { InWord 64 true (v *ℤ pos (2 ^ by)) }
     ensures { result ≡ v *ℤ pos (2 ^ by) }
@@ -101,7 +101,7 @@ fn lowest(highest: i64, signed: bool) -> i64
 }
 
 /// The number of a word that is congruent to `r`.
-fn wrapped(r: i64, width: u8, signed: bool) -> i64
+fn residue(r: i64, width: u8, signed: bool) -> i64
     requires word { IsWord width signed }
     requires few { width ≤ 63 }
     ensures { IsWrapped r width signed result }
@@ -115,7 +115,7 @@ fn wrapped(r: i64, width: u8, signed: bool) -> i64
 }
 
 /// What a number type stores for the whole number `r`.
-pub fn settled(r: i64, width: u8, signed: bool, saturate: bool) -> i64
+pub fn stored_number(r: i64, width: u8, signed: bool, saturate: bool) -> i64
     requires word { IsWord width signed }
     requires few { width ≤ 63 }
     ensures { (frac : ℤ) → Settles (Num signed width frac) saturate r result }
@@ -124,6 +124,6 @@ pub fn settled(r: i64, width: u8, signed: bool, saturate: bool) -> i64
         let highest = highest(width, signed);
         r.clamp(lowest(highest, signed), highest)
     } else {
-        wrapped(r, width, signed)
+        residue(r, width, signed)
     }
 }

@@ -33,7 +33,7 @@ fn low_half(r: i128) -> u64
 }
 
 /// The number of at most 64 bits that is congruent to `r`.
-fn wrapped_low(r: i64, width: u8, signed: bool) -> i128
+fn residue_low(r: i64, width: u8, signed: bool) -> i128
     requires some { 1 ≤ width }
     requires few { width ≤ 64 }
     ensures { IsWrapped r width signed result }
@@ -47,29 +47,29 @@ fn wrapped_low(r: i64, width: u8, signed: bool) -> i128
 }
 
 /// The number of a word of more than 64 bits that is congruent to `r`: its lower 64 bits stay.
-fn wrapped_high(r: i128, width: u8, signed: bool) -> i128
+fn residue_high(r: i128, width: u8, signed: bool) -> i128
     requires word { IsWord width signed }
     requires many { 65 ≤ width }
     ensures { IsWrapped r width signed result }
 {
-    let high = wrapped_low((r >> 64) as i64, width - 64, signed);
+    let high = residue_low((r >> 64) as i64, width - 64, signed);
     (high << 64) + i128::from(low_half(r))
 }
 
 /// The number of a word that is congruent to `r`. Only 64 bits are shifted.
-pub fn wrapped(r: i128, width: u8, signed: bool) -> i128
+pub fn residue(r: i128, width: u8, signed: bool) -> i128
     requires { IsWord width signed }
     ensures { IsWrapped r width signed result }
 {
     if width <= 64 {
-        wrapped_low(low_half(r).cast_signed(), width, signed)
+        residue_low(low_half(r).cast_signed(), width, signed)
     } else {
-        wrapped_high(r, width, signed)
+        residue_high(r, width, signed)
     }
 }
 
 /// The number of the type that is nearest to the whole number `r`.
-pub fn saturated(r: i128, to: FxType) -> i128
+pub fn nearest_in_type(r: i128, to: FxType) -> i128
     requires { IsType to }
     ensures { Settles to true r result }
 {
@@ -89,7 +89,7 @@ pub fn settled_up(v: i128, by: u16, width: u8, signed: bool, saturate: bool) -> 
     if saturate {
         saturated_up(v, u32::from(by), width, signed)
     } else if by < 128 {
-        wrapped(v << by, width, signed)
+        residue(v << by, width, signed)
     } else {
         0
     }

@@ -86,7 +86,7 @@ fn rounded_far(v: i128, by: u32, mode: Rounding) -> i128
             }
         }
     } else {
-        rounded(far_split(v, by), mode)
+        rounded_value(far_split(v, by), mode)
     }
 }
 
@@ -211,7 +211,7 @@ fn takes_upper(mode: Rounding, part: Part, negative: bool, odd: bool) -> bool
 }
 
 /// The whole number that the mode gives. It is that of every fraction with this split.
-pub fn rounded(split: Split, mode: Rounding) -> i128
+pub fn rounded_value(split: Split, mode: Rounding) -> i128
     requires { split.floor <ℤ pos (2 ^ 127 - 1) }
     ensures { (n : ℤ) (d : ℕ) → IsSplit n d split.floor split.part → Rounds mode n d result }
 {

@@ -6,8 +6,8 @@ ghost use Rattle.fx_type.specs.FxType.{IsType};
 ghost use Rattle.fx_type.specs.Conversion.{StoresQuotient, Stores, signed_digits};
 ghost use Rattle.fx_round.specs.inner.Split.{IsPart, IsSplit, IsSize, IsMagnitude, mixed_count};
 
-use crate::settle::saturated;
-use crate::split::{Part, Split, part_of, rounded};
+use crate::settle::nearest_in_type;
+use crate::split::{Part, Split, part_of, rounded_value};
 use fx_type::{Decimal, FxType, Rounding};
 
 /// A whole number and a rest, which is counted in units that the whole number's one has several of.
@@ -40,7 +40,7 @@ fn doubled_once(mixed: Mixed, unit: u128) -> Mixed
 }
 
 /// The number times 2 to the power `by`.
-fn doubled(number: Mixed, unit: u128, by: u32) -> Option<Split>
+fn power_product(number: Mixed, unit: u128, by: u32) -> Option<Split>
     requires whole { number.whole < 2 ^ 127 }
     requires rest { number.rest < unit }
     requires unit { unit ≤ 2 ^ 126 }
@@ -73,7 +73,7 @@ fn past(part: Part) -> Part
 }
 
 /// The number over 2 to the power `by`.
-fn halved(mixed: Mixed, unit: u128, by: u32) -> Split
+fn power_quotient(mixed: Mixed, unit: u128, by: u32) -> Split
     requires whole { mixed.whole < 2 ^ 127 }
     requires rest { mixed.rest < unit }
     requires some { 1 ≤ by }
@@ -93,7 +93,7 @@ fn halved(mixed: Mixed, unit: u128, by: u32) -> Split
 }
 
 /// The number times 2 to the power `frac`.
-fn scaled(mixed: Mixed, unit: u128, frac: i16) -> Option<Split>
+fn scaled_number(mixed: Mixed, unit: u128, frac: i16) -> Option<Split>
     requires whole { mixed.whole < 2 ^ 127 }
     requires rest { mixed.rest < unit }
     requires unit { unit ≤ 2 ^ 126 }
@@ -102,9 +102,9 @@ fn scaled(mixed: Mixed, unit: u128, frac: i16) -> Option<Split>
         (unit * 2 ^ int_gap frac (pos 0)) result }
 {
     if frac >= 0 {
-        doubled(mixed, unit, frac as u32)
+        power_product(mixed, unit, frac as u32)
     } else {
-        Some(halved(mixed, unit, -frac as u32))
+        Some(power_quotient(mixed, unit, -frac as u32))
     }
 }
 
@@ -122,18 +122,18 @@ fn magnitude(decimal: Decimal, frac: i16) -> Option<Split>
             whole: digits * power,
             rest: 0,
         };
-        scaled(mixed, 1, frac)
+        scaled_number(mixed, 1, frac)
     } else {
         let mixed = Mixed {
             whole: digits / power,
             rest: digits % power,
         };
-        scaled(mixed, power, frac)
+        scaled_number(mixed, power, frac)
     }
 }
 
 /// The negative of a number that is not negative.
-fn mirrored(split: Split) -> Split
+fn negation(split: Split) -> Split
     requires { pos 0 ≤ℤ split.floor }
     ensures room { result.floor ≤ℤ pos 0 }
     ensures split { (n : ℤ) (d : ℕ) → IsSplit n d split.floor split.part
@@ -169,9 +169,9 @@ fn settle_size(size: Option<Split>, negative: bool, to: FxType) -> i128
     match size {
         Some(split) => {
             if negative {
-                saturated(rounded(mirrored(split), Rounding::Nearest), to)
+                nearest_in_type(rounded_value(negation(split), Rounding::Nearest), to)
             } else if split.floor < i128::MAX {
-                saturated(rounded(split, Rounding::Nearest), to)
+                nearest_in_type(rounded_value(split, Rounding::Nearest), to)
             } else {
                 to.highest()
             }

@@ -32,9 +32,9 @@ returns-then-up-ge0 c =
     let difference : x ≡ to.frac -ℤ from.point = omega (arith, ints, limits to.is c.requires.to, limits from.is c.requires.from) in
     let order : from.point ≤ℤ to.frac = omega (arith, ints, difference, c.if-up-ge0.true) in
     let v = to_z-of_z w128 c.args.v c.ranges.v in
-    let e = to_z-of_z w128 c.raised.result (record { sfits = c.raised.type_inv }) in
-    let settled : Settles (Num to.signed to.width to.frac) c.args.saturate (c.args.v *ℤ pos (2 ^ nat_abs x)) c.raised.result = rw v at (c.raised.ensures to.frac) in
-    rw (to.is, from.is, e) (converts_up c.args.v (Num from.from_signed from.bits from.point) to.signed to.width to.frac c.args.mode c.args.saturate c.raised.result (nat_abs x)
+    let e = to_z-of_z w128 c.stored_product.result (record { sfits = c.stored_product.type_inv }) in
+    let settled : Settles (Num to.signed to.width to.frac) c.args.saturate (c.args.v *ℤ pos (2 ^ nat_abs x)) c.stored_product.result = rw v at (c.stored_product.ensures to.frac) in
+    rw (to.is, from.is, e) (converts_up c.args.v (Num from.from_signed from.bits from.point) to.signed to.width to.frac c.args.mode c.args.saturate c.stored_product.result (nat_abs x)
     (gap_is from.point to.frac x order difference) (gap_none to.frac from.point order) settled)
 
 pub returns-else-up-ge0 : goal.returns-else-up-ge0
@@ -45,9 +45,9 @@ returns-else-up-ge0 c =
     let difference : x ≡ from.point -ℤ to.frac = omega (arith, ints, limits to.is c.requires.to, limits from.is c.requires.from) in
     let order : to.frac ≤ℤ from.point = omega (arith, ints, limits to.is c.requires.to, limits from.is c.requires.from, c.if-up-ge0.false) in
     let v = to_z-of_z w128 c.args.v c.ranges.v in
-    let e = to_z-of_z w128 c.lowered.result (record { sfits = c.lowered.type_inv }) in
-    let stored : StoresQuotient c.args.v (2 ^ nat_abs x) (Num to.signed to.width to.frac) c.args.mode c.args.saturate c.lowered.result = rw v at (c.lowered.ensures to.frac) in
-    rw (to.is, from.is, e) (converts_down c.args.v (Num from.from_signed from.bits from.point) to.signed to.width to.frac c.args.mode c.args.saturate c.lowered.result (nat_abs x)
+    let e = to_z-of_z w128 c.stored_quotient.result (record { sfits = c.stored_quotient.type_inv }) in
+    let stored : StoresQuotient c.args.v (2 ^ nat_abs x) (Num to.signed to.width to.frac) c.args.mode c.args.saturate c.stored_quotient.result = rw v at (c.stored_quotient.ensures to.frac) in
+    rw (to.is, from.is, e) (converts_down c.args.v (Num from.from_signed from.bits from.point) to.signed to.width to.frac c.args.mode c.args.saturate c.stored_quotient.result (nat_abs x)
     (gap_is to.frac from.point x order difference) (gap_none from.point to.frac order) stored)
 
 pub returns-in-Logical-from : goal.returns-in-Logical-from
@@ -76,15 +76,15 @@ returns-in-Logical-2 c =
     rw (to.is, c.in-Logical-2.is, e) (converts_down c.args.v Logical to.signed to.width to.frac c.args.mode c.args.saturate c.lowered_far.result (nat_abs x)
     (gap_is to.frac (pos 0) x order difference) (gap_none (pos 0) to.frac order) stored)
 
-pub raised-requires-clause-number : goal.raised-requires-clause-number
-raised-requires-clause-number c =
+pub stored_product-requires-clause-number : goal.stored_product-requires-clause-number
+stored_product-requires-clause-number c =
     let from = c.in-Num-from in
     let range : InRange (Num from.from_signed from.bits from.point) c.args.v = rw from.is at c.requires.in_range in
     let number : InWord from.bits from.from_signed c.args.v = record { low = range.low; high = range.high } in
     rw (to_z-of_z w128 c.args.v c.ranges.v) number
 
-pub lowered-requires-clause-number : goal.lowered-requires-clause-number
-lowered-requires-clause-number c =
+pub stored_quotient-requires-clause-number : goal.stored_quotient-requires-clause-number
+stored_quotient-requires-clause-number c =
     let from = c.in-Num-from in
     let range : InRange (Num from.from_signed from.bits from.point) c.args.v = rw from.is at c.requires.in_range in
     let number : InWord from.bits from.from_signed c.args.v = record { low = range.low; high = range.high } in
@@ -94,24 +94,24 @@ pub overflow_sub-up : goal.overflow_sub-up
 overflow_sub-up c =
     omega (arith, ints, limits c.in-Num.is c.requires.to, limits c.in-Num-from.is c.requires.from)
 
-pub raised-requires-clause-some : goal.raised-requires-clause-some
-raised-requires-clause-some c =
+pub stored_product-requires-clause-some : goal.stored_product-requires-clause-some
+stored_product-requires-clause-some c =
     (word_width c.in-Num-from.bits c.in-Num-from.from_signed (number_type c.in-Num-from.is c.requires.from).0).0
 
-pub raised-requires-clause-shift : goal.raised-requires-clause-shift
-raised-requires-clause-shift c =
+pub stored_product-requires-clause-shift : goal.stored_product-requires-clause-shift
+stored_product-requires-clause-shift c =
     omega (arith, ints, limits c.in-Num.is c.requires.to, limits c.in-Num-from.is c.requires.from, c.if-up-ge0.true)
 
-pub raised-requires-clause-word : goal.raised-requires-clause-word
-raised-requires-clause-word c =
+pub stored_product-requires-clause-word : goal.stored_product-requires-clause-word
+stored_product-requires-clause-word c =
     (number_type c.in-Num.is c.requires.to).0
 
 pub settled_up-requires : goal.settled_up-requires
 settled_up-requires c =
     (number_type c.in-Num.is c.requires.to).0
 
-pub lowered-requires-clause-lowering : goal.lowered-requires-clause-lowering
-lowered-requires-clause-lowering c = record {
+pub stored_quotient-requires-clause-lowering : goal.stored_quotient-requires-clause-lowering
+stored_quotient-requires-clause-lowering c = record {
   some = omega (arith, ints, limits c.in-Num.is c.requires.to, limits c.in-Num-from.is c.requires.from, c.if-up-ge0.false);
   word = (number_type c.in-Num.is c.requires.to).0;
 }

@@ -10,5 +10,5 @@ returns c frac =
     let q = c.rounded_down.result in
     let rounded = to_z-of_z w128 q (record { sfits = c.rounded_down.type_inv }) in
     let rounds = rw (to_z-of_z w128 c.args.v c.ranges.v, c.from.ensures) at c.rounded_down.ensures in
-    let settles : Settles (Num c.args.signed c.args.width frac) false q c.wrapped.result = rw rounded at c.wrapped.ensures in
-    rw (to_z-of_z w128 c.wrapped.result (record { sfits = c.wrapped.type_inv })) (record { rounded = q; rounds = rounds; settles = settles })
+    let settles : Settles (Num c.args.signed c.args.width frac) false q c.residue.result = rw rounded at c.residue.ensures in
+    rw (to_z-of_z w128 c.residue.result (record { sfits = c.residue.type_inv })) (record { rounded = q; rounds = rounds; settles = settles })

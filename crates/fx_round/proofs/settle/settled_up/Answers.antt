@@ -7,9 +7,9 @@ use Rattle.fx_round.proofs.settle.settled_up.Goals as goal
 
 pub returns-then-by-lt128 : goal.returns-then-by-lt128
 returns-then-by-lt128 c frac =
-    let e = to_z-of_z w128 c.wrapped.result (record { sfits = c.wrapped.type_inv }) in
+    let e = to_z-of_z w128 c.residue.result (record { sfits = c.residue.type_inv }) in
     let h = word-width c.args.width c.args.signed c.requires in
-    rw (c.if-saturate.false, e) (shift_wrapped c.args.v c.args.by c.args.width c.args.signed c.wrapped.result h c.ranges.v c.wrapped.ensures)
+    rw (c.if-saturate.false, e) (shift_wrapped c.args.v c.args.by c.args.width c.args.signed c.residue.result h c.ranges.v c.residue.ensures)
 
 pub returns-else-by-lt128 : goal.returns-else-by-lt128
 returns-else-by-lt128 c frac =

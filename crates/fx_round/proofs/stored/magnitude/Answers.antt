@@ -10,8 +10,8 @@ pow-power-requires c =
     let h : c.from.result ≤ 36 = omega (arith, ints, c.from.ensures, c.unsigned_abs.ensures.value, c.args.decimal.least_exponent, c.args.decimal.greatest_exponent) in
     omega (arith, ten_bound c.from.result 36 h)
 
-pub scaled-requires-clause-whole : goal.scaled-requires-clause-whole
-scaled-requires-clause-whole c =
+pub scaled_number-requires-clause-whole : goal.scaled_number-requires-clause-whole
+scaled_number-requires-clause-whole c =
     let h : c.from.result ≤ 18 = omega (arith, ints, c.from.ensures, c.unsigned_abs.ensures.value, c.args.decimal.greatest_exponent, c.if-decimal-ge0.true) in
     let p : c.pow-power.result ≤ 1000000000000000000 = omega (arith, ten_bound c.from.result 18 h, c.pow-power.ensures) in
     let q : c.from-digits.result * c.pow-power.result ≤ c.from-digits.result * 1000000000000000000 = mul-le-mul_left c.from-digits.result p in
@@ -23,13 +23,13 @@ nonzero_div-mixed c = omega (arith, c.pow-power.ensures, ten_positive c.from.res
 pub nonzero_rem-mixed : goal.nonzero_rem-mixed
 nonzero_rem-mixed c = omega (arith, c.pow-power.ensures, ten_positive c.from.result)
 
-pub scaled-requires-else-decimal-ge0-clause-rest : goal.scaled-requires-else-decimal-ge0-clause-rest
-scaled-requires-else-decimal-ge0-clause-rest c =
+pub scaled_number-requires-else-decimal-ge0-clause-rest : goal.scaled_number-requires-else-decimal-ge0-clause-rest
+scaled_number-requires-else-decimal-ge0-clause-rest c =
     let h : 0 < c.pow-power.result = omega (arith, c.pow-power.ensures, ten_positive c.from.result) in
     mod-lt c.from-digits.result h
 
-pub scaled-requires-else-decimal-ge0-clause-unit : goal.scaled-requires-else-decimal-ge0-clause-unit
-scaled-requires-else-decimal-ge0-clause-unit c =
+pub scaled_number-requires-else-decimal-ge0-clause-unit : goal.scaled_number-requires-else-decimal-ge0-clause-unit
+scaled_number-requires-else-decimal-ge0-clause-unit c =
     let h : c.from.result ≤ 36 = omega (arith, ints, c.from.ensures, c.unsigned_abs.ensures.value, c.args.decimal.least_exponent, c.args.decimal.greatest_exponent) in
     omega (arith, ten_bound c.from.result 36 h, c.pow-power.ensures)
 
@@ -40,7 +40,7 @@ returns-then-decimal-ge0 c =
     let power : pos c.from.result ≡ e = omega (arith, ints, c.from.ensures, c.unsigned_abs.ensures.value, c.args.decimal.least_exponent, c.args.decimal.greatest_exponent, c.if-decimal-ge0.true) in
     let tens = c.pow-power.ensures ∙ ap (λ (n : ℕ). 10 ^ n) (up_gap e c.from.result order power) in
     let count : c.from-digits.result * c.pow-power.result ≡ c.args.decimal.digits * 10 ^ int_gap (pos 0) e = ap₂ (λ (a b : ℕ). a * b) c.from-digits.ensures tens in
-    whole_size _ _ _ _ _ c.scaled.result count (gap_none e (pos 0) order) (rw (to_z-of_z w16 c.args.frac c.ranges.frac) at c.scaled.ensures)
+    whole_size _ _ _ _ _ c.scaled_number.result count (gap_none e (pos 0) order) (rw (to_z-of_z w16 c.args.frac c.ranges.frac) at c.scaled_number.ensures)
 
 pub returns-else-decimal-ge0 : goal.returns-else-decimal-ge0
 returns-else-decimal-ge0 c =
@@ -48,5 +48,5 @@ returns-else-decimal-ge0 c =
     let order : e ≤ℤ pos 0 = omega (arith, ints, c.args.decimal.least_exponent, c.args.decimal.greatest_exponent, c.if-decimal-ge0.false) in
     let power : pos c.from.result ≡ neg_ℤ e = omega (arith, ints, c.from.ensures, c.unsigned_abs.ensures.value, c.args.decimal.least_exponent, c.args.decimal.greatest_exponent, c.if-decimal-ge0.false) in
     let tens = c.pow-power.ensures ∙ ap (λ (n : ℕ). 10 ^ n) (down_gap e c.from.result order power) in
-    part_size _ _ c.pow-power.result _ _ _ _ _ c.scaled-else-decimal-ge0.result (div-add-mod' c.from-digits.result c.pow-power.result ∙ c.from-digits.ensures) tens (gap_none (pos 0) e order)
-    (rw (to_z-of_z w16 c.args.frac c.ranges.frac) at c.scaled-else-decimal-ge0.ensures)
+    part_size _ _ c.pow-power.result _ _ _ _ _ c.scaled_number-else-decimal-ge0.result (div-add-mod' c.from-digits.result c.pow-power.result ∙ c.from-digits.ensures) tens (gap_none (pos 0) e order)
+    (rw (to_z-of_z w16 c.args.frac c.ranges.frac) at c.scaled_number-else-decimal-ge0.ensures)

@@ -10,10 +10,10 @@ use Rattle.fx_round.proofs.stored.settle_size.Goals as goal
 pub returns-then-negative : goal.returns-then-negative
 returns-then-negative c n d h size =
     let m : IsMagnitude n d c.in-Some.split = rw c.in-Some.is at size in
-    let e = to_z-of_z w128 c.saturated.result (record { sfits = c.saturated.type_inv }) in
-    let q = to_z-of_z w128 c.rounded.result (record { sfits = c.rounded.type_inv }) in
-    let s : Saturates c.args.to c.rounded.result c.saturated.result = rw q at c.saturated.ensures in
-    rw (c.if-negative.true, e) (record { rounded = c.rounded.result; rounds = c.rounded.ensures (neg_ℤ (pos n)) d (c.mirrored.ensures.split (pos n) d m.is_split); settles = s })
+    let e = to_z-of_z w128 c.nearest_in_type.result (record { sfits = c.nearest_in_type.type_inv }) in
+    let q = to_z-of_z w128 c.rounded_value.result (record { sfits = c.rounded_value.type_inv }) in
+    let s : Saturates c.args.to c.rounded_value.result c.nearest_in_type.result = rw q at c.nearest_in_type.ensures in
+    rw (c.if-negative.true, e) (record { rounded = c.rounded_value.result; rounds = c.rounded_value.ensures (neg_ℤ (pos n)) d (c.negation.ensures.split (pos n) d m.is_split); settles = s })
 
 pub returns-else-split-lt170141183460469231731687303715884105727 : goal.returns-else-split-lt170141183460469231731687303715884105727
 returns-else-split-lt170141183460469231731687303715884105727 c n d h size =

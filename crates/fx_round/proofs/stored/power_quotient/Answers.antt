@@ -5,7 +5,7 @@ use Rattle.std.proofs.lemmas.Nat.{one_shl, and_mask, shr_le}
 use Rattle.fx_round.specs.inner.Split.{IsPart}
 use Rattle.fx_num.proofs.Arithmetic.{double}
 use Rattle.fx_round.proofs.Sizes.{halved_whole, halved_past}
-use Rattle.fx_round.proofs.stored.halved.Goals as goal
+use Rattle.fx_round.proofs.stored.power_quotient.Goals as goal
 
 unit_of : (by : ℕ) → by ≤ 126 → (1 * 2 ^ by) % 2 ^ 128 ≡ 2 ^ by
 unit_of by h = let k : by < 128 = omega arith in one_shl by 128 k

@@ -3,7 +3,7 @@ use Rattle.std.specs.Int.{w64, w128}
 use Rattle.std.specs.Int.Signed.{shr_z}
 use Rattle.std.proofs.lemmas.Int.{to_z-of_z}
 use Rattle.fx_num.proofs.Shifted.{shr-fits, shl_fits, wrapped_signed, wrapped_unsigned}
-use Rattle.fx_round.proofs.settle.wrapped_low.Goals as goal
+use Rattle.fx_round.proofs.settle.residue_low.Goals as goal
 
 pub returns-then-signed : goal.returns-then-signed
 returns-then-signed c =

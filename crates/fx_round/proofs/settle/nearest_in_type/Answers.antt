@@ -1,6 +1,6 @@
 use Rattle.std.specs.Int.{w128}
 use Rattle.std.proofs.lemmas.Int.{to_z-of_z}
-use Rattle.fx_round.proofs.settle.saturated.Goals as goal
+use Rattle.fx_round.proofs.settle.nearest_in_type.Goals as goal
 
 pub returns-in-Num : goal.returns-in-Num
 returns-in-Num c =

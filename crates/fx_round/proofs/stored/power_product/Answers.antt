@@ -2,7 +2,7 @@ use Rattle.std.proofs.Common.{◌≡◌, ◌*◌, ◌^◌, ℕ, ap, sym, ◌∙�
 use Rattle.std.proofs.lemmas.Int.{ints}
 use Rattle.fx_round.specs.inner.Split.{mixed_count}
 use Rattle.fx_round.proofs.Sizes.{double_step, too_much, magnitude_is}
-use Rattle.fx_round.proofs.stored.doubled.Goals as goal
+use Rattle.fx_round.proofs.stored.power_product.Goals as goal
 
 pub returns-then-mixed : goal.returns-then-mixed
 returns-then-mixed c = too_much (mixed_count c.args.number c.args.unit) (mixed_count c.doubled_once-mixed.result c.args.unit) c.loop-done._done c.args.by c.args.unit c.doubled_once-mixed.result.whole c.doubled_once-mixed.result.rest

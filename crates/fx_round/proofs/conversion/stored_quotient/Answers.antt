@@ -5,8 +5,8 @@ use Rattle.std.proofs.lemmas.Nat.{le_or_l, le_or_r}
 use Rattle.fx_type.specs.declared.kind.FxType.TheVariants.{Num}
 use Rattle.fx_type.specs.Conversion.{Rounds, Settles}
 use Rattle.fx_round.proofs.Biased.{word_fits, word_low}
-use Rattle.fx_round.proofs.conversion.lowered.Goals as goal
-use Rattle.fx_round.proofs.conversion.lowered.Goals.{Then-from-by-le63}
+use Rattle.fx_round.proofs.conversion.stored_quotient.Goals as goal
+use Rattle.fx_round.proofs.conversion.stored_quotient.Goals.{Then-from-by-le63}
 
 both : (c : Then-from-by-le63) → bit_or c.args.width c.args.bits ≤ 63
 both c = omega (arith, c.if-from-by-le63.true, c.from.ensures, le_or_l c.from.result c.args.by)
@@ -29,8 +29,8 @@ rounded_down-rounded-requires-clause-low c = rw (few c) (word_low c.args.bits _ 
 pub rounded_down-rounded-requires-clause-few : goal.rounded_down-rounded-requires-clause-few
 rounded_down-rounded-requires-clause-few c = omega (arith, c.if-from-by-le63.true, le_or_r c.from.result c.args.by)
 
-pub settled-requires-clause-few : goal.settled-requires-clause-few
-settled-requires-clause-few c = short (goal.at.settled-requires-clause-few c).Then-from-by-le63
+pub stored_number-requires-clause-few : goal.stored_number-requires-clause-few
+stored_number-requires-clause-few c = short (goal.at.stored_number-requires-clause-few c).Then-from-by-le63
 
 pub returns-then-from-by-le63 : goal.returns-then-from-by-le63
 returns-then-from-by-le63 c frac =
@@ -39,8 +39,8 @@ returns-then-from-by-le63 c frac =
     let e = c.from-then-from-by-le63 in
     let rounded : to_z w64 (of_z w64 q) ≡ q = to_z-of_z w64 q (record { sfits = c.rounded_down-rounded.type_inv }) in
     let rounds : Rounds c.args.mode c.args.v (2 ^ c.args.by) q = rw n at c.rounded_down-rounded.ensures in
-    let r : to_z w128 (of_z w128 e.result) ≡ c.settled.result = to_z-of_z w128 e.result (record { sfits = e.type_inv }) ∙ e.ensures ∙ to_z-of_z w64 c.settled.result (record { sfits = c.settled.type_inv }) in
-    let settled : Settles (Num c.args.signed c.args.width frac) c.args.saturate q c.settled.result = rw rounded at (c.settled.ensures frac) in
+    let r : to_z w128 (of_z w128 e.result) ≡ c.stored_number.result = to_z-of_z w128 e.result (record { sfits = e.type_inv }) ∙ e.ensures ∙ to_z-of_z w64 c.stored_number.result (record { sfits = c.stored_number.type_inv }) in
+    let settled : Settles (Num c.args.signed c.args.width frac) c.args.saturate q c.stored_number.result = rw rounded at (c.stored_number.ensures frac) in
     rw r (record { rounded = q; rounds = rounds; settles = settled })
 
 pub returns-else-from-by-le63 : goal.returns-else-from-by-le63

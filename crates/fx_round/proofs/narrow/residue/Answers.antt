@@ -6,8 +6,8 @@ use Rattle.fx_num.specs.Word.{IsWrapped}
 use Rattle.fx_num.proofs.Shifted.{shr-fits, shl_fits, wrapped_signed}
 use Rattle.fx_num.proofs.Words.{mask-suc, signed_word, word_width}
 use Rattle.fx_round.proofs.Biased.{masked_wrapped}
-use Rattle.fx_round.proofs.narrow.wrapped.Goals as goal
-use Rattle.fx_round.proofs.narrow.wrapped.Goals.{After-cast_unsigned}
+use Rattle.fx_round.proofs.narrow.residue.Goals as goal
+use Rattle.fx_round.proofs.narrow.residue.Goals.{After-cast_unsigned}
 
 -- the bits of the number, and what is left of them
 bits_are : (c : After-cast_unsigned) → c.cast_unsigned.result ≡ of_z w64 c.args.r

@@ -4,7 +4,7 @@ use Rattle.std.proofs.lemmas.Int.{ints}
 use Rattle.fx_round.specs.declared.split.Part.TheVariants.{BelowHalf, Half, AboveHalf}
 use Rattle.fx_round.specs.inner.Split.{IsPart}
 use Rattle.fx_round.proofs.Sizes.{mirror_split, mirror_whole}
-use Rattle.fx_round.proofs.stored.mirrored.Goals as goal
+use Rattle.fx_round.proofs.stored.negation.Goals as goal
 
 pub returns-in-BelowHalf-clause-split : goal.returns-in-BelowHalf-clause-split
 returns-in-BelowHalf-clause-split c n d s =
