@@ -58,7 +58,7 @@ fn narrowest(span: Span, frac: i16) -> FxType
 }
 
 /// Both ends, shifted up.
-fn shifted(low: i128, high: i128, by: u32) -> Result<Span, TooWide>
+fn shifted_span(low: i128, high: i128, by: u32) -> Result<Span, TooWide>
     ensures { let least = low *ℤ pos (2 ^ by) in
         let greatest = high *ℤ pos (2 ^ by) in
         MatchResult result (IsSpan least greatest) (λ _. ¬ FitSpan least greatest) }
@@ -84,17 +84,17 @@ fn term_span(subtracted: bool, kind: FxType, frac: i16) -> Result<Span, TooWide>
     let low = kind.lowest();
     let high = kind.highest();
     if !subtracted {
-        shifted(low, high, by)
+        shifted_span(low, high, by)
     } else {
         match low.checked_neg() {
-            Some(greatest) => shifted(-high, greatest, by),
+            Some(greatest) => shifted_span(-high, greatest, by),
             None => Err(TooWide),
         }
     }
 }
 
 /// The ends of the sum of two terms.
-fn added(a: Span, b: Span) -> Result<Span, TooWide>
+fn sum_of_spans(a: Span, b: Span) -> Result<Span, TooWide>
     ensures { let least = a.low +ℤ b.low in
         let greatest = a.high +ℤ b.high in
         MatchResult result (IsSpan least greatest) (λ _. ¬ FitSpan least greatest) }
@@ -118,7 +118,7 @@ fn sum_span(terms: &[(bool, FxType)], frac: i16) -> Result<Span, TooWide>
 {
     let mut total = Span { low: 0, high: 0 };
     for (subtracted, kind) in terms {
-        total = added(total, term_span(*subtracted, *kind, frac)?)?;
+        total = sum_of_spans(total, term_span(*subtracted, *kind, frac)?)?;
     }
     Ok(total)
 }

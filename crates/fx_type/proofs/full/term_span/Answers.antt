@@ -17,7 +17,7 @@ returns-then-not-subtracted c =
     let g : nat_abs x ≡ int_gap (frac_of c.args.kind) c.args.frac = gap_is (frac_of c.args.kind) c.args.frac x c.requires.least (omega (arith, ints)) in
     let l = to_z-of_z w128 c.lowest-low.result (record { sfits = c.lowest-low.type_inv }) ∙ c.lowest-low.ensures ∙ sym (ap (λ (s : Bool). least_end s c.args.kind) c.if-not-subtracted.true) in
     let h = to_z-of_z w128 c.highest-high.result (record { sfits = c.highest-high.type_inv }) ∙ c.highest-high.ensures ∙ sym (ap (λ (s : Bool). greatest_end s c.args.kind) c.if-not-subtracted.true) in
-    same_span c.shifted.result _ _ _ _ (scaled_by _ _ _ _ l g) (scaled_by _ _ _ _ h g) c.shifted.ensures
+    same_span c.shifted_span.result _ _ _ _ (scaled_by _ _ _ _ l g) (scaled_by _ _ _ _ h g) c.shifted_span.ensures
 
 pub returns-in-Some : goal.returns-in-Some
 returns-in-Some c =
@@ -31,4 +31,4 @@ returns-in-Some c =
     let fits : FitsSigned w128 c.in-Some.greatest = omega (arith, ints, some.0, some.1) in
     let l = negated ∙ sym (ap (λ (s : Bool). least_end s c.args.kind) c.if-not-subtracted.false) in
     let h = to_z-of_z w128 c.in-Some.greatest fits ∙ some.1 ∙ ap neg_ℤ (low ∙ c.lowest-low.ensures) ∙ sym (ap (λ (s : Bool). greatest_end s c.args.kind) c.if-not-subtracted.false) in
-    same_span c.shifted-in-Some.result _ _ _ _ (scaled_by _ _ _ _ l g) (scaled_by _ _ _ _ h g) c.shifted-in-Some.ensures
+    same_span c.shifted_span-in-Some.result _ _ _ _ (scaled_by _ _ _ _ l g) (scaled_by _ _ _ _ h g) c.shifted_span-in-Some.ensures
