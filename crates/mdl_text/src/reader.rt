@@ -6,8 +6,8 @@ ghost use Rattle.mdl_text.specs.inner.Plain.{IsBounded, goes_on, reader_strings,
 use crate::brackets::{ListEnd, list_end};
 use crate::kind::Kind;
 use crate::said::{Piece, Said};
-use crate::scan::{are_blanks, line_text, name_length, trimmed, unblanked};
-use crate::strings::{joined, plain_string};
+use crate::scan::{are_blanks, line_text, name_length, trim_end, trim_start};
+use crate::strings::{plain_string, text_with_strings};
 use crate::tree::{Item, Items};
 use fx_io::{OutOfMemory, Text};
 use std::alloc::Global;
@@ -109,7 +109,8 @@ impl<'a> Reader<'a> {
         if !are_blanks(after) || self.draft.depth >= DEEPEST {
             return Ok(false);
         }
-        self.draft.add(alloc, name, Kind::Section, Said::lent(b""))?;
+        self.draft
+            .add(alloc, name, Kind::Section, Said::from_piece(b""))?;
         self.draft.depth += 1;
         Ok(true)
     }
@@ -187,12 +188,12 @@ impl<'a> Reader<'a> {
                 if !are_blanks(&after[taken..]) {
                     return Ok(false);
                 }
-                let list = Said::lent(&value[..taken + 1]);
+                let list = Said::from_piece(&value[..taken + 1]);
                 self.draft.add(alloc, name, Kind::List, list)?;
                 Ok(true)
             }
             ListEnd::Open { nesting } => {
-                let said = Said::lent(value).with(alloc, b"\n")?;
+                let said = Said::from_piece(value).with(alloc, b"\n")?;
                 self.hold(Pending::Open {
                     name: Piece::new(name),
                     said,
@@ -205,7 +206,7 @@ impl<'a> Reader<'a> {
     }
 
     /// A quoted value after what it said so far, of which the bytes on this line are given.
-    fn quoted(
+    fn quoted_value(
         &mut self,
         alloc: Global,
         name: &'a [u8],
@@ -217,7 +218,7 @@ impl<'a> Reader<'a> {
             reader_strings self.old.draft name.now (strings_from said.entry bytes.now)
             ≡ goes_on good self.new) }
     {
-        match joined(alloc, said, bytes)? {
+        match text_with_strings(alloc, said, bytes)? {
             None => Ok(false),
             Some(said) => {
                 let name = Piece::new(name);
@@ -228,7 +229,7 @@ impl<'a> Reader<'a> {
     }
 
     /// A quoted value that begins on this line. Most are one string without backslashes.
-    fn first_quoted(
+    fn first_quoted_value(
         &mut self,
         alloc: Global,
         name: &'a [u8],
@@ -240,10 +241,10 @@ impl<'a> Reader<'a> {
             ≡ goes_on good self.new) }
     {
         match plain_string(value) {
-            None => self.quoted(alloc, name, Said::lent(b""), value),
+            None => self.quoted_value(alloc, name, Said::from_piece(b""), value),
             Some(text) => {
                 let name = Piece::new(name);
-                let said = Said::lent(text);
+                let said = Said::from_piece(text);
                 self.hold(Pending::Strings { name, said });
                 Ok(true)
             }
@@ -259,10 +260,10 @@ impl<'a> Reader<'a> {
     {
         match value {
             [] => Ok(false),
-            [b'"', ..] => self.first_quoted(alloc, name, value),
+            [b'"', ..] => self.first_quoted_value(alloc, name, value),
             [b'[', after @ ..] => self.first_list(alloc, name, value, after),
             _ => {
-                let value = Said::lent(trimmed(value));
+                let value = Said::from_piece(trim_end(value));
                 self.draft.add(alloc, name, Kind::Bare, value)?;
                 Ok(true)
             }
@@ -281,10 +282,10 @@ impl<'a> Reader<'a> {
             after_name self.old.draft name.now rest.now (unblanked rest.now)
             ≡ goes_on good self.new) }
     {
-        let value = unblanked(rest);
+        let value = trim_start(rest);
         match value {
             [] => {
-                let empty = Said::lent(b"");
+                let empty = Said::from_piece(b"");
                 self.draft.add(alloc, name, Kind::Bare, empty)?;
                 Ok(true)
             }
@@ -296,7 +297,7 @@ impl<'a> Reader<'a> {
 
     /// A line that begins with a name.
     #[tactic(auto, unfolding(crate::specs::inner::Plain::named))]
-    fn named(&mut self, alloc: Global, text: &'a [u8]) -> Result<bool, OutOfMemory>
+    fn named_line(&mut self, alloc: Global, text: &'a [u8]) -> Result<bool, OutOfMemory>
         requires { self.old.pending ≡ Nothing }
         ensures { IfOk result (λ good.
             named self.old.draft text.now ≡ goes_on good self.new) }
@@ -317,7 +318,7 @@ impl<'a> Reader<'a> {
         match text {
             [] | [b'#', ..] => Ok(true),
             [b'}', after @ ..] => Ok(self.close(after)),
-            _ => self.named(alloc, text),
+            _ => self.named_line(alloc, text),
         }
     }
 
@@ -357,7 +358,7 @@ impl<'a> Reader<'a> {
                 nesting,
             } => self.list(alloc, name.bytes(), said, nesting, line),
             Pending::Strings { name, said } => match text {
-                [b'"', ..] => self.quoted(alloc, name.bytes(), said, text),
+                [b'"', ..] => self.quoted_value(alloc, name.bytes(), said, text),
                 _ => {
                     self.draft.add(alloc, name.bytes(), Kind::Quoted, said)?;
                     self.fresh(alloc, text)

@@ -57,7 +57,7 @@ impl<'a> Model for Said<'a> {
 
 impl<'a> Said<'a> {
     /// A piece of the text alone.
-    pub fn lent(bytes: &'a [u8]) -> Self
+    pub fn from_piece(bytes: &'a [u8]) -> Self
         ensures { result ≡ bytes.now }
     {
         Said {
@@ -66,7 +66,7 @@ impl<'a> Said<'a> {
     }
 
     /// Bytes that were gathered.
-    pub fn gathered(bytes: Vec<u8>) -> Self
+    pub fn from_vec(bytes: Vec<u8>) -> Self
         ensures { result ≡ bytes.items }
     {
         Said {
@@ -104,13 +104,13 @@ impl<'a> Said<'a> {
         let mut all = match stored {
             Stored::Lent(piece) => {
                 if piece.bytes().is_empty() {
-                    return Ok(Said::lent(bytes));
+                    return Ok(Said::from_piece(bytes));
                 }
                 Vec::from_slice(alloc, piece.bytes())?
             }
             Stored::Gathered(all) => all,
         };
         all.extend_from_slice(bytes)?;
-        Ok(Said::gathered(all))
+        Ok(Said::from_vec(all))
     }
 }

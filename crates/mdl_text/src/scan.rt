@@ -44,7 +44,7 @@ pub fn are_blanks(bytes: &[u8]) -> bool
 
 /// The bytes behind spaces at their front, of which it goes over eight at a time, and then two.
 #[tactic(auto, unfolding(crate::specs::Bytes::is_blank))]
-fn unindented(bytes: &[u8]) -> &[u8]
+fn trim_indent(bytes: &[u8]) -> &[u8]
     ensures { unblanked result.now ≡ unblanked bytes.now }
 {
     let mut rest = bytes;
@@ -58,7 +58,7 @@ fn unindented(bytes: &[u8]) -> &[u8]
 }
 
 /// The bytes from the first that is no blank.
-pub fn unblanked(bytes: &[u8]) -> &[u8]
+pub fn trim_start(bytes: &[u8]) -> &[u8]
     ensures { result.now ≡ unblanked bytes.now }
 {
     let mut rest = bytes;
@@ -75,11 +75,11 @@ pub fn unblanked(bytes: &[u8]) -> &[u8]
 pub fn line_text(line: &[u8]) -> &[u8]
     ensures { result.now ≡ unblanked line.now }
 {
-    unblanked(unindented(line))
+    trim_start(trim_indent(line))
 }
 
 /// The bytes without the blanks at their end.
-pub fn trimmed(bytes: &[u8]) -> &[u8]
+pub fn trim_end(bytes: &[u8]) -> &[u8]
     ensures { result.now ≡ trimmed bytes.now }
 {
     let mut end = bytes.len();

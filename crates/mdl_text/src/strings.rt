@@ -102,7 +102,7 @@ fn strings(said: &mut Vec<u8>, bytes: &[u8]) -> Result<bool, OutOfMemory>
 }
 
 /// The text with what quoted strings say at its end. `None` where the bytes are none.
-pub fn joined<'a>(
+pub fn text_with_strings<'a>(
     alloc: Global,
     said: Said<'a>,
     bytes: &'a [u8],
@@ -114,7 +114,7 @@ pub fn joined<'a>(
     }
     let mut gathered = said.into_vec(alloc)?;
     if strings(&mut gathered, bytes)? {
-        Ok(Some(Said::gathered(gathered)))
+        Ok(Some(Said::from_vec(gathered)))
     } else {
         Ok(None)
     }

@@ -1,8 +1,8 @@
 use Rattle.std.proofs.Common.{◌≡◌, take, sym, ◌∙◌, ap, arith}
 use Rattle.mdl_text.specs.inner.Plain.{trimmed}
 use Rattle.mdl_text.proofs.Scans.{cut_blank, cut_kept}
-use Rattle.mdl_text.proofs.scan.trimmed.Goals as goal
-use Rattle.mdl_text.proofs.scan.trimmed.Goals.{then-loop-end-test+else-is_blank, else-loop-end-test}
+use Rattle.mdl_text.proofs.scan.trim_end.Goals as goal
+use Rattle.mdl_text.proofs.scan.trim_end.Goals.{then-loop-end-test+else-is_blank, else-loop-end-test}
 
 -- a blank at the end goes
 pub loop-end-preserved : goal.loop-end-preserved

@@ -1,6 +1,6 @@
 use Rattle.std.proofs.Common.{◌≡◌, length}
 use Rattle.mdl_text.specs.inner.Plain.{unblanked}
-use Rattle.mdl_text.proofs.scan.unblanked.Given as goal
+use Rattle.mdl_text.proofs.scan.trim_start.Given as goal
 
 abbrev pub invariant-loop-rest : goal.invariant-loop-rest
 invariant-loop-rest l = unblanked l.rest ≡ unblanked l.bytes
