@@ -4,7 +4,7 @@ ghost use Rattle.mdl_values.specs.Reads.{Finds};
 ghost use Rattle.mdl_values.specs.Pieces.{pieces_at, words_of, two_of, opens, bracketed, bracket_elements, alone, list_elements};
 ghost use Rattle.mdl_values.specs.inner.Sized.{AreSized};
 
-use crate::pieces::{cut, elements, first_word, push_words, unblanked};
+use crate::pieces::{cut, elements, first_word, push_words, trim_start};
 use fx_io::{OutOfMemory, Texts};
 use std::alloc::Global;
 
@@ -32,7 +32,7 @@ pub fn opens(text: &[u8]) -> bool
 }
 
 /// What stands behind an opening bracket before the only closing one, and what follows that.
-fn bracketed(text: &[u8]) -> Option<(&[u8], &[u8])>
+fn bracket_parts(text: &[u8]) -> Option<(&[u8], &[u8])>
     ensures { MatchOption result (bracketed text.now ≡ None)
         (λ found. bracketed text.now ≡ Some (found.0.now, found.1.now)) }
 {
@@ -47,7 +47,7 @@ fn bracketed(text: &[u8]) -> Option<(&[u8], &[u8])>
 pub fn bracket_elements(alloc: Global, text: &[u8]) -> Result<Option<Texts>, OutOfMemory>
     ensures { IfOk result (λ found. found ≡ bracket_elements text.now) }
 {
-    match bracketed(text) {
+    match bracket_parts(text) {
         Some((inside, after)) if after.is_empty() => elements(alloc, inside),
         _ => Ok(None),
     }
@@ -73,11 +73,11 @@ fn alone(alloc: Global, text: &[u8]) -> Result<Option<Texts>, OutOfMemory>
 pub fn list_elements(alloc: Global, text: &[u8]) -> Result<Option<Texts>, OutOfMemory>
     ensures { IfOk result (λ found. found ≡ list_elements text.now) }
 {
-    let text = unblanked(text);
+    let text = trim_start(text);
     if !opens(text) {
         return alone(alloc, text);
     }
-    let Some((inside, after)) = bracketed(text) else {
+    let Some((inside, after)) = bracket_parts(text) else {
         return Ok(None);
     };
     if first_word(after).is_some() {
@@ -87,7 +87,7 @@ pub fn list_elements(alloc: Global, text: &[u8]) -> Result<Option<Texts>, OutOfM
 }
 
 /// The elements, where there are at least `least` and at most `most`.
-pub fn sized(elements: Option<Texts>, least: usize, most: usize) -> Option<Texts>
+pub fn elements_within(elements: Option<Texts>, least: usize, most: usize) -> Option<Texts>
     ensures { Finds (AreSized elements least most) result }
 {
     let Some(texts) = elements else {

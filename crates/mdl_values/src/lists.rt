@@ -5,7 +5,7 @@ ghost use Rattle.fx_round.specs.DecimalText.{IsDecimal};
 ghost use Rattle.mdl_values.specs.Reads.{Finds};
 ghost use Rattle.mdl_values.specs.Lists.{IsListText, IsSizeText, IsSizesText};
 
-use crate::brackets::{bracket_elements, list_elements, sized};
+use crate::brackets::{bracket_elements, elements_within, list_elements};
 use crate::numbers::read_number;
 use dg_model::Decimals;
 use fx_io::{OutOfMemory, Sizes, Texts};
@@ -59,7 +59,7 @@ fn sizes(alloc: Global, elements: &Texts) -> Result<Option<Sizes>, OutOfMemory>
 pub fn read_list(alloc: Global, text: &[u8]) -> Result<Option<Decimals>, OutOfMemory>
     ensures { IfOk result (λ found. Finds (IsListText text.now) found) }
 {
-    let Some(elements) = sized(list_elements(alloc, text)?, 1, LONGEST) else {
+    let Some(elements) = elements_within(list_elements(alloc, text)?, 1, LONGEST) else {
         return Ok(None);
     };
     decimals(alloc, &elements)
@@ -69,7 +69,7 @@ pub fn read_list(alloc: Global, text: &[u8]) -> Result<Option<Decimals>, OutOfMe
 pub fn read_sizes(alloc: Global, text: &[u8]) -> Result<Option<Sizes>, OutOfMemory>
     ensures { IfOk result (λ found. Finds (IsSizesText text.now) found) }
 {
-    let Some(elements) = sized(bracket_elements(alloc, text)?, 1, LONGEST) else {
+    let Some(elements) = elements_within(bracket_elements(alloc, text)?, 1, LONGEST) else {
         return Ok(None);
     };
     sizes(alloc, &elements)

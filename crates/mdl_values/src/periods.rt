@@ -4,7 +4,7 @@ ghost use Rattle.dg_model.specs.KindRow.{IsPeriod};
 ghost use Rattle.mdl_values.specs.Reads.{Finds};
 ghost use Rattle.mdl_values.specs.Periods.{IsZeroText, IsAboveZero, IsWithOffset, IsPeriodText, IsSampleTime, IsConstantTime, IsBracketedNumber, IsWidthNumber, IsWidthText};
 
-use crate::brackets::{bracket_elements, opens, sized};
+use crate::brackets::{bracket_elements, elements_within, opens};
 use crate::lists::decimal;
 use crate::numbers::read_number;
 use dg_model::PeriodSpec;
@@ -43,7 +43,7 @@ fn above_zero(text: &[u8]) -> Option<Decimal>
 fn with_offset(alloc: Global, text: &[u8]) -> Result<Option<Decimal>, OutOfMemory>
     ensures { IfOk result (λ found. Finds (IsWithOffset text.now) found) }
 {
-    let Some(elements) = sized(bracket_elements(alloc, text)?, 2, 2) else {
+    let Some(elements) = elements_within(bracket_elements(alloc, text)?, 2, 2) else {
         return Ok(None);
     };
     let elements = elements.as_slice();
@@ -96,7 +96,7 @@ pub fn read_constant_time(alloc: Global, text: &[u8]) -> Result<Option<PeriodSpe
 fn bracketed_number(alloc: Global, text: &[u8]) -> Result<Option<u32>, OutOfMemory>
     ensures { IfOk result (λ found. Finds (IsBracketedNumber text.now) found) }
 {
-    let Some(elements) = sized(bracket_elements(alloc, text)?, 1, 1) else {
+    let Some(elements) = elements_within(bracket_elements(alloc, text)?, 1, 1) else {
         return Ok(None);
     };
     let elements = elements.as_slice();

@@ -69,7 +69,7 @@ pub fn cut(text: &[u8], separator: u8) -> (&[u8], Option<&[u8]>)
 }
 
 /// The text from its first word on.
-pub fn unblanked(text: &[u8]) -> &[u8]
+pub fn trim_start(text: &[u8]) -> &[u8]
     ensures value { result.now ≡ unblanked text.now }
     ensures within { length result.now ≤ length text.now }
 {
@@ -82,7 +82,7 @@ pub fn first_word(text: &[u8]) -> Option<(&[u8], &[u8])>
         (λ cut. words_of text.now ≡ cut.0.now ∷ words_of cut.1.now) }
     ensures shorter { IfSome result (λ cut. length cut.1.now < length text.now) }
 {
-    let solid = unblanked(text);
+    let solid = trim_start(text);
     let end = word_length(solid);
     if end == 0 {
         None

@@ -4,4 +4,4 @@ use Rattle.mdl_values.proofs.brackets.list_elements.Goals as goal
 
 pub returns-then-not-opens : goal.returns-then-not-opens
 returns-then-not-opens c =
-    list_alone c.args.text.now c.unblanked-text.result.now c.alone.result c.unblanked-text.ensures.value (sym c.opens.ensures ∙ c.if-not-opens.true) c.alone.ensures
+    list_alone c.args.text.now c.trim_start-text.result.now c.alone.result c.trim_start-text.ensures.value (sym c.opens.ensures ∙ c.if-not-opens.true) c.alone.ensures

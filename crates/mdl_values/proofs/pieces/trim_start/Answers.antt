@@ -1,7 +1,7 @@
 use Rattle.std.proofs.Common.{◌∙◌, drop, ap}
 use Rattle.std.proofs.lemmas.List.{take_rest}
 use Rattle.mdl_values.proofs.WordLemmas.{unblanked_is}
-use Rattle.mdl_values.proofs.pieces.unblanked.Goals as goal
+use Rattle.mdl_values.proofs.pieces.trim_start.Goals as goal
 
 pub returns-clause-value : goal.returns-clause-value
 returns-clause-value c =
