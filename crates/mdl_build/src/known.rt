@@ -43,7 +43,7 @@ pub struct Structured<'a> {
 }
 
 /// A broken rule.
-fn broken(rule: Rule, place: Text, shown: Shown) -> RuleFault
+fn rule_fault(rule: Rule, place: Text, shown: Shown) -> RuleFault
     ensures { result ≡ fault_of rule place shown }
 {
     RuleFault { rule, place, shown }
@@ -53,7 +53,7 @@ fn broken(rule: Rule, place: Text, shown: Shown) -> RuleFault
 fn broken_model() -> CheckFault
     ensures { result ≡ Broken (fault_of Rule.Structure [] Nothing) }
 {
-    CheckFault::Broken(broken(Rule::Structure, Text::new(), Shown::Nothing))
+    CheckFault::Broken(rule_fault(Rule::Structure, Text::new(), Shown::Nothing))
 }
 
 /// What is known of the items of a tree. None where it has no root, is too deep, or has more blocks
@@ -107,11 +107,11 @@ impl<'a> Known<'a> {
     {
         let path = self.path(alloc, place)?;
         let word = Text::copy(alloc, word)?;
-        Ok(broken(rule, path, Shown::Word(word)))
+        Ok(rule_fault(rule, path, Shown::Word(word)))
     }
 
     /// The rule of structure, broken by the first block that breaks it.
-    fn misshapen(&self, alloc: Global) -> Result<Option<RuleFault>, OutOfMemory>
+    fn block_fault(&self, alloc: Global) -> Result<Option<RuleFault>, OutOfMemory>
         requires { IsKnown self.now }
         ensures { IfOk result (λ found. found ≡ option_map
             (λ place. fault_of Rule.Structure (path_of self.now.layout.items.now place) Nothing)
@@ -122,7 +122,7 @@ impl<'a> Known<'a> {
             None => Ok(None),
             Some(place) => {
                 let path = self.path(alloc, place)?;
-                Ok(Some(broken(Rule::Structure, path, Shown::Nothing)))
+                Ok(Some(rule_fault(Rule::Structure, path, Shown::Nothing)))
             }
         }
     }
@@ -140,7 +140,7 @@ fn kept_lines(alloc: Global, known: &Known) -> Result<NestedLines, CheckFault>
     let Some(lines) = lines(alloc, &known.layout, &known.roles, &known.blocks)? else {
         return Err(broken_model());
     };
-    match known.misshapen(alloc)? {
+    match known.block_fault(alloc)? {
         None => Ok(lines),
         Some(fault) => Err(CheckFault::Broken(fault)),
     }

@@ -62,7 +62,7 @@ fn add_enable(enabled: &mut Vec<bool>, layout: &Layout, place: usize)
 }
 
 /// Of each item whether it is a System that has an EnablePort.
-fn enabled(alloc: Global, known: &Known) -> Result<Vec<bool>, OutOfMemory>
+fn enable_marks(alloc: Global, known: &Known) -> Result<Vec<bool>, OutOfMemory>
     requires { IsKnown known.now }
     ensures { IfOk result (λ enabled. AreEnabled known.now.layout.items.now
         (blocks_of known.now.layout.items.now) enabled.items) }
@@ -95,7 +95,7 @@ impl<'k, 'a> Maker<'k, 'a> {
         ensures maker { IfOk result IsMaker }
         ensures items { IfOk result (λ maker. items_of maker ≡ known.now.layout.items.now) }
     {
-        let enabled = enabled(alloc, known)?;
+        let enabled = enable_marks(alloc, known)?;
         let numbers = numbers(alloc, known)?;
         let defaults = defaults(alloc, &known.layout, &known.roles)?;
         Ok(Maker {

@@ -1,6 +1,6 @@
 use Rattle.std.proofs.Common.{sym, ◌∙◌}
 use Rattle.mdl_build.proofs.KnownLemmas.{found_block}
-use Rattle.mdl_build.proofs.known.Known.misshapen.Goals as goal
+use Rattle.mdl_build.proofs.known.Known.block_fault.Goals as goal
 
 pub path-requires-clause-within : goal.path-requires-clause-within
 path-requires-clause-within c = (found_block c.args.self.now.layout.items.now _ c.in-Some.place (sym c.in_ok-first_misshapen.ensures ∙ c.in-Some.is)).within

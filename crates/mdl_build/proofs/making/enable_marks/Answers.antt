@@ -3,7 +3,7 @@ use Rattle.std.proofs.lemmas.List.{take_more, take_all}
 use Rattle.mdl_build.specs.Roles.{blocks_of}
 use Rattle.mdl_build.specs.inner.Known.{AreEnabled}
 use Rattle.mdl_build.proofs.BlockPlaces.{block_here}
-use Rattle.mdl_build.proofs.making.enabled.Goals as goal
+use Rattle.mdl_build.proofs.making.enable_marks.Goals as goal
 
 pub add_enable-requires-clause-within : goal.add_enable-requires-clause-within
 add_enable-requires-clause-within c =
