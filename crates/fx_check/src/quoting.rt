@@ -7,7 +7,7 @@ ghost use Rattle.fx_check.specs.Handed.{Adds};
 use crate::pending::{Pending, put};
 use dg_model::Path;
 use fx_io::Sink;
-use fx_model::{plain_front, quoted};
+use fx_model::{plain_front, quoted_byte};
 
 /// Puts a path between quotes, with what would break a line escaped.
 pub fn put_path<K: Sink>(out: &mut K, pending: &mut Pending, path: &Path)
@@ -59,7 +59,7 @@ fn put_front<K: Sink>(out: &mut K, pending: &mut Pending, name: &[u8]) -> usize
         put(out, pending, &name[..plain]);
         plain
     } else {
-        let (bytes, count) = quoted(name[0]);
+        let (bytes, count) = quoted_byte(name[0]);
         put(out, pending, &bytes[..count]);
         1
     }

@@ -12,4 +12,4 @@ mod rule_lines;
 
 pub use accepting::{ModelFault, accept};
 pub use laws::{diagram_is_one, model_is_there, verdict_is_one};
-pub use rule_lines::{plain_front, push_path, push_shown, quoted, rule_text};
+pub use rule_lines::{plain_front, push_path, push_shown, quoted_byte, rule_text};

@@ -94,7 +94,7 @@ pub fn plain_front(name: &[u8]) -> usize
 }
 
 /// A byte of a name as it stands between quotes: the first bytes of these, and how many.
-pub fn quoted(byte: u8) -> ([u8; 4], usize)
+pub fn quoted_byte(byte: u8) -> ([u8; 4], usize)
     ensures within { result.1 ≤ 4 }
     ensures is { take result.1 result.0 ≡ quoted_byte byte }
 {
@@ -115,7 +115,7 @@ pub fn quoted(byte: u8) -> ([u8; 4], usize)
 fn push_byte(line: &mut Vec<u8>, byte: u8) -> Result<(), OutOfMemory>
     ensures { OnOk result (line.new.items ≡ line.old.items ++ quoted_byte byte) }
 {
-    let (bytes, count) = quoted(byte);
+    let (bytes, count) = quoted_byte(byte);
     push(line, &bytes[..count])
 }
 
