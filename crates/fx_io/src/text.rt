@@ -55,7 +55,7 @@ impl Text {
         requires { length bytes.now ≤ 22 }
         ensures { result ≡ bytes.now }
     {
-        Text::extended([0; SHORT], 0, bytes)
+        Text::from_parts([0; SHORT], 0, bytes)
     }
 
     fn long(alloc: Global, bytes: Vec<u8>) -> Result<Text, OutOfMemory>
@@ -102,7 +102,7 @@ impl Text {
             } => {
                 let used = usize::from(length);
                 if bytes.len() <= SHORT - used {
-                    return Ok(Text::extended(short, used, bytes));
+                    return Ok(Text::from_parts(short, used, bytes));
                 }
                 let mut all = Vec::from_slice(alloc, &short[..used])?;
                 all.extend_from_slice(bytes)?;
@@ -118,7 +118,7 @@ impl Text {
     }
 
     /// The first bytes of an array with these at their end.
-    fn extended(mut short: [u8; 22], used: usize, bytes: &[u8]) -> Text
+    fn from_parts(mut short: [u8; 22], used: usize, bytes: &[u8]) -> Text
         requires { used + length bytes.now ≤ 22 }
         ensures { result ≡ take used short ++ bytes.now }
     {
