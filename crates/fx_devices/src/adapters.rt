@@ -109,7 +109,7 @@ pub enum Rest {
 
 impl<W: Write + Drop> StreamSink<BufWriter<W>> {
     /// A sink that writes to this stream through a buffer, so that lines share calls of the system.
-    pub fn buffered(alloc: Global, stream: W) -> Result<Self, OutOfMemory>
+    pub fn with_buffer(alloc: Global, stream: W) -> Result<Self, OutOfMemory>
         ensures faults { IfOk result (λ sink. sink.faults ≡ 0) }
         ensures stalls { IfOk result (λ sink. sink.stalls ≡ 0) }
     {

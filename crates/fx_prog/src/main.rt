@@ -29,7 +29,7 @@ fn answer<T: Threads + Sync, E: Sink>(
 ) -> Result<u8, OutOfMemory> {
     let words = words(rt)?;
     let mut shelf = FileShelf::new(rt);
-    let mut out = OutSink::buffered(rt.alloc(), rt.stdout())?;
+    let mut out = OutSink::with_buffer(rt.alloc(), rt.stdout())?;
     let status = run(
         threads,
         rt.alloc(),
