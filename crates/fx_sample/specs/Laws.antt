@@ -4,11 +4,12 @@ use Rattle.fx_tables.specs.declared.table.TableFault.{TableFault}
 use Rattle.fx_tables.specs.Plan.{IsPlanFault}
 use Rattle.mdl_text.specs.Prefix.{IsMdl}
 use Rattle.fx_sample.specs.ModelText.{sample_model}
+use Rattle.fx_sample.specs.Numbers.{greatest_sample}
 use Rattle.fx_sample.specs.Stimulus.{sample_plan}
 
 -- the text of each sample's model stands for a tree
 abbrev pub ModelsStand : Type 0
-ModelsStand = (count : ℕ) → count ≤ 5000 → IsMdl (sample_model count)
+ModelsStand = (count : ℕ) → count ≤ greatest_sample → IsMdl (sample_model count)
 
 -- no line of the plan is bad
 abbrev pub PlanIsGood : Type 0

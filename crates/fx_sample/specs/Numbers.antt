@@ -2,6 +2,10 @@
 -- the increment are Knuth's of MMIX).
 use Rattle.std.specs.Prelude.{ℕ, zero, suc, ◌+◌, ◌*◌, ◌%◌, ◌^◌}
 
+-- the greatest number of a sample, which is how many blocks its chain has (own)
+abbrev pub greatest_sample : ℕ
+greatest_sample = 5000
+
 -- the number after a number
 unfoldable pub number_after : ℕ → ℕ
 number_after number = (6364136223846793005 * number + 1442695040888963407) % 2 ^ 64

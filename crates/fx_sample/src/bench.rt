@@ -1,4 +1,5 @@
 ghost use Rattle.std.specs.Prelude.{◌≡◌, ◌≤◌, IfOk, OnOk};
+ghost use Rattle.fx_sample.specs.Numbers.{greatest_sample};
 ghost use Rattle.fx_sample.specs.Stimulus.{sample_stimulus};
 ghost use Rattle.fx_sample.specs.Summary.{equal_count as equal_count_of, summary_text as summary_text_of};
 
@@ -38,7 +39,7 @@ pub fn summary<B: Bench>(
     response: &[u8],
     bench: &mut B,
 ) -> Result<Text, OutOfMemory>
-    requires { count ≤ 5000 }
+    requires { count ≤ greatest_sample }
     ensures text { IfOk result (λ text. text
         ≡ summary_text_of count made (equal_count_of response.now (B.tells bench.new))) }
     ensures told { OnOk result (B.may_tell verilog.now (sample_stimulus count)

@@ -1,6 +1,7 @@
 ghost use Rattle.std.specs.Prelude.{◌≡◌, ◌<◌, ◌≤◌, ◌++◌, ◌-◌, IfOk, OnOk, codes};
 ghost use Rattle.std.specs.List.{flat_map, range_with_len};
 ghost use Rattle.fx_sample.specs.ModelText.{block_text, chain_lines, chain_name as chain_name_of, chain_text, end_lines, ends_text, input_text, line_text, model_end, model_head, parameter_text, parameters_of, sample_model, type_parameter};
+ghost use Rattle.fx_sample.specs.Numbers.{greatest_sample};
 ghost use Rattle.fx_sample.specs.inner.Parts.{part_at, part_text};
 
 use crate::chain::ChainKind;
@@ -112,7 +113,7 @@ fn push_part(alloc: Global, text: &mut Vec<u8>, part: Part, link: Link) -> Resul
 
 /// Puts a part of each block of the chain.
 fn push_chain(alloc: Global, text: &mut Vec<u8>, part: Part, count: u32) -> Result<(), OutOfMemory>
-    requires { count ≤ 5000 }
+    requires { count ≤ greatest_sample }
     ensures { OnOk result (text.new.items
         ≡ text.old.items ++ flat_map (part_at part count) (range_with_len 1 count)) }
 {
@@ -189,7 +190,7 @@ fn push_end_lines(text: &mut Vec<u8>, last: &[u8]) -> Result<(), OutOfMemory>
 
 /// Puts the model with a chain of so many blocks.
 fn push_model(alloc: Global, text: &mut Vec<u8>, count: u32) -> Result<(), OutOfMemory>
-    requires { count ≤ 5000 }
+    requires { count ≤ greatest_sample }
     ensures { OnOk result (text.new.items ≡ text.old.items ++ sample_model count) }
 {
     push_model_head(text)?;
@@ -205,7 +206,7 @@ fn push_model(alloc: Global, text: &mut Vec<u8>, count: u32) -> Result<(), OutOf
 /// The model text with a chain of so many blocks: an input of 16 bits, the chain, a transition to twice
 /// the period, and an output of either. The only error is want of memory.
 pub fn model_text(alloc: Global, count: u32) -> Result<Text, OutOfMemory>
-    requires { count ≤ 5000 }
+    requires { count ≤ greatest_sample }
     ensures { IfOk result (λ text. text ≡ sample_model count) }
 {
     let mut text = Vec::new(alloc);

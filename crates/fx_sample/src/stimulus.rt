@@ -1,5 +1,5 @@
 ghost use Rattle.std.specs.Prelude.{◌≡◌, ◌+◌, ◌≤◌, ◌++◌, IfOk, OnOk};
-ghost use Rattle.fx_sample.specs.Numbers.{sample_number};
+ghost use Rattle.fx_sample.specs.Numbers.{greatest_sample, sample_number};
 ghost use Rattle.fx_sample.specs.Stimulus.{sample_plan, sample_stimulus, stimulus_line, stimulus_of as stimulus_of_number};
 
 use crate::numbers::number_after;
@@ -46,7 +46,7 @@ fn push_stimulus(text: &mut Vec<u8>, number: u64) -> Result<(), OutOfMemory>
 
 /// Puts the stimulus that follows the last number of a chain of so many blocks.
 fn push_all(text: &mut Vec<u8>, count: u32) -> Result<(), OutOfMemory>
-    requires { count ≤ 5000 }
+    requires { count ≤ greatest_sample }
     ensures { OnOk result (text.new.items ≡ text.old.items ++ sample_stimulus count) }
 {
     let mut number = last_number(count);
@@ -59,7 +59,7 @@ fn push_all(text: &mut Vec<u8>, count: u32) -> Result<(), OutOfMemory>
 
 /// The stimulus of the sample of so many blocks, of 8 base samples. The only error is want of memory.
 pub fn stimulus_text(alloc: Global, count: u32) -> Result<Text, OutOfMemory>
-    requires { count ≤ 5000 }
+    requires { count ≤ greatest_sample }
     ensures { IfOk result (λ text. text ≡ sample_stimulus count) }
 {
     let mut text = Vec::new(alloc);

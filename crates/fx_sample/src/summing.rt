@@ -1,4 +1,5 @@
 ghost use Rattle.std.specs.Prelude.{◌≡◌, ◌≤◌, ◌++◌, IfOk, OnOk};
+ghost use Rattle.fx_sample.specs.Numbers.{greatest_sample};
 ghost use Rattle.fx_sample.specs.Summary.{equal_line, made_lines, summary_text as summary_text_of};
 
 use crate::pushing::push_number_line;
@@ -37,7 +38,7 @@ fn push_equal(text: &mut Vec<u8>, equal: u64) -> Result<(), OutOfMemory>
 /// The summary of the sample of so many blocks, where so many fields are equal. The only error is want
 /// of memory.
 pub fn summary_text(alloc: Global, count: u32, made: Made, equal: u64) -> Result<Text, OutOfMemory>
-    requires { count ≤ 5000 }
+    requires { count ≤ greatest_sample }
     ensures { IfOk result (λ text. text ≡ summary_text_of count made equal) }
 {
     let mut text = Vec::new(alloc);

@@ -42,9 +42,13 @@ fields_fault sample (column ∷ columns) [] = None
 fields_fault sample (column ∷ columns) (field ∷ fields) =
     option_or (field_fault sample column field) (fields_fault sample columns fields)
 
+-- the most cells of all rows, counting inputs and outputs
+abbrev pub most_cells : ℕ
+most_cells = 50000000
+
 -- this many rows of inputs and outputs are above the bound
 abbrev pub is_too_large : ℕ → ℕ → ℕ → Bool
-is_too_large inputs outputs rows = nat_lt 50000000 (rows * max 1 (inputs + outputs))
+is_too_large inputs outputs rows = nat_lt most_cells (rows * max 1 (inputs + outputs))
 
 -- the first fault of a line of its fields, whose count comes first
 abbrev pub count_or_fields_fault : List Column → ℕ → List (List ℕ) → Option TableCause

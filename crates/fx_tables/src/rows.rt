@@ -1,6 +1,6 @@
 ghost use Rattle.std.specs.Prelude.{◌≡◌, ◌≢◌, ℕ, ◌+◌, ◌^◌, ◌<◌, ◌≤◌, ◌++◌, ◌==◌, nat_le, length, All, OnOk, IfOk, IfErr, if◌then◌else◌};
 ghost use Rattle.fx_tables.specs.Fields.{fields_of};
-ghost use Rattle.fx_tables.specs.Stimulus.{IsRows, FitsColumns, stimulus_fault, count_or_fields_fault, fault_or, is_too_large, cells_of};
+ghost use Rattle.fx_tables.specs.Stimulus.{IsRows, FitsColumns, stimulus_fault, count_or_fields_fault, fault_or, is_too_large, most_cells, cells_of};
 
 use crate::cell::cut_cell;
 use crate::cut::{cut_field, cut_line, skip_blanks};
@@ -27,7 +27,7 @@ pub fn read_rows(
     requires few_columns { length columns.now < 2 ^ 32 }
     ensures rows { IfOk result (IsRows columns.now outputs bytes.now) }
     ensures fits { IfOk result (FitsColumns columns.now) }
-    ensures few { IfOk result (λ rows. rows.lines ≤ 50000000) }
+    ensures few { IfOk result (λ rows. rows.lines ≤ most_cells) }
     ensures refused { IfErr result (λ fault.
         fault ≢ TableFault.OutOfMemory →
         stimulus_fault columns.now outputs bytes.now ≡ Some fault) }
@@ -64,7 +64,7 @@ fn bad(sample: u64, cause: TableCause) -> TableFault
 
 /// How many rows stay in the bound.
 fn most_rows(inputs: usize, outputs: u64) -> u64
-    ensures bound { result ≤ 50000000 }
+    ensures bound { result ≤ most_cells }
     ensures above { (rows : ℕ) → is_too_large inputs outputs (rows + 1) ≡ nat_le result rows }
 {
     let width = (inputs as u128 + u128::from(outputs)).max(1);
