@@ -104,7 +104,7 @@ impl Reader {
 
     /// The declaration of a port is read to its name.
     #[tactic(auto, unfolding(crate::specs::inner::Plain::declared))]
-    fn port_declared(&mut self, input: bool, signed: bool, width: u32, name: &[u8]) -> Stepped
+    fn declare_port(&mut self, input: bool, signed: bool, width: u32, name: &[u8]) -> Stepped
         ensures { IfOk result (λ said. stepped said (seen self.new)
             ≡ declared self.old.draft (net_seen self.old.held.attrs (NetKind.OfPort input))
             signed width name.now) }
@@ -123,12 +123,12 @@ impl Reader {
 
     /// A declaration is read to its name (IEEE 1364-2005, 4.2.1, 4.2.2 and 12.3.3).
     #[tactic(auto, unfolding(crate::specs::inner::Plain::declared))]
-    fn declared(&mut self, net: NetKind, signed: bool, width: u32, name: &[u8]) -> Stepped
+    fn declare(&mut self, net: NetKind, signed: bool, width: u32, name: &[u8]) -> Stepped
         ensures { IfOk result (λ said. stepped said (seen self.new)
             ≡ declared self.old.draft (net_seen self.old.held.attrs net) signed width name.now) }
     {
         match net {
-            NetKind::OfPort { input } => self.port_declared(input, signed, width, name),
+            NetKind::OfPort { input } => self.declare_port(input, signed, width, name),
             NetKind::OfItem { is_reg } => {
                 self.hold_name(Text::copy(self.alloc, name)?);
                 Ok(self.goes(Place::AfterNet {
@@ -177,19 +177,19 @@ impl Reader {
             let at = NetSpot::Ranged { signed: true };
             Ok(self.goes(Place::Net { kind: net, at }))
         } else {
-            self.ranged(net, false, lexeme)
+            self.range_or_name(net, false, lexeme)
         }
     }
 
     /// `[` or the name.
     #[tactic(auto, unfolding(crate::specs::inner::Plain::net_step))]
-    fn ranged(&mut self, net: NetKind, signed: bool, lexeme: &[u8]) -> Stepped
+    fn range_or_name(&mut self, net: NetKind, signed: bool, lexeme: &[u8]) -> Stepped
         ensures { IfOk result (λ said. stepped said (seen self.new)
             ≡ net_step self.old.draft (net_seen self.old.held.attrs net) (Ranged signed)
             (kind_of lexeme.now) lexeme.now) }
     {
         if is_name(lexeme) {
-            self.declared(net, signed, 1, lexeme)
+            self.declare(net, signed, 1, lexeme)
         } else {
             Ok(self.fixed(net, "[", lexeme, NetSpot::Bound { signed }))
         }
@@ -205,7 +205,7 @@ impl Reader {
         match at {
             NetSpot::Word => Ok(self.fixed(net, "wire", lexeme, NetSpot::Signed)),
             NetSpot::Signed => self.kind_end(net, lexeme),
-            NetSpot::Ranged { signed } => self.ranged(net, signed, lexeme),
+            NetSpot::Ranged { signed } => self.range_or_name(net, signed, lexeme),
             NetSpot::Bound { signed } => Ok(self.bound(net, signed, lexeme)),
             NetSpot::Colon { signed, width } => {
                 let at = NetSpot::Zero { signed, width };
@@ -221,7 +221,7 @@ impl Reader {
             }
             NetSpot::Named { signed, width } => {
                 if is_name(lexeme) {
-                    self.declared(net, signed, width, lexeme)
+                    self.declare(net, signed, width, lexeme)
                 } else {
                     Ok(false)
                 }

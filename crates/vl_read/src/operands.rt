@@ -6,7 +6,7 @@ ghost use Rattle.vl_read.specs.inner.Plain.{spot_at, expect_spot, compound_step,
 ghost use Rattle.vl_read.specs.inner.Seen.{seen, goal_in, frames_of, spot_of};
 ghost use Rattle.vl_read.specs.inner.Turns.{stepped};
 
-use crate::pieces::{literal, named, no_operands};
+use crate::pieces::{literal, no_operands, whole_name};
 use crate::places::{Bracket, Frame, Place, Reader, Spot, Stepped};
 use crate::scan::{Kind, is};
 use fx_io::Text;
@@ -78,7 +78,7 @@ impl Reader {
     {
         match kind {
             Kind::Name => {
-                self.hold(named(Text::copy(self.alloc, lexeme)?));
+                self.hold(whole_name(Text::copy(self.alloc, lexeme)?));
                 Ok(self.spot(Spot::Value))
             }
             Kind::Constant(number) => {

@@ -9,7 +9,7 @@ use std::alloc::Global;
 use vl_ast::{BinOp, Expr, Exprs, ShiftOp, Sized, UnOp};
 
 /// A name.
-pub fn named(name: Text) -> Expr
+pub fn whole_name(name: Text) -> Expr
     ensures { result ≡ roll-Expr (Expr-F.Name name) }
 {
     Expr::Name(name)
