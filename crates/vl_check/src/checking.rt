@@ -11,11 +11,11 @@ ghost use Rattle.vl_check.specs.inner.Rest.{IsCauseOfRest, IsSoundRest};
 
 use crate::attributes::no_attribute;
 use crate::clocking::no_reset;
-use crate::driving::{doubly, first_declarations, undriven};
+use crate::driving::{first_declarations, first_double, first_undriven};
 use crate::fault::VlFault;
 use crate::mentions::{Mention, mentions_of};
 use crate::names::{Numbers, numbers_of};
-use crate::ordering::{Found, ordered};
+use crate::ordering::{Found, assignment_order};
 use crate::scope::Scope;
 use crate::widths::too_wide;
 use fx_io::{OutOfMemory, Text};
@@ -94,17 +94,17 @@ fn order_of(
     ensures fault { IfErr result (IsCause source.now) }
 {
     let numbers = known.numbers.as_slice();
-    if let Some(name) = undriven(alloc, text, numbers, known.scope.count())? {
+    if let Some(name) = first_undriven(alloc, text, numbers, known.scope.count())? {
         return Err(VlFault::Undriven {
             name: Text::copy(alloc, name)?,
         });
     }
-    if let Some(name) = doubly(alloc, text, numbers, known.scope.declared.as_slice())? {
+    if let Some(name) = first_double(alloc, text, numbers, known.scope.declared.as_slice())? {
         return Err(VlFault::Doubly {
             name: Text::copy(alloc, name)?,
         });
     }
-    let found = ordered(alloc, text, &known.scope, source)?;
+    let found = assignment_order(alloc, text, &known.scope, source)?;
     match check_rest(alloc, source, text, &known.scope) {
         Ok(()) => Ok(found),
         Err(fault) => {

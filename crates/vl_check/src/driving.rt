@@ -6,7 +6,7 @@ ghost use Rattle.vl_check.specs.inner.Mentioned.{declared_of, kind_of, mention_o
 ghost use Rattle.vl_check.specs.inner.Marks.{AreFirst, AreNumbered, Marks, declares, double_where, drives, first_after, undriven_where};
 
 use crate::mentions::{Declared, Kind, Mention};
-use crate::names::mentioned;
+use crate::names::mentioned_name;
 use fx_io::OutOfMemory;
 use std::alloc::Global;
 
@@ -96,7 +96,7 @@ fn is_undriven(mention: &Mention<'_>, declared: bool, driven: bool) -> bool
 
 /// The first name that is read or driven and isn't declared before, or that has no driver and needs
 /// one.
-pub fn undriven<'a>(
+pub fn first_undriven<'a>(
     alloc: Global,
     text: &[Mention<'a>],
     numbers: &[usize],
@@ -111,7 +111,7 @@ pub fn undriven<'a>(
     for (i, mention) in text.iter().enumerate() {
         let number = numbers[i];
         if is_undriven(mention, declared[number], driven[number]) {
-            return Ok(Some(mentioned(mention)));
+            return Ok(Some(mentioned_name(mention)));
         }
         mark(&mut declared, number, declares(mention));
     }
@@ -167,7 +167,7 @@ fn is_double(
 }
 
 /// The first name that is declared or driven a second time, or driven by what may not drive it.
-pub fn doubly<'a>(
+pub fn first_double<'a>(
     alloc: Global,
     text: &[Mention<'a>],
     numbers: &[usize],
@@ -184,7 +184,7 @@ pub fn doubly<'a>(
     for (i, mention) in text.iter().enumerate() {
         let number = numbers[i];
         if is_double(mention, declared[number], driven[number], first[number]) {
-            return Ok(Some(mentioned(mention)));
+            return Ok(Some(mentioned_name(mention)));
         }
         mark(&mut declared, number, declares(mention));
         mark(&mut driven, number, drives(mention));

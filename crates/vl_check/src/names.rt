@@ -18,7 +18,7 @@ pub struct Numbers<'a> {
 }
 
 /// The name at a place. The `clk` and the `reset` of a clocked item stand under the first of them.
-pub fn mentioned<'a>(mention: &Mention<'a>) -> &'a [u8]
+pub fn mentioned_name<'a>(mention: &Mention<'a>) -> &'a [u8]
     ensures { result.now ≡ mentioned (mention_of mention.now) }
 {
     match mention {
@@ -64,7 +64,7 @@ pub fn numbers_of<'a>(alloc: Global, mentions: &[Mention<'a>]) -> Result<Numbers
         numbers: Vec::new(alloc),
     };
     for mention in mentions {
-        known.add(mentioned(mention))?;
+        known.add(mentioned_name(mention))?;
     }
     Ok(known)
 }

@@ -28,7 +28,7 @@ pub struct Found {
 }
 
 /// By number, whether it is one of these.
-fn marked(alloc: Global, numbers: &[usize], count: usize) -> Result<Vec<bool>, OutOfMemory>
+fn marks_of(alloc: Global, numbers: &[usize], count: usize) -> Result<Vec<bool>, OutOfMemory>
     requires { (i : ℕ) → i < length numbers.now → slice_index numbers.now i < count }
     ensures { IfOk result (λ marks. AreMarked numbers.now count marks.items) }
 {
@@ -92,7 +92,7 @@ fn beginning(
     requires named { AreNamed source scope.now cycle.now }
     ensures { IfOk result (λ at. IsBeginning source scope.now cycle.now at) }
 {
-    let marks = marked(alloc, cycle, scope.count())?;
+    let marks = marks_of(alloc, cycle, scope.count())?;
     match first_marked(text, scope, marks.as_slice()) {
         None => Ok(0),
         Some(number) => Ok(place_of(cycle, number)),
@@ -120,7 +120,7 @@ fn turned_names(
 }
 
 /// An order of the assignments. The fault is a cycle of them, begun with the first in the text.
-pub fn ordered(
+pub fn assignment_order(
     alloc: Global,
     text: &[Mention<'_>],
     scope: &Scope<'_>,

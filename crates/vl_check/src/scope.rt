@@ -52,7 +52,7 @@ impl<'a> Scope<'a> {
     }
 
     /// The first declaration of a name. `None` where it has none.
-    pub fn declared(&self, name: &[u8]) -> Option<Declared<'a>>
+    pub fn declaration(&self, name: &[u8]) -> Option<Declared<'a>>
         ensures { option_map declared_of result ≡ declaration_in self.now name.now }
     {
         let Some(number) = self.number(name) else {

@@ -161,7 +161,7 @@ fn choice_shape(test: Option<Shape>, chosen: Option<Shape>, other: Option<Shape>
 pub fn net(scope: &Scope<'_>, name: &[u8]) -> Shape
     ensures { net_of result ≡ nets_in scope.now name.now }
 {
-    match scope.declared(name) {
+    match scope.declaration(name) {
         None => Shape {
             length: 0,
             signed: false,

@@ -18,13 +18,13 @@ returns-in-Some-2-clause-fault c = (
   sym (c.in_ok-name-2.ensures c.args.source.now c.requires.whole) ∙ ap names_of c.in-Some-2.is ∙ ap Some (sym c.in_ok-copy-2.ensures),
 )
 
-pub doubly-requires-clause-numbers : goal.doubly-requires-clause-numbers
-doubly-requires-clause-numbers c =
+pub first_double-requires-clause-numbers : goal.first_double-requires-clause-numbers
+first_double-requires-clause-numbers c =
     subst (λ (numbers : List ℕ). AreNumbered c.args.text.now numbers (length c.as_slice.result.now)) (sym c.as_slice-numbers.ensures.value)
     (subst (λ (n : ℕ). AreNumbered c.args.text.now c.args.known.now.numbers.items n) (sym (ap length c.as_slice.ensures.value)) c.requires.numbers)
 
-pub ordered-requires : goal.ordered-requires
-ordered-requires c = (
+pub assignment_order-requires : goal.assignment_order-requires
+assignment_order-requires c = (
   refl,
   record {
     whole = c.requires.whole;

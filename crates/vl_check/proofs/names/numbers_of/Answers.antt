@@ -17,10 +17,10 @@ pub loop-mention-preserved : goal.loop-mention-preserved
 loop-mention-preserved c =
     let all = map mentioned (shown c.args.mentions.now) in
     let i = c.loop-mention.mention-index in
-    let name = c.mentioned.result.now in
+    let name = c.mentioned_name.result.now in
     let long : length all ≡ length c.args.mentions.now = length-map (shown c.args.mentions.now) mentioned ∙ length-map c.args.mentions.now mention_of in
     let below : i < length all = omega (arith, long, c.loop-mention-test.true) in
-    let here : slice_index_or all i name ≡ name = name-at c.args.mentions.now i name _ c.loop-mention-test.true ∙ sym c.mentioned.ensures in
+    let here : slice_index_or all i name ≡ name = name-at c.args.mentions.now i name _ c.loop-mention-test.true ∙ sym c.mentioned_name.ensures in
     record {
       numbers = subst (λ ns. Numbered ns (texts c.add.new.self.names.items) c.add.new.self.numbers.items) (sym (take_more all i name below ∙ ap (λ x. take i all ++ x ∷ []) here))
           (c.in_ok-add.ensures.numbered (take i all) c.loop-mention.invariant.numbers);

@@ -2,7 +2,7 @@ use Rattle.std.proofs.Common.{◌<◌, length, subst, arith}
 use Rattle.std.proofs.lemmas.List.{take_all}
 use Rattle.vl_check.specs.inner.Looped.{AreMarked}
 use Rattle.vl_check.proofs.Beginnings.{marked-more}
-use Rattle.vl_check.proofs.ordering.marked.Goals as goal
+use Rattle.vl_check.proofs.ordering.marks_of.Goals as goal
 
 pub loop-number-preserved : goal.loop-number-preserved
 loop-number-preserved c =

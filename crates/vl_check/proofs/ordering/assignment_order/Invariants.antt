@@ -1,4 +1,4 @@
-use Rattle.vl_check.proofs.ordering.ordered.Given as goal
+use Rattle.vl_check.proofs.ordering.assignment_order.Given as goal
 
 abbrev pub ghost-beginning : goal.ghost-beginning
 ghost-beginning g a = g.of

@@ -4,7 +4,7 @@ use Rattle.vl_ast.specs.Conditions.{first_fault, is_declaration_of, is_double, i
 use Rattle.vl_check.specs.inner.Mentioned.{shown}
 use Rattle.vl_check.specs.inner.Marks.{declares, drives}
 use Rattle.vl_check.proofs.Marking.{driver-test, declaration-test, marks-step, fault-step, fault-found, mark-here, declared-here, double-here, marks-long, none-marked, past-all}
-use Rattle.vl_check.proofs.driving.doubly.Goals as goal
+use Rattle.vl_check.proofs.driving.first_double.Goals as goal
 
 pub returns-then-is_double : goal.returns-then-is_double
 returns-then-is_double c m whole =
@@ -14,7 +14,7 @@ returns-then-is_double c m whole =
     let driven = c.index-in-loop-i.ensures ∙ mark-here text c.loop-i.i _ c.loop-i-test.true is_driver_of c.args.numbers.now c.loop-i.driven.items (take c.loop-i.i (shown text)) c.index-in-loop-i.result.now old.driven_marks in
     let first = declared-here m text whole c.loop-i.i _ c.loop-i-test.true c.args.numbers.now c.args.first.now None c.requires.first in
     let bad = sym (double-here m (take c.loop-i.i (shown text)) _ _ _ _ marked driven first) ∙ sym c.if-is_double.ensures in
-    ap Some c.mentioned.ensures ∙ fault-found text c.loop-i.i _ c.loop-i-test.true (is_double m) _ bad (old.fault m whole) ∙ ap (first_fault (is_double m) []) whole
+    ap Some c.mentioned_name.ensures ∙ fault-found text c.loop-i.i _ c.loop-i-test.true (is_double m) _ bad (old.fault m whole) ∙ ap (first_fault (is_double m) []) whole
 
 pub returns : goal.returns
 returns c m whole =

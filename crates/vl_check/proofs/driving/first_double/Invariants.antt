@@ -4,7 +4,7 @@ use Rattle.vl_ast.specs.Nets.{mentions}
 use Rattle.vl_ast.specs.Conditions.{first_fault, is_declaration_of, is_double, is_driver_of, mentioned}
 use Rattle.vl_check.specs.inner.Mentioned.{shown}
 use Rattle.vl_check.specs.inner.Marks.{Marks}
-use Rattle.vl_check.proofs.driving.doubly.Given as goal
+use Rattle.vl_check.proofs.driving.first_double.Given as goal
 
 abbrev pub invariant-loop-i : goal.invariant-loop-i
 invariant-loop-i l = record {

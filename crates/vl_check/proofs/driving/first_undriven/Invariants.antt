@@ -2,7 +2,7 @@ use Rattle.std.proofs.Common.{◌≡◌, [], length, map, take, drop}
 use Rattle.vl_ast.specs.Conditions.{first_fault, is_declaration_of, is_undriven, mentioned}
 use Rattle.vl_check.specs.inner.Mentioned.{shown}
 use Rattle.vl_check.specs.inner.Marks.{Marks}
-use Rattle.vl_check.proofs.driving.undriven.Given as goal
+use Rattle.vl_check.proofs.driving.first_undriven.Given as goal
 
 abbrev pub invariant-loop-i : goal.invariant-loop-i
 invariant-loop-i l = record {

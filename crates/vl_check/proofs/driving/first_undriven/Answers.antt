@@ -4,7 +4,7 @@ use Rattle.vl_ast.specs.Conditions.{first_fault, is_declaration_of, is_driver_of
 use Rattle.vl_check.specs.inner.Mentioned.{shown}
 use Rattle.vl_check.specs.inner.Marks.{declares}
 use Rattle.vl_check.proofs.Marking.{declaration-test, marks-step, fault-step, fault-found, mark-here, undriven-here, marks-long, none-marked, past-all}
-use Rattle.vl_check.proofs.driving.undriven.Goals as goal
+use Rattle.vl_check.proofs.driving.first_undriven.Goals as goal
 
 pub returns-then-is_undriven : goal.returns-then-is_undriven
 returns-then-is_undriven c =
@@ -12,7 +12,7 @@ returns-then-is_undriven c =
     let marked = c.index.ensures ∙ mark-here text c.loop-i.i _ c.loop-i-test.true is_declaration_of c.args.numbers.now c.loop-i.declared.items (take c.loop-i.i (shown text)) c.index.result.now c.loop-i.invariant.marks in
     let driven = c.index-in-loop-i.ensures ∙ mark-here text c.loop-i.i _ c.loop-i-test.true is_driver_of c.args.numbers.now c.in_ok-driven.driven.items (shown text) c.index-in-loop-i.result.now c.in_ok-driven.ensures.marks in
     let bad = sym (undriven-here (shown text) (take c.loop-i.i (shown text)) _ _ _ marked driven) ∙ sym c.if-is_undriven.ensures in
-    ap Some c.mentioned.ensures ∙ fault-found text c.loop-i.i _ c.loop-i-test.true (is_undriven (shown text)) _ bad c.loop-i.invariant.fault
+    ap Some c.mentioned_name.ensures ∙ fault-found text c.loop-i.i _ c.loop-i-test.true (is_undriven (shown text)) _ bad c.loop-i.invariant.fault
 
 pub loop-i-preserved : goal.loop-i-preserved
 loop-i-preserved c =

@@ -7,7 +7,7 @@ use Rattle.vl_check.specs.inner.Sorted.{IsSorted}
 use Rattle.vl_check.specs.inner.Looped.{AreNamed, IsBeginning, IsTurned}
 use Rattle.vl_check.specs.Scope.{names_in}
 use Rattle.vl_check.proofs.Loops.{reads-known, cycle-named, turned-loop, no-loop, ordering}
-use Rattle.vl_check.proofs.ordering.ordered.Goals as goal
+use Rattle.vl_check.proofs.ordering.assignment_order.Goals as goal
 
 sorted : (reads reads' : List (List ℕ)) (found found' : Sorted) → reads' ≡ reads → found ≡ found' → IsSorted reads' found → IsSorted reads found'
 sorted reads reads' found found' e same s = subst (λ f. IsSorted reads f) same (subst (λ rs. IsSorted rs found) e s)
