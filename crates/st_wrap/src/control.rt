@@ -10,7 +10,7 @@ use crate::items::{assign, put};
 use crate::pace::{Counter, Counters};
 use fx_io::{OutOfMemory, Text};
 use std::alloc::Global;
-use vl_ast::{BinOp, Expr, ModItem, ModItems, binary, boxed, choose, register};
+use vl_ast::{BinOp, Expr, ModItem, ModItems, binary, choose, in_box, register};
 
 fn declare_wire(alloc: Global, name: &[u8], items: &mut ModItems) -> Result<(), OutOfMemory>
     ensures { OnOk result (items.new ≡ items.old ++ Wire false 1 name.now ∷ []) }
@@ -68,21 +68,21 @@ fn with_number(
 fn is_due(alloc: Global) -> Result<Expr, OutOfMemory>
     ensures { IfOk result (λ e. e ≡ is_due_now) }
 {
-    let none = boxed(alloc, is_zero(alloc, b"fx_wait"));
+    let none = in_box(alloc, is_zero(alloc, b"fx_wait"));
     binary(BinOp::Both, named(alloc, b"fx_end"), none)
 }
 
 fn unless(alloc: Global, name: &[u8], signal: &[u8]) -> Result<Expr, OutOfMemory>
     ensures { IfOk result (λ e. e ≡ unless name.now signal.now) }
 {
-    let other = boxed(alloc, is_zero(alloc, name));
+    let other = in_box(alloc, is_zero(alloc, name));
     binary(BinOp::Either, other, named(alloc, signal))
 }
 
 fn next_phase(alloc: Global, phase: Counter) -> Result<Expr, OutOfMemory>
     ensures { IfOk result (λ e. e ≡ next_phase phase) }
 {
-    let more = boxed(
+    let more = in_box(
         alloc,
         with_number(alloc, BinOp::Add, b"fx_phase", phase.width, 1),
     );
@@ -92,7 +92,7 @@ fn next_phase(alloc: Global, phase: Counter) -> Result<Expr, OutOfMemory>
 fn next_wait(alloc: Global, wait: Counter) -> Result<Expr, OutOfMemory>
     ensures { IfOk result (λ e. e ≡ next_wait wait) }
 {
-    let fewer = boxed(
+    let fewer = in_box(
         alloc,
         with_number(alloc, BinOp::Subtract, b"fx_wait", wait.width, 1),
     );

@@ -6,7 +6,7 @@ ghost use Rattle.vl_ast.specs.declared.modules.ModItem.TheVariants.{Assign};
 
 use fx_io::{OutOfMemory, Text};
 use std::alloc::Global;
-use vl_ast::{Expr, ModItem, ModItems, assigned};
+use vl_ast::{Expr, ModItem, ModItems, assignment};
 
 /// Puts an item, which may have wanted memory.
 pub fn put(items: &mut ModItems, made: Result<ModItem, OutOfMemory>) -> Result<(), OutOfMemory>
@@ -26,5 +26,5 @@ pub fn assign(
     ensures { (taken : Expr) → IfOk value (λ made. made ≡ taken)
         → OnOk result (items.new ≡ items.old ++ Assign name.now taken ∷ []) }
 {
-    put(items, assigned(Text::copy(alloc, name), value))
+    put(items, assignment(Text::copy(alloc, name), value))
 }

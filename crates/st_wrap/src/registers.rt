@@ -11,7 +11,7 @@ use crate::items::{assign, put};
 use crate::names::{held_name, inner_name, late_name};
 use fx_io::{Boxed, OutOfMemory, Text};
 use std::alloc::Global;
-use vl_ast::{Expr, ModItem, ModItems, assigned, choose, reg, register};
+use vl_ast::{Expr, ModItem, ModItems, assignment, choose, reg, register};
 
 /// What the wrapper has of each column.
 #[derive(Clone, Copy)]
@@ -44,7 +44,7 @@ fn drive_input(alloc: Global, column: &Column, items: &mut ModItems) -> Result<(
     ensures { OnOk result (items.new ≡ items.old ++ held_driven column.now) }
 {
     let name = inner_name(alloc, column.inner.bytes());
-    put(items, assigned(name, fresh_or_held(alloc, column)))?;
+    put(items, assignment(name, fresh_or_held(alloc, column)))?;
     let fresh = name_of(Text::copy(alloc, column.name.bytes()));
     let held = register(
         held_name(alloc, column.name.bytes()),

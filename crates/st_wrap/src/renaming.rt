@@ -8,7 +8,8 @@ use crate::names::{inner_name, is_shared};
 use fx_io::{Boxed, OutOfMemory};
 use std::alloc::Global;
 use vl_ast::{
-    Expr, Exprs, ModItem, ModItems, Module, assigned, binary, boxed, choose, clocked, reg, wire,
+    Expr, Exprs, ModItem, ModItems, Module, assignment, binary, choose, clocked_item, in_box, reg,
+    wire,
 };
 
 /// An expression over the names that the core's have in the wrapper. The recursion is as deep as the
@@ -49,7 +50,7 @@ fn renamed(alloc: Global, e: &Expr) -> Result<Expr, OutOfMemory>
 fn renamed_boxed(alloc: Global, e: &Expr) -> Result<Boxed<Expr>, OutOfMemory>
     ensures { IfOk result (λ made. made ≡ renamed e.now) }
 {
-    boxed(alloc, renamed(alloc, e))
+    in_box(alloc, renamed(alloc, e))
 }
 
 #[cycle(renaming)]
@@ -87,14 +88,14 @@ fn renamed_item(alloc: Global, item: &ModItem) -> Result<ModItem, OutOfMemory>
             name,
         } => reg(*signed, *width, inner_name(alloc, name.bytes())),
         ModItem::Assign { name, value } => {
-            assigned(inner_name(alloc, name.bytes()), renamed(alloc, value))
+            assignment(inner_name(alloc, name.bytes()), renamed(alloc, value))
         }
         ModItem::Always {
             name,
             first,
             condition,
             value,
-        } => clocked(
+        } => clocked_item(
             inner_name(alloc, name.bytes()),
             *first,
             renamed_condition(alloc, condition),

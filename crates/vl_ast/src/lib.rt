@@ -28,8 +28,8 @@ pub use laws::{
     sound_modules_spell, spelling_spells, steps_run, tokens_spell,
 };
 pub use making::{
-    Made, assigned, binary, boxed, choose, clocked, put_attribute, put_bit_port, put_data_port,
-    reg, register, wire,
+    Made, assignment, binary, choose, clocked_item, in_box, put_attribute, put_bit_port,
+    put_data_port, reg, register, wire,
 };
 pub use modules::{Attr, Attrs, ModItem, ModItems, Module, Port, Ports};
 pub use words::{Bits128, mask_of};

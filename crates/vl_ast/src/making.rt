@@ -16,7 +16,7 @@ use std::alloc::Global;
 pub type Made<T> = Result<T, OutOfMemory>;
 
 /// An expression in its box. The only error is want of memory.
-pub fn boxed(alloc: Global, made: Made<Expr>) -> Made<Boxed<Expr>>
+pub fn in_box(alloc: Global, made: Made<Expr>) -> Made<Boxed<Expr>>
     ensures { (is : Expr) → IfOk made (λ e. e ≡ is) → IfOk result (λ e. e ≡ is) }
 {
     Boxed::new(alloc, made?)
@@ -82,7 +82,7 @@ pub fn reg(signed: bool, width: u32, name: Made<Text>) -> Made<ModItem>
 }
 
 /// What assigns a value to a name. The only error is want of memory.
-pub fn assigned(name: Made<Text>, value: Made<Expr>) -> Made<ModItem>
+pub fn assignment(name: Made<Text>, value: Made<Expr>) -> Made<ModItem>
     ensures { (text : List ℕ) (shown : Expr) → IfOk name (λ made. made ≡ text)
         → IfOk value (λ made. made ≡ shown) → IfOk result (λ item. item ≡ Assign text shown) }
 {
@@ -103,7 +103,7 @@ pub fn assigned(name: Made<Text>, value: Made<Expr>) -> Made<ModItem>
 }
 
 /// What a register takes, and on which condition, if there is one. The only error is want of memory.
-pub fn clocked(
+pub fn clocked_item(
     name: Made<Text>,
     first: Sized,
     condition: Made<Option<Expr>>,
@@ -145,7 +145,7 @@ pub fn clocked(
     }
 }
 
-fn stated(condition: Made<Expr>) -> Made<Option<Expr>>
+fn some_condition(condition: Made<Expr>) -> Made<Option<Expr>>
     ensures { (test : Expr) → IfOk condition (λ made. made ≡ test)
         → IfOk result (λ made. made ≡ Some test) }
 {
@@ -164,7 +164,7 @@ pub fn register(
         → IfOk value (λ made. made ≡ taken)
         → IfOk result (λ item. item ≡ Always text number (Some test) taken) }
 {
-    clocked(name, first, stated(condition), value)
+    clocked_item(name, first, some_condition(condition), value)
 }
 
 /// Puts an attribute with its number behind the others. The only error is want of memory.

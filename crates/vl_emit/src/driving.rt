@@ -22,7 +22,7 @@ use crate::source::{Source, input_operand, operand};
 use fx_io::OutOfMemory;
 use hw_net::{Frame, NetOp};
 use std::alloc::Global;
-use vl_ast::{BinOp, Expr, ModItem, ModItems, Sized, assigned, register};
+use vl_ast::{BinOp, Expr, ModItem, ModItems, Sized, assignment, register};
 
 /// An argument by its place, or the net itself where there is none.
 fn argument<'a>(source: Source<'a>, args: &[u32], place: usize, own: usize) -> Operand<'a>
@@ -77,7 +77,7 @@ pub fn comb_item(
     let second = argument(source, args, 1, own);
     let third = argument(source, args, 2, own);
     let name = text_of(alloc, operand(source, own).called);
-    assigned(
+    assignment(
         name,
         expression(alloc, op, port, first, second, third, word),
     )
@@ -98,7 +98,7 @@ pub fn unit_item(
     let left = operand(source, left as usize);
     let right = operand(source, right as usize);
     let value = in_width(alloc, BinOp::Multiply, left, right, net.width);
-    assigned(text_of(alloc, net.called), value)
+    assignment(text_of(alloc, net.called), value)
 }
 
 /// What a Counter takes: one less than it has, and the greatest after 0.
@@ -238,7 +238,7 @@ pub fn put_bridge(
 {
     let net = operand(source, own);
     let value = bridged(alloc, source, own, frame, live, from);
-    put(items, assigned(text_of(alloc, net.called), value))?;
+    put(items, assignment(text_of(alloc, net.called), value))?;
     let held = register(
         hold_text(alloc, own),
         plain(net.width, 0),

@@ -14,7 +14,7 @@ use crate::source::{Source, operand};
 use fx_io::{OutOfMemory, Text};
 use hw_net::NetKind;
 use std::alloc::Global;
-use vl_ast::{ModItems, assigned, reg, wire};
+use vl_ast::{ModItems, assignment, reg, wire};
 
 /// The parts of a module that have items of each net: their declarations, the drivers of Unit nets, and
 /// those of the others.
@@ -140,7 +140,7 @@ fn show_outputs(alloc: Global, source: Source, items: &mut ModItems) -> Result<(
     for output in source.netlist.outputs() {
         let name = Text::copy(alloc, output.name.bytes());
         let value = named(alloc, operand(source, output.net as usize));
-        put(items, assigned(name, value))?;
+        put(items, assignment(name, value))?;
     }
     Ok(())
 }
@@ -151,7 +151,7 @@ fn show_enable(alloc: Global, items: &mut ModItems) -> Result<(), OutOfMemory>
 {
     let name = Text::copy(alloc, b"ce_out");
     let value = enable(alloc);
-    put(items, assigned(name, value))
+    put(items, assignment(name, value))
 }
 
 /// Puts all items, in order, into an empty list.

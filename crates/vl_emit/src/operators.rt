@@ -15,7 +15,7 @@ use crate::operands::{Operand, at_width, beside, named, piece, zeros};
 use fx_io::OutOfMemory;
 use hw_net::NetOp;
 use std::alloc::Global;
-use vl_ast::{BinOp, Bits128, Expr, ShiftOp, Sized, UnOp, boxed};
+use vl_ast::{BinOp, Bits128, Expr, ShiftOp, Sized, UnOp, in_box};
 
 /// So many bits without sign.
 pub fn plain(width: u32, bits: u128) -> Sized
@@ -40,7 +40,7 @@ fn unary(alloc: Global, op: UnOp, operand: Operand, width: u32) -> Result<Expr, 
     requires { CanBeAt operand width }
     ensures { IfOk result (λ e. e ≡ Unary op (at_width width (wire_at operand.entry))) }
 {
-    let part = boxed(alloc, at_width(alloc, operand, width))?;
+    let part = in_box(alloc, at_width(alloc, operand, width))?;
     Ok(Expr::Unary(op, part))
 }
 
@@ -54,7 +54,7 @@ pub fn binary(
     ensures { (one other : Expr) → IfOk left (λ e. e ≡ one) → IfOk right (λ e. e ≡ other)
         → IfOk result (λ e. e ≡ Binary op one other) }
 {
-    vl_ast::binary(op, boxed(alloc, left), boxed(alloc, right))
+    vl_ast::binary(op, in_box(alloc, left), in_box(alloc, right))
 }
 
 /// `test ? chosen : other`, of operands each of which may have wanted memory.
@@ -68,9 +68,9 @@ pub fn choose(
         → IfOk chosen (λ e. e ≡ second) → IfOk other (λ e. e ≡ third)
         → IfOk result (λ e. e ≡ Choose first second third) }
 {
-    let test = boxed(alloc, test);
-    let chosen = boxed(alloc, chosen);
-    vl_ast::choose(test, chosen, boxed(alloc, other))
+    let test = in_box(alloc, test);
+    let chosen = in_box(alloc, chosen);
+    vl_ast::choose(test, chosen, in_box(alloc, other))
 }
 
 /// An operand at the width at which it is compared.
@@ -82,7 +82,7 @@ fn compared(alloc: Global, signed: bool, operand: Operand, width: u32) -> Result
     if !signed {
         return part;
     }
-    Ok(Expr::AsSigned(boxed(alloc, part)?))
+    Ok(Expr::AsSigned(in_box(alloc, part)?))
 }
 
 /// `left op right`, each at the width.
@@ -196,7 +196,7 @@ fn shifted_up(alloc: Global, operand: Operand, places: u8, width: u32) -> Result
     if width <= u32::from(places) {
         return Ok(zeros(width));
     }
-    let part = boxed(alloc, at_width(alloc, operand, width))?;
+    let part = in_box(alloc, at_width(alloc, operand, width))?;
     let amount = plain(8, u128::from(places));
     Ok(Expr::Shift(ShiftOp::Left, part, amount))
 }

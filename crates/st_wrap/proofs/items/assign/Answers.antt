@@ -1,4 +1,4 @@
 use Rattle.st_wrap.proofs.items.assign.Goals as goal
 
 pub returns : goal.returns
-returns c taken value = c.put.ensures _ (c.assigned.ensures _ taken c.copy.ensures value)
+returns c taken value = c.put.ensures _ (c.assignment.ensures _ taken c.copy.ensures value)

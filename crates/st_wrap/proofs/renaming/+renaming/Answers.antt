@@ -71,4 +71,4 @@ renamed-returns-in-Choose t c =
     (c.choose.ensures (renamed c.in-Choose.test) (renamed c.in-Choose.chosen) (renamed c.in-Choose.other) test chosen other)
 
 pub renamed_boxed-returns : goal.renamed_boxed-returns
-renamed_boxed-returns t c = c.boxed.ensures _ c.renamed.ensures
+renamed_boxed-returns t c = c.in_box.ensures _ c.renamed.ensures

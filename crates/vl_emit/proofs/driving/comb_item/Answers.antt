@@ -61,4 +61,4 @@ returns c =
     (λ h. c.argument-second.ensures.wire (omega (arith, h, c.requires.ready.0))) (λ h. c.argument-third.ensures.wire (omega (arith, h, c.requires.ready.0))) in
     let value = subst (λ (v : Expr). IfOk c.expression.result (λ e. e ≡ v)) (wide ∙ is) c.expression.ensures in
     let name = subst (λ (w : Wire). IfOk c.text_of-name.result (λ text. text ≡ w.name)) c.operand.ensures.wire c.text_of-name.ensures in
-    if-alone c.assigned.result _ (c.assigned.ensures _ _ name value)
+    if-alone c.assignment.result _ (c.assignment.ensures _ _ name value)

@@ -28,4 +28,4 @@ returns c =
     let wide = subst (λ (w : Wire). IfOk c.in_width-value.result (λ e. e ≡ Binary Multiply (at_width w.width (wire_at c.operand-left.result)) (at_width w.width (wire_at c.operand-right.result)))) c.operand-net.ensures.wire c.in_width-value.ensures in
     let first = subst (λ (w : Wire). IfOk c.in_width-value.result (λ e. e ≡ Binary Multiply (at_width (wire_in c.args.source c.args.own).width w) (at_width (wire_in c.args.source c.args.own).width (wire_at c.operand-right.result)))) c.operand-left.ensures.wire wide in
     let both = subst (λ (w : Wire). IfOk c.in_width-value.result (λ e. e ≡ Binary Multiply (at_width (wire_in c.args.source c.args.own).width (wire_in c.args.source c.args.left)) (at_width (wire_in c.args.source c.args.own).width w))) c.operand-right.ensures.wire first in
-    if-alone c.assigned.result _ (c.assigned.ensures _ _ name both)
+    if-alone c.assignment.result _ (c.assignment.ensures _ _ name both)

@@ -8,5 +8,5 @@ use Rattle.vl_emit.proofs.operators.compared.Goals as goal
 
 pub returns : goal.returns
 returns c =
-    ap (λ (e : Expr). AsSigned e) (c.in_ok-boxed.ensures _ c.at_width-part.ensures)
+    ap (λ (e : Expr). AsSigned e) (c.in_ok-in_box.ensures _ c.at_width-part.ensures)
     ∙ ap (λ (b : Bool). compared b (at_width c.args.width (wire_at c.args.operand))) (sym c.if-not-signed.false)
