@@ -71,7 +71,7 @@ pub fn parts_of<R: Threads + Sync>(
         (flat_map (λ part. part.items) parts.items)) }
 {
     vl_read::unique();
-    let parts = vl_write::spelled(rt, alloc, &made, &OpenGate);
+    let parts = vl_write::spelling_parts(rt, alloc, &made, &OpenGate);
     drop(made);
     parts
 }

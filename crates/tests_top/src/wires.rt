@@ -9,7 +9,7 @@ use std::io;
 use std::thread::Threads;
 use tests_rows::{Row, written};
 use vl_ast::{Attrs, ModItem, ModItems, Module, Ports};
-use vl_write::{spelled, write};
+use vl_write::{spelling_parts, write};
 
 /// How often a module is written.
 const TEXTS: u32 = 20;
@@ -87,7 +87,7 @@ fn is_written<R: Threads + Sync>(
     expected: &[u8],
 ) -> Result<bool> {
     let text = write(rt, alloc, module, &OpenGate)?;
-    let parts = spelled(rt, alloc, module, &OpenGate)?;
+    let parts = spelling_parts(rt, alloc, module, &OpenGate)?;
     let spelled = joined(alloc, parts.as_slice())?;
     Ok(text.bytes() == expected && spelled.as_slice() == expected)
 }

@@ -1,6 +1,6 @@
 //! Writes a module of the Verilog subset as text.
 //!
-//! `spelled` gives `spelling` of the module, which `vl_ast` defines in `specs/Spelling.antt`, in parts that
+//! `spelling_parts` gives `spelling` of the module, which `vl_ast` defines in `specs/Spelling.antt`, in parts that
 //! are to stand one after another, and `write` as one text; it spells the module by `Spells` of
 //! `specs/Grammar.antt`, where some text does. Of many items workers spell pieces, each worker a part
 //! (`src/pieces.rt`): the text is the same whichever worker spelled which.
@@ -15,4 +15,4 @@ mod pieces;
 mod ports;
 mod writing;
 
-pub use writing::{spelled, write};
+pub use writing::{spelling_parts, write};

@@ -12,7 +12,7 @@ use std::thread::Threads;
 use vl_ast::{Module, spelling_spells};
 
 /// The text of a module up to its items.
-fn begun(alloc: Global, module: &Module) -> Result<Vec<u8>, OutOfMemory>
+fn header_text(alloc: Global, module: &Module) -> Result<Vec<u8>, OutOfMemory>
     ensures { IfOk result (λ text. spelling «module».now
         ≡ text.items ++ flat_map item_text «module».now.items ++ codes "endmodule\n") }
 {
@@ -46,7 +46,7 @@ fn put_end(alloc: Global, parts: &mut Vec<Vec<u8>>) -> Result<(), OutOfMemory>
 /// where some text does. Of many items the workers of `rt` spell a part each; of few, or by one
 /// processor, there is one part. The worker of an item passes `gate` before it, by the item's number
 /// from 0; the text is the same whatever they do. The only error is want of memory.
-pub fn spelled<R: Threads + Sync, G: Gate + Sync>(
+pub fn spelling_parts<R: Threads + Sync, G: Gate + Sync>(
     rt: &R,
     alloc: Global,
     module: &Module,
@@ -58,7 +58,7 @@ pub fn spelled<R: Threads + Sync, G: Gate + Sync>(
         → IfOk result (λ parts. Spells (flat_map (λ part. part.items) parts.items) «module».now) }
 {
     spelling_spells();
-    let text = begun(alloc, module)?;
+    let text = header_text(alloc, module)?;
     let mut parts = with_items(rt, alloc, text, module.items.as_slice(), gate)?;
     put_end(alloc, &mut parts)?;
     Ok(parts)
@@ -66,7 +66,7 @@ pub fn spelled<R: Threads + Sync, G: Gate + Sync>(
 
 /// The parts as one text. The first part is taken over as it is, and each other one freed once it is
 /// copied.
-fn joined(alloc: Global, parts: Vec<Vec<u8>>) -> Result<Vec<u8>, OutOfMemory>
+fn whole_text(alloc: Global, parts: Vec<Vec<u8>>) -> Result<Vec<u8>, OutOfMemory>
     ensures { IfOk result (λ text. text.items ≡ flat_map (λ part. part.items) parts.items) }
 {
     let mut left = parts.into_iter();
@@ -79,7 +79,7 @@ fn joined(alloc: Global, parts: Vec<Vec<u8>>) -> Result<Vec<u8>, OutOfMemory>
     Ok(text)
 }
 
-/// The parts that `spelled` gives, as one text. It is for whom parts don't serve: joining long parts
+/// The parts that `spelling_parts` gives, as one text. It is for whom parts don't serve: joining long parts
 /// takes as long as spelling them. The only error is want of memory.
 pub fn write<R: Threads + Sync, G: Gate + Sync>(
     rt: &R,
@@ -91,6 +91,6 @@ pub fn write<R: Threads + Sync, G: Gate + Sync>(
     ensures spells { (bytes : List ℕ) → Spells bytes «module».now
         → IfOk result (λ text. Spells text «module».now) }
 {
-    let parts = spelled(rt, alloc, module, gate)?;
-    Text::from_vec(alloc, joined(alloc, parts)?)
+    let parts = spelling_parts(rt, alloc, module, gate)?;
+    Text::from_vec(alloc, whole_text(alloc, parts)?)
 }

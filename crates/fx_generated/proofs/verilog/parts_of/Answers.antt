@@ -5,4 +5,4 @@ use Rattle.fx_generated.proofs.verilog.parts_of.Goals as goal
 
 pub returns : goal.returns
 returns g c =
-    IfOk-weaker c.spelled-parts.result _ _ (λ parts is. written-of c.args.made (flat_map (λ part. part.items) parts.items) c.unique.ensures c.requires is) c.spelled-parts.ensures.text
+    IfOk-weaker c.spelling_parts-parts.result _ _ (λ parts is. written-of c.args.made (flat_map (λ part. part.items) parts.items) c.unique.ensures c.requires is) c.spelling_parts-parts.ensures.text
