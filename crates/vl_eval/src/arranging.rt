@@ -72,7 +72,7 @@ fn places_of(alloc: Global, entries: &[u64], base: usize) -> Result<Vec<usize>, 
 }
 
 /// Where what stood at a place stands in the new order.
-fn moved(place: usize, base: usize, places: &[usize]) -> usize
+fn new_place(place: usize, base: usize, places: &[usize]) -> usize
     ensures { result ≡ moved base places.now place }
 {
     if place < base {
@@ -85,22 +85,26 @@ fn moved(place: usize, base: usize, places: &[usize]) -> usize
 }
 
 /// The same operation over the new places.
-fn renamed(op: Op, base: usize, moves: &[usize]) -> Op
+fn renamed_op(op: Op, base: usize, moves: &[usize]) -> Op
     ensures { result ≡ renamed (moved base moves.now) op }
 {
     match op {
         Op::Constant(bits) => Op::Constant(bits),
-        Op::One(of, part) => Op::One(of, moved(part, base, moves)),
+        Op::One(of, part) => Op::One(of, new_place(part, base, moves)),
         Op::Two(of, left, right) => {
-            Op::Two(of, moved(left, base, moves), moved(right, base, moves))
+            Op::Two(
+                of,
+                new_place(left, base, moves),
+                new_place(right, base, moves),
+            )
         }
         Op::Beside {
             left,
             right,
             places,
         } => Op::Beside {
-            left: moved(left, base, moves),
-            right: moved(right, base, moves),
+            left: new_place(left, base, moves),
+            right: new_place(right, base, moves),
             places,
         },
         Op::Choose {
@@ -108,16 +112,16 @@ fn renamed(op: Op, base: usize, moves: &[usize]) -> Op
             chosen,
             other,
         } => Op::Choose {
-            test: moved(test, base, moves),
-            chosen: moved(chosen, base, moves),
-            other: moved(other, base, moves),
+            test: new_place(test, base, moves),
+            chosen: new_place(chosen, base, moves),
+            other: new_place(other, base, moves),
         },
         Op::Next(register) => Op::Next(Register {
-            reset: moved(register.reset, base, moves),
+            reset: new_place(register.reset, base, moves),
             first: register.first,
-            test: moved(register.test, base, moves),
-            value: moved(register.value, base, moves),
-            kept: moved(register.kept, base, moves),
+            test: new_place(register.test, base, moves),
+            value: new_place(register.value, base, moves),
+            kept: new_place(register.kept, base, moves),
         }),
     }
 }
@@ -137,7 +141,7 @@ fn in_order(
 {
     let mut arranged = Code::new(alloc);
     for entry in entries {
-        arranged.push(renamed(ops.get(number_of(*entry)), base, places))?;
+        arranged.push(renamed_op(ops.get(number_of(*entry)), base, places))?;
     }
     Ok(arranged)
 }
@@ -152,7 +156,7 @@ fn moved_slots(
 {
     let mut arranged = Vec::new(alloc);
     for slot in slots {
-        arranged.push(moved(*slot, base, places))?;
+        arranged.push(new_place(*slot, base, places))?;
     }
     Ok(arranged)
 }
@@ -170,8 +174,8 @@ fn moved_captures(
     for capture in captures {
         let Capture { from, to } = *capture;
         arranged.push(Capture {
-            from: moved(from, base, places),
-            to: moved(to, base, places),
+            from: new_place(from, base, places),
+            to: new_place(to, base, places),
         })?;
     }
     Ok(arranged)

@@ -9,7 +9,7 @@ use crate::contexts::{half_in, left_context, unary_context};
 use crate::leaves::{build_bit, build_literal, build_name, build_part};
 use crate::operators::{binary_op, shift_op, unary_op};
 use crate::ops::Op;
-use crate::site::{Alone, Site, shape_of, unsigned};
+use crate::site::{Alone, Site, shape_of, unsigned_slot};
 use fx_io::OutOfMemory;
 use vl_ast::{BinOp, Expr, ShiftOp, Sized, UnOp, mask_of, meaning_by_layer};
 use vl_check::Shape;
@@ -140,9 +140,9 @@ fn build_parts(ops: &mut Code, site: &Site<'_, '_>, parts: &[Expr]) -> Result<Al
     }
     if length == 0 {
         let slot = push(ops, site.base, Op::Constant(0))?;
-        return Ok(unsigned(slot, length));
+        return Ok(unsigned_slot(slot, length));
     }
-    Ok(unsigned(joined, length))
+    Ok(unsigned_slot(joined, length))
 }
 
 #[cycle(build)]
@@ -165,7 +165,7 @@ fn build_copies(
         joined = beside(ops, site.base, joined, length, own.slot, own.shape.length)?;
         length += own.shape.length;
     }
-    Ok(unsigned(joined, length))
+    Ok(unsigned_slot(joined, length))
 }
 
 /// Adds the operations of an expression in the context that it makes by itself. Those of parts that

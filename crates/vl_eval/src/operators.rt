@@ -70,7 +70,7 @@ pub fn binary_op(op: BinOp, left: usize, right: usize, mask: u128, half: u128) -
 }
 
 /// A shift down without sign, by a number that may be longer than the word.
-fn down(part: usize, amount: u128, width: u32) -> Op
+fn shift_down(part: usize, amount: u128, width: u32) -> Op
     requires { width ≤ 128 }
     ensures { result ≡ down part amount width }
 {
@@ -95,14 +95,14 @@ pub fn shift_op(op: ShiftOp, part: usize, amount: u128, width: u32, signed: bool
                 Op::Constant(0)
             }
         }
-        ShiftOp::Right => down(part, amount, width),
+        ShiftOp::Right => shift_down(part, amount, width),
         ShiftOp::RightSigned => {
             if signed {
                 let places = amount.min(u128::from(width.saturating_sub(1))) as u32;
                 let (half, mask) = (half_of(width), mask_of(width));
                 Op::One(OneOp::SignedDown { places, half, mask }, part)
             } else {
-                down(part, amount, width)
+                shift_down(part, amount, width)
             }
         }
     }

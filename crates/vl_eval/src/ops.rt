@@ -81,7 +81,7 @@ pub enum Op {
 }
 
 /// The word at one of two places, by whether a third is 0.
-pub fn chosen(values: &[u128], test: usize, chosen: usize, other: usize) -> u128
+pub fn chosen_word(values: &[u128], test: usize, chosen: usize, other: usize) -> u128
     requires { (test < length values.now) × (chosen < length values.now)
         × (other < length values.now) }
     ensures { result ≡ (if slice_index values.now test == 0 then slice_index values.now other
@@ -165,12 +165,12 @@ pub fn value_of(op: Op, values: &[u128]) -> u128
             test,
             chosen: first,
             other,
-        } => chosen(values, test, first, other),
+        } => chosen_word(values, test, first, other),
         Op::Next(register) => {
             if values[register.reset] == 1 {
                 register.first
             } else {
-                chosen(values, register.test, register.value, register.kept)
+                chosen_word(values, register.test, register.value, register.kept)
             }
         }
     }

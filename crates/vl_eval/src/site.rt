@@ -52,7 +52,7 @@ pub struct Alone {
 }
 
 /// A place that shows so many bits without sign.
-pub fn unsigned(slot: usize, length: u32) -> Alone
+pub fn unsigned_slot(slot: usize, length: u32) -> Alone
     ensures slot { result.slot ≡ slot }
     ensures length { result.shape.length ≡ length }
     ensures sign { result.shape.signed ≡ false }

@@ -2,7 +2,7 @@ ghost use Rattle.std.specs.Prelude.{◌≡◌, ◌<◌, ◌+◌, ◌-◌, ◌*�
 ghost use Rattle.vl_eval.specs.inner.Ops.{AreSettled, IsOrdered, IsSettled, op_value, reads_below};
 ghost use Rattle.vl_eval.specs.inner.Steps.{AreWithin, IsWithin, op_in, ops_of};
 
-use crate::ops::{Op, chosen, signed_down, value_of};
+use crate::ops::{Op, chosen_word, signed_down, value_of};
 use crate::steps::{LONGEST, Pair, Step};
 
 /// The low 64 bits.
@@ -13,7 +13,7 @@ fn low(bits: u128) -> u64
 }
 
 /// A word, with the bits of `fill` on its left where it is `half` or more.
-fn extended(bits: u128, half: u64, fill: u64) -> u128
+fn sign_extension(bits: u128, half: u64, fill: u64) -> u128
     ensures { result ≡ (if nat_le half bits then (bits + fill) % 2 ^ 128 else bits) }
 {
     let more = if bits >= u128::from(half) { fill } else { 0 };
@@ -58,7 +58,7 @@ fn value_by(step: Step, wide: &[Op], values: &[u128]) -> u128
 {
     match step {
         Step::Constant(bits) => bits as u128,
-        Step::Extended { part, half, fill } => extended(values[part as usize], half, fill),
+        Step::Extended { part, half, fill } => sign_extension(values[part as usize], half, fill),
         Step::Select { part, low, mask } => (values[part as usize] >> low) & mask as u128,
         Step::Add(pair, mask) => {
             let (left, right) = words(values, pair);
@@ -129,7 +129,7 @@ fn value_by(step: Step, wide: &[Op], values: &[u128]) -> u128
             test,
             chosen: first,
             other,
-        } => chosen(values, test as usize, first as usize, other as usize),
+        } => chosen_word(values, test as usize, first as usize, other as usize),
         Step::Beside(pair, places) => {
             let (left, right) = words(values, pair);
             (left << places).wrapping_add(right)
@@ -139,7 +139,7 @@ fn value_by(step: Step, wide: &[Op], values: &[u128]) -> u128
                 register.first as u128
             } else {
                 let (test, value, kept) = (register.test, register.value, register.kept);
-                chosen(values, test as usize, value as usize, kept as usize)
+                chosen_word(values, test as usize, value as usize, kept as usize)
             }
         }
         Step::Whole(number) => value_of(wide[number], values),

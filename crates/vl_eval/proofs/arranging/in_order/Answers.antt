@@ -12,7 +12,7 @@ pub loop-entry-preserved : goal.loop-entry-preserved
 loop-entry-preserved c =
     let ops = c.args.ops.now in
     let move = moved c.args.base c.args.places.now in
-    let op = c.renamed.ensures ∙ ap (renamed move) (c.get.ensures ∙ ap (λ (n : ℕ). slice_index_or ops n (Constant 0)) c.number_of.ensures) in
+    let op = c.renamed_op.ensures ∙ ap (renamed move) (c.get.ensures ∙ ap (λ (n : ℕ). slice_index_or ops n (Constant 0)) c.number_of.ensures) in
     c.in_ok-push.ensures ∙ (λ i. c.loop-entry.invariant i ++ op i ∷ [])
     ∙ sym (map_more (op_at c.args.base c.args.places.now ops) c.args.entries.now c.loop-entry.entry-index _ c.loop-entry-test.true)
 

@@ -8,7 +8,7 @@ loop-capture-init c = c.new-arranged.ensures.items
 
 pub loop-capture-preserved : goal.loop-capture-preserved
 loop-capture-preserved c =
-    c.in_ok-push.ensures.items ∙ (λ i. c.loop-capture.invariant i ++ record { from = c.moved.ensures i; to = c.moved-in-loop-capture.ensures i } ∷ [])
+    c.in_ok-push.ensures.items ∙ (λ i. c.loop-capture.invariant i ++ record { from = c.new_place.ensures i; to = c.new_place-in-loop-capture.ensures i } ∷ [])
     ∙ sym (map_more (moved_capture (moved c.args.base c.args.places.now)) c.args.captures.now c.loop-capture.capture-index _ c.loop-capture-test.true)
 
 pub returns : goal.returns

@@ -8,7 +8,7 @@ loop-slot-init c = c.new-arranged.ensures.items
 
 pub loop-slot-preserved : goal.loop-slot-preserved
 loop-slot-preserved c =
-    c.in_ok-push.ensures.items ∙ (λ i. c.loop-slot.invariant i ++ c.moved.ensures i ∷ [])
+    c.in_ok-push.ensures.items ∙ (λ i. c.loop-slot.invariant i ++ c.new_place.ensures i ∷ [])
     ∙ sym (map_more (moved c.args.base c.args.places.now) c.args.slots.now c.loop-slot.slot-index _ c.loop-slot-test.true)
 
 pub returns : goal.returns

@@ -222,7 +222,7 @@ build_copies-returns-clause-built t c = λ context.
     let site = c.args.site.now in
     let by_layer = c.meaning_by_layer.ensures.value in
     let ok = sound-repeat (nets_in site.scope.now) c.args.count c.args.part.now c.requires.sound in
-    subst (λ slot. Built site.base site.scope.now site.slots.now c.args.ops.now c.loop-copy.ops slot context.length context.signed (Repeat c.args.count c.args.part.now)) (sym c.unsigned.ensures.slot)
+    subst (λ slot. Built site.base site.scope.now site.slots.now c.args.ops.now c.loop-copy.ops slot context.length context.signed (Repeat c.args.count c.args.part.now)) (sym c.unsigned_slot.ensures.slot)
     (built-copies by_layer site.base site.scope.now site.slots.now c.args.count c.args.part.now c.args.ops.now c.loop-copy.ops c.loop-copy.joined c.loop-copy.length context.length context.signed
     (subst (λ n. Copied by_layer site.base site.scope.now site.slots.now c.args.ops.now c.loop-copy.ops c.loop-copy.joined c.loop-copy.length n c.args.part.now) (omega (arith, ok.0)) (c.loop-copy.invariant.copied by_layer)))
 
@@ -234,8 +234,8 @@ build_copies-returns-clause-own t c =
     let ok = sound-repeat nets c.args.count c.args.part.now c.requires.sound in
     let copied = subst (λ n. Copied by_layer site.base site.scope.now site.slots.now c.args.ops.now c.loop-copy.ops c.loop-copy.joined c.loop-copy.length n c.args.part.now) (omega (arith, ok.0)) (c.loop-copy.invariant.copied by_layer) in
     let l = length-repeat nets c.args.count c.args.part.now in
-    shows-alone-too by_layer site.base site.scope.now site.slots.now c.args.ops.now c.loop-copy.ops (Repeat c.args.count c.args.part.now) c.unsigned.result
-    (c.unsigned.ensures.length ∙ copied.long ∙ sym l) (sign-repeat nets c.args.count c.args.part.now) (omega (arith, l, ok.2)) c.unsigned.ensures.sign (λ width signed. build_copies-returns-clause-built t c (record { length = width; signed = signed }))
+    shows-alone-too by_layer site.base site.scope.now site.slots.now c.args.ops.now c.loop-copy.ops (Repeat c.args.count c.args.part.now) c.unsigned_slot.result
+    (c.unsigned_slot.ensures.length ∙ copied.long ∙ sym l) (sign-repeat nets c.args.count c.args.part.now) (omega (arith, l, ok.2)) c.unsigned_slot.ensures.sign (λ width signed. build_copies-returns-clause-built t c (record { length = width; signed = signed }))
 
 pub build_parts-build_alone-requires : goal.build_parts-build_alone-requires
 build_parts-build_alone-requires t c =
@@ -287,7 +287,7 @@ build_parts-returns-then-length-eq0-clause-built t c = λ context.
     let by_layer = c.meaning_by_layer.ensures.value in
     let parts = c.args.parts.now in
     let joined = joined-all by_layer site.base site.scope.now site.slots.now c.args.ops.now c.loop-part.ops c.loop-part.joined c.loop-part.length c.loop-part.part-index parts (omega (arith, c.loop-part-test.false)) (c.loop-part.invariant by_layer) in
-    subst (λ slot. Built site.base site.scope.now site.slots.now c.args.ops.now c.push.new.ops slot context.length context.signed (Concat parts)) (sym c.unsigned.ensures.slot)
+    subst (λ slot. Built site.base site.scope.now site.slots.now c.args.ops.now c.push.new.ops slot context.length context.signed (Concat parts)) (sym c.unsigned_slot.ensures.slot)
     (built-no-parts by_layer site.base site.scope.now site.slots.now parts c.args.ops.now c.loop-part.ops c.push.new.ops c.in_ok-slot.slot c.loop-part.joined c.loop-part.length context.length context.signed
     joined c.if-length-eq0.true c.in_ok-slot.ensures)
 
@@ -295,7 +295,7 @@ pub build_parts-returns-then-length-eq0-clause-own : goal.build_parts-returns-th
 build_parts-returns-then-length-eq0-clause-own t c =
     let site = c.args.site.now in
     let joined = joined-all c.meaning_by_layer.ensures.value site.base site.scope.now site.slots.now c.args.ops.now c.loop-part.ops c.loop-part.joined c.loop-part.length c.loop-part.part-index c.args.parts.now (omega (arith, c.loop-part-test.false)) (c.loop-part.invariant c.meaning_by_layer.ensures.value) in
-    concat-alone c.meaning_by_layer.ensures.value site.base site.scope.now site.slots.now c.args.ops.now c.push.new.ops c.args.parts.now c.unsigned.result c.requires.sound (c.unsigned.ensures.length ∙ joined.long) c.unsigned.ensures.sign
+    concat-alone c.meaning_by_layer.ensures.value site.base site.scope.now site.slots.now c.args.ops.now c.push.new.ops c.args.parts.now c.unsigned_slot.result c.requires.sound (c.unsigned_slot.ensures.length ∙ joined.long) c.unsigned_slot.ensures.sign
     (λ width signed. build_parts-returns-then-length-eq0-clause-built t c (record { length = width; signed = signed }))
 
 pub build_parts-returns-clause-built : goal.build_parts-returns-clause-built
@@ -304,14 +304,14 @@ build_parts-returns-clause-built t c = λ context.
     let by_layer = c.meaning_by_layer.ensures.value in
     let parts = c.args.parts.now in
     let joined = joined-all by_layer site.base site.scope.now site.slots.now c.args.ops.now c.loop-part.ops c.loop-part.joined c.loop-part.length c.loop-part.part-index parts (omega (arith, c.loop-part-test.false)) (c.loop-part.invariant by_layer) in
-    subst (λ slot. Built site.base site.scope.now site.slots.now c.args.ops.now c.loop-part.ops slot context.length context.signed (Concat parts)) (sym c.unsigned-2.ensures.slot)
+    subst (λ slot. Built site.base site.scope.now site.slots.now c.args.ops.now c.loop-part.ops slot context.length context.signed (Concat parts)) (sym c.unsigned_slot-2.ensures.slot)
     (built-parts by_layer site.base site.scope.now site.slots.now parts c.args.ops.now c.loop-part.ops c.loop-part.joined c.loop-part.length context.length context.signed joined (omega (arith, c.if-length-eq0.false)))
 
 pub build_parts-returns-clause-own : goal.build_parts-returns-clause-own
 build_parts-returns-clause-own t c =
     let site = c.args.site.now in
     let joined = joined-all c.meaning_by_layer.ensures.value site.base site.scope.now site.slots.now c.args.ops.now c.loop-part.ops c.loop-part.joined c.loop-part.length c.loop-part.part-index c.args.parts.now (omega (arith, c.loop-part-test.false)) (c.loop-part.invariant c.meaning_by_layer.ensures.value) in
-    concat-alone c.meaning_by_layer.ensures.value site.base site.scope.now site.slots.now c.args.ops.now c.loop-part.ops c.args.parts.now c.unsigned-2.result c.requires.sound (c.unsigned-2.ensures.length ∙ joined.long) c.unsigned-2.ensures.sign
+    concat-alone c.meaning_by_layer.ensures.value site.base site.scope.now site.slots.now c.args.ops.now c.loop-part.ops c.args.parts.now c.unsigned_slot-2.result c.requires.sound (c.unsigned_slot-2.ensures.length ∙ joined.long) c.unsigned_slot-2.ensures.sign
     (λ width signed. build_parts-returns-clause-built t c (record { length = width; signed = signed }))
 
 pub build-returns-in_ok-alone-in-Concat : goal.build-returns-in_ok-alone-in-Concat

@@ -28,14 +28,14 @@ overflow_shl-result c = (subst (reads c.args.wide.now c.args.values.now) c.in-Up
 pub overflow_shl-result-in-Beside : goal.overflow_shl-result-in-Beside
 overflow_shl-result-in-Beside c = (subst (reads c.args.wide.now c.args.values.now) c.in-Beside.is c.requires.reads).2
 
-pub chosen-requires : goal.chosen-requires
-chosen-requires c = subst (reads c.args.wide.now c.args.values.now) c.in-Choose.is c.requires.reads
+pub chosen_word-requires : goal.chosen_word-requires
+chosen_word-requires c = subst (reads c.args.wide.now c.args.values.now) c.in-Choose.is c.requires.reads
 
 pub bounds-values-register : goal.bounds-values-register
 bounds-values-register c = (subst (reads c.args.wide.now c.args.values.now) c.in-Next.is c.requires.reads).0
 
-pub chosen-requires-else-values-register-eq1 : goal.chosen-requires-else-values-register-eq1
-chosen-requires-else-values-register-eq1 c = let below = subst (reads c.args.wide.now c.args.values.now) c.in-Next.is c.requires.reads in (below.1, below.2, below.3)
+pub chosen_word-requires-else-values-register-eq1 : goal.chosen_word-requires-else-values-register-eq1
+chosen_word-requires-else-values-register-eq1 c = let below = subst (reads c.args.wide.now c.args.values.now) c.in-Next.is c.requires.reads in (below.1, below.2, below.3)
 
 pub returns-then-values-register-eq1 : goal.returns-then-values-register-eq1
 returns-then-values-register-eq1 c = sym (ap (λ (n : ℕ). if n == 1 then c.in-Next.register.first else (if slice_index c.args.values.now c.in-Next.register.test == 0 then slice_index c.args.values.now c.in-Next.register.kept else slice_index c.args.values.now c.in-Next.register.value)) c.if-values-register-eq1.true) ∙ ap (gives c.args.wide.now c.args.values.now) (sym c.in-Next.is)
