@@ -6,7 +6,7 @@ ghost use Rattle.vl_emit.specs.inner.Ready.{HasFrame, net_count, cycles_in};
 ghost use Rattle.vl_emit.specs.inner.Ready.{counter_in, slot_in, live_in, taking_in};
 ghost use Rattle.vl_emit.specs.inner.Spoken.{wire_at, CanBeWritten};
 
-use crate::operands::{Operand, named, zeros};
+use crate::operands::{Operand, operand_name, zeros};
 use crate::operators::{binary, plain, test_of};
 use crate::source::{Source, operand};
 use fx_io::{OutOfMemory, Text};
@@ -42,7 +42,12 @@ fn slot_test(alloc: Global, source: Source, frame: Frame, slot: u64) -> Result<E
     }
     let counter = counter(source, frame);
     let number = Expr::Literal(plain(counter.width, u128::from(clocks - 1 - slot)));
-    binary(alloc, BinOp::Equal, named(alloc, counter), Ok(number))
+    binary(
+        alloc,
+        BinOp::Equal,
+        operand_name(alloc, counter),
+        Ok(number),
+    )
 }
 
 /// Whether the clock is before a frame or among its first `live` base samples.
@@ -62,7 +67,7 @@ pub fn live_test(
     binary(
         alloc,
         BinOp::GreaterEqual,
-        named(alloc, counter),
+        operand_name(alloc, counter),
         Ok(number),
     )
 }
@@ -75,7 +80,7 @@ pub fn enable(alloc: Global) -> Result<Expr, OutOfMemory>
 }
 
 /// A condition of a register, which may have wanted memory, with the clock enable before it.
-fn enabled(alloc: Global, condition: Result<Expr, OutOfMemory>) -> Result<Expr, OutOfMemory>
+fn with_enable(alloc: Global, condition: Result<Expr, OutOfMemory>) -> Result<Expr, OutOfMemory>
     ensures { (test : Expr) → IfOk condition (λ e. e ≡ test)
         → IfOk result (λ e. e ≡ gated_condition (Some test)) }
 {
@@ -100,7 +105,7 @@ pub fn enabled_slot(
     requires { HasFrame source frame }
     ensures { IfOk result (λ e. e ≡ gated_condition (Some (slot_in source.entry frame slot))) }
 {
-    enabled(alloc, slot_test(alloc, source, frame, slot))
+    with_enable(alloc, slot_test(alloc, source, frame, slot))
 }
 
 /// Whether the clock is enabled, and the last of a frame's, and `enable` isn't 0 where nothing is reset.
@@ -118,8 +123,8 @@ pub fn enabled_taking(
 {
     let last = slot_test(alloc, source, frame, last_slot(source, frame));
     if reset {
-        return enabled(alloc, last);
+        return with_enable(alloc, last);
     }
     let test = test_of(alloc, operand(source, enable as usize));
-    enabled(alloc, binary(alloc, BinOp::Both, last, test))
+    with_enable(alloc, binary(alloc, BinOp::Both, last, test))
 }

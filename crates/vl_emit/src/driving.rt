@@ -16,7 +16,7 @@ ghost use Rattle.vl_emit.specs.Names.{hold_name};
 ghost use Rattle.vl_emit.specs.inner.Spoken.{wire_at, CanBeWritten};
 
 use crate::conditions::{clocks, enable, enabled_slot, enabled_taking, live_test};
-use crate::operands::{Operand, hold_text, named, text_of};
+use crate::operands::{Operand, hold_text, operand_name, text_of};
 use crate::operators::{binary, choose, constant, expression, in_width, plain, test_of};
 use crate::source::{Source, input_operand, operand};
 use fx_io::OutOfMemory;
@@ -102,14 +102,14 @@ pub fn unit_item(
 }
 
 /// What a Counter takes: one less than it has, and the greatest after 0.
-fn counted(alloc: Global, net: Operand, greatest: Sized) -> Result<Expr, OutOfMemory>
+fn next_count(alloc: Global, net: Operand, greatest: Sized) -> Result<Expr, OutOfMemory>
     requires { CanBeWritten net }
     ensures { IfOk result (λ e. e ≡ Choose (test_of (wire_at net.entry))
         (Binary Subtract (Name (wire_at net.entry).name) (Literal (plain_number net.entry.width 1)))
         (Literal greatest)) }
 {
     let one = Expr::Literal(plain(net.width, 1));
-    let less = binary(alloc, BinOp::Subtract, named(alloc, net), Ok(one));
+    let less = binary(alloc, BinOp::Subtract, operand_name(alloc, net), Ok(one));
     let greatest = Expr::Literal(greatest);
     choose(alloc, test_of(alloc, net), less, Ok(greatest))
 }
@@ -131,7 +131,7 @@ pub fn counter_item(
         text_of(alloc, net.called),
         plain(net.width, start + top),
         enable(alloc),
-        counted(alloc, net, plain(net.width, top)),
+        next_count(alloc, net, plain(net.width, top)),
     )
 }
 
@@ -153,13 +153,13 @@ pub fn reg_item(
         text_of(alloc, operand(source, own).called),
         constant(net.width, net.signed, first),
         enabled_slot(alloc, source, frame, u64::from(slot)),
-        named(alloc, operand(source, from as usize)),
+        operand_name(alloc, operand(source, from as usize)),
     )
 }
 
 /// What a register with enable takes: the value of a net, or `begun` where it is reset and `enable`
 /// is 0.
-fn taken(
+fn next_value(
     alloc: Global,
     source: Source,
     enable: u32,
@@ -171,7 +171,7 @@ fn taken(
     requires from { IsNet source from }
     ensures { IfOk result (λ e. e ≡ taken_in source.entry enable reset from begun) }
 {
-    let value = named(alloc, operand(source, from as usize));
+    let value = operand_name(alloc, operand(source, from as usize));
     if !reset {
         return value;
     }
@@ -200,12 +200,12 @@ pub fn enabled_item(
         text_of(alloc, operand(source, own).called),
         constant(net.width, net.signed, first),
         enabled_taking(alloc, source, frame, enable, reset),
-        taken(alloc, source, enable, reset, from, begun),
+        next_value(alloc, source, enable, reset, from, begun),
     )
 }
 
 /// What a bridge shows: another net where it is live, else what its register holds.
-fn bridged(
+fn bridge_value(
     alloc: Global,
     source: Source,
     own: usize,
@@ -219,7 +219,7 @@ fn bridged(
 {
     let held = Expr::Name(hold_text(alloc, own)?);
     let test = live_test(alloc, source, frame, live);
-    let passed = named(alloc, operand(source, from as usize));
+    let passed = operand_name(alloc, operand(source, from as usize));
     choose(alloc, test, passed, Ok(held))
 }
 
@@ -237,13 +237,13 @@ pub fn put_bridge(
     ensures { OnOk result (items.new ≡ items.old ++ bridge_in source.entry own frame live from) }
 {
     let net = operand(source, own);
-    let value = bridged(alloc, source, own, frame, live, from);
+    let value = bridge_value(alloc, source, own, frame, live, from);
     put(items, assignment(text_of(alloc, net.called), value))?;
     let held = register(
         hold_text(alloc, own),
         plain(net.width, 0),
         enable(alloc),
-        named(alloc, net),
+        operand_name(alloc, net),
     );
     put(items, held)
 }

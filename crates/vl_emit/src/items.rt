@@ -9,7 +9,7 @@ ghost use Rattle.vl_emit.specs.inner.Ready.{net_items, first_in, all_shown};
 
 use crate::conditions::enable;
 use crate::driving::{comb_item, counter_item, enabled_item, put, put_bridge, reg_item, unit_item};
-use crate::operands::{hold_text, named, text_of};
+use crate::operands::{hold_text, operand_name, text_of};
 use crate::source::{Source, operand};
 use fx_io::{OutOfMemory, Text};
 use hw_net::NetKind;
@@ -139,7 +139,7 @@ fn show_outputs(alloc: Global, source: Source, items: &mut ModItems) -> Result<(
 {
     for output in source.netlist.outputs() {
         let name = Text::copy(alloc, output.name.bytes());
-        let value = named(alloc, operand(source, output.net as usize));
+        let value = operand_name(alloc, operand(source, output.net as usize));
         put(items, assignment(name, value))?;
     }
     Ok(())

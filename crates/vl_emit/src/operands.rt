@@ -56,7 +56,7 @@ pub fn hold_text(alloc: Global, number: usize) -> Result<Text, OutOfMemory>
 }
 
 /// An operand by its name.
-pub fn named(alloc: Global, operand: Operand) -> Result<Expr, OutOfMemory>
+pub fn operand_name(alloc: Global, operand: Operand) -> Result<Expr, OutOfMemory>
     ensures { IfOk result (λ e. e ≡ Name (wire_at operand.entry).name) }
 {
     Ok(Expr::Name(text_of(alloc, operand.called)?))

@@ -11,7 +11,7 @@ ghost use Rattle.vl_emit.specs.inner.Spoken.{wire_at, CanBeWritten, HasRoom};
 ghost use Rattle.vl_emit.specs.inner.Spoken.{CanBeAt, CanBothBeAt, CanBeExpressed};
 ghost use Rattle.vl_emit.specs.inner.Spoken.{both_at, comparison_at, choice_at, operation_at};
 
-use crate::operands::{Operand, at_width, beside, named, piece, zeros};
+use crate::operands::{Operand, at_width, beside, operand_name, piece, zeros};
 use fx_io::OutOfMemory;
 use hw_net::NetOp;
 use std::alloc::Global;
@@ -74,7 +74,7 @@ pub fn choose(
 }
 
 /// An operand at the width at which it is compared.
-fn compared(alloc: Global, signed: bool, operand: Operand, width: u32) -> Result<Expr, OutOfMemory>
+fn comparand(alloc: Global, signed: bool, operand: Operand, width: u32) -> Result<Expr, OutOfMemory>
     requires { CanBeAt operand width }
     ensures { IfOk result (λ e. e ≡ compared signed (at_width width (wire_at operand.entry))) }
 {
@@ -102,7 +102,11 @@ pub fn in_width(
 }
 
 /// A bit, which may have wanted memory, at a width.
-fn widened(alloc: Global, width: u32, bit: Result<Expr, OutOfMemory>) -> Result<Expr, OutOfMemory>
+fn bit_at_width(
+    alloc: Global,
+    width: u32,
+    bit: Result<Expr, OutOfMemory>,
+) -> Result<Expr, OutOfMemory>
     requires { 1 ≤ width }
     ensures { (is : Expr) → IfOk bit (λ e. e ≡ is) → IfOk result (λ e. e ≡ widened width is) }
 {
@@ -142,7 +146,7 @@ pub fn test_of(alloc: Global, operand: Operand) -> Result<Expr, OutOfMemory>
     requires { CanBeWritten operand }
     ensures { IfOk result (λ e. e ≡ test_of (wire_at operand.entry)) }
 {
-    let name = named(alloc, operand);
+    let name = operand_name(alloc, operand);
     if operand.width == 1 {
         return name;
     }
@@ -155,9 +159,9 @@ fn less(alloc: Global, left: Operand, right: Operand, width: u32) -> Result<Expr
 {
     let common = common_width(left, right);
     let signed = left.signed || right.signed;
-    let one = compared(alloc, signed, left, common);
-    let other = compared(alloc, signed, right, common);
-    widened(alloc, width, binary(alloc, BinOp::Less, one, other))
+    let one = comparand(alloc, signed, left, common);
+    let other = comparand(alloc, signed, right, common);
+    bit_at_width(alloc, width, binary(alloc, BinOp::Less, one, other))
 }
 
 fn equal(alloc: Global, left: Operand, right: Operand, width: u32) -> Result<Expr, OutOfMemory>
@@ -165,7 +169,7 @@ fn equal(alloc: Global, left: Operand, right: Operand, width: u32) -> Result<Exp
     ensures { IfOk result (λ e. e ≡ comparison_at Equal width left.entry right.entry) }
 {
     let common = common_width(left, right);
-    widened(
+    bit_at_width(
         alloc,
         width,
         in_width(alloc, BinOp::Equal, left, right, common),

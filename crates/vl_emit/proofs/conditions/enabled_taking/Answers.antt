@@ -20,11 +20,11 @@ test_of-test-requires c = c.operand.ensures.word
 pub returns-then-reset : goal.returns-then-reset
 returns-then-reset c =
     let last = subst (λ (slot : ℕ). IfOk c.slot_test-last.result (λ e. e ≡ slot_in c.args.source c.args.frame slot)) c.last_slot.ensures c.slot_test-last.ensures in
-    subst (λ (reset : Bool). IfOk c.enabled.result (λ e. e ≡ gated_condition (Some (taking_in c.args.source c.args.frame c.args.enable reset)))) (sym c.if-reset.true) (c.enabled.ensures _ last)
+    subst (λ (reset : Bool). IfOk c.with_enable.result (λ e. e ≡ gated_condition (Some (taking_in c.args.source c.args.frame c.args.enable reset)))) (sym c.if-reset.true) (c.with_enable.ensures _ last)
 
 pub returns : goal.returns
 returns c =
     let last = subst (λ (slot : ℕ). IfOk c.slot_test-last.result (λ e. e ≡ slot_in c.args.source c.args.frame slot)) c.last_slot.ensures c.slot_test-last.ensures in
     let test = subst (λ (w : Wire). IfOk c.test_of-test.result (λ e. e ≡ test_of w)) c.operand.ensures.wire c.test_of-test.ensures in
-    subst (λ (reset : Bool). IfOk c.enabled-2.result (λ e. e ≡ gated_condition (Some (taking_in c.args.source c.args.frame c.args.enable reset)))) (sym c.if-reset.false)
-    (c.enabled-2.ensures _ (c.binary.ensures _ _ last test))
+    subst (λ (reset : Bool). IfOk c.with_enable-2.result (λ e. e ≡ gated_condition (Some (taking_in c.args.source c.args.frame c.args.enable reset)))) (sym c.if-reset.false)
+    (c.with_enable-2.ensures _ (c.binary.ensures _ _ last test))

@@ -8,6 +8,6 @@ use Rattle.vl_emit.proofs.conditions.live_test.Goals as goal
 
 pub returns : goal.returns
 returns c =
-    let name = subst (λ (w : Wire). IfOk c.named.result (λ e. e ≡ Name w.name)) c.counter-counter.ensures.wire c.named.ensures in
+    let name = subst (λ (w : Wire). IfOk c.operand_name.result (λ e. e ≡ Name w.name)) c.counter-counter.ensures.wire c.operand_name.ensures in
     let bound : c.plain.result ≡ plain_number (counter_in c.args.source c.args.frame).width ((c.args.frame.period - c.args.live) * cycles_in c.args.source) = search rules in
     c.binary.ensures _ _ name (ap (λ (number : Sized). Literal number) bound)

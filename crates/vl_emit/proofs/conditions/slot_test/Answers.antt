@@ -17,7 +17,7 @@ pub returns : goal.returns
 returns c =
     let counter : Wire = counter_in c.args.source c.args.frame in
     let clocks : ℕ = c.args.frame.period * cycles_in c.args.source in
-    let name = subst (λ (w : Wire). IfOk c.named.result (λ e. e ≡ Name w.name)) c.counter-counter.ensures.wire c.named.ensures in
+    let name = subst (λ (w : Wire). IfOk c.operand_name.result (λ e. e ≡ Name w.name)) c.counter-counter.ensures.wire c.operand_name.ensures in
     let number : c.plain.result ≡ plain_number counter.width (clocks - 1 - c.args.slot) =
     c.plain.ensures ∙ ap (λ (n : ℕ). plain_number c.counter-counter.result.width n) c.from.ensures
     ∙ ap (λ (w : Wire). plain_number w.width (c.clocks-clocks.result - 1 - c.args.slot)) c.counter-counter.ensures.wire

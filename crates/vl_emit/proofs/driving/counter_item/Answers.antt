@@ -20,7 +20,7 @@ returns c =
     let first : c.plain.result ≡ plain_number width (frame.latency * cycles + (frame.period * cycles - 1)) = search rules in
     let greatest : c.plain-2.result ≡ plain_number width (frame.period * cycles - 1) = search rules in
     let name = subst (λ (w : Wire). IfOk c.text_of.result (λ text. text ≡ w.name)) c.operand-net.ensures.wire c.text_of.ensures in
-    let counted = subst (λ (w : Wire). IfOk c.counted.result (λ e. e ≡ Choose (test_of w) (Binary Subtract (Name w.name) (Literal (plain_number w.width 1))) (Literal c.plain-2.result))) c.operand-net.ensures.wire c.counted.ensures in
+    let counted = subst (λ (w : Wire). IfOk c.next_count.result (λ e. e ≡ Choose (test_of w) (Binary Subtract (Name w.name) (Literal (plain_number w.width 1))) (Literal c.plain-2.result))) c.operand-net.ensures.wire c.next_count.ensures in
     let own = wire_in source c.args.own in
-    let taken = subst (λ (b : Sized). IfOk c.counted.result (λ e. e ≡ Choose (test_of own) (Binary Subtract (Name own.name) (Literal (plain_number own.width 1))) (Literal b))) greatest counted in
+    let taken = subst (λ (b : Sized). IfOk c.next_count.result (λ e. e ≡ Choose (test_of own) (Binary Subtract (Name own.name) (Literal (plain_number own.width 1))) (Literal b))) greatest counted in
     if-alone c.register.result _ (c.register.ensures _ _ _ _ first name c.enable.ensures taken)

@@ -20,11 +20,11 @@ enabled_taking-requires-clause-frame c = record { is = c.requires.net.is; timed 
 pub enabled_taking-requires-clause-enable : goal.enabled_taking-requires-clause-enable
 enabled_taking-requires-clause-enable c = c.requires.ready.2
 
-pub taken-requires-clause-enable : goal.taken-requires-clause-enable
-taken-requires-clause-enable c = record { is = c.requires.net.is; there = c.requires.ready.2 }
+pub next_value-requires-clause-enable : goal.next_value-requires-clause-enable
+next_value-requires-clause-enable c = record { is = c.requires.net.is; there = c.requires.ready.2 }
 
-pub taken-requires-clause-from : goal.taken-requires-clause-from
-taken-requires-clause-from c = record { is = c.requires.net.is; there = c.requires.ready.1 }
+pub next_value-requires-clause-from : goal.next_value-requires-clause-from
+next_value-requires-clause-from c = record { is = c.requires.net.is; there = c.requires.ready.1 }
 
 pub returns : goal.returns
 returns c =
@@ -34,6 +34,6 @@ returns c =
     let number = c.constant.ensures ∙ (λ i. constant (net i).width (same i)) in
     let begun = c.constant-begun.ensures ∙ (λ i. constant (net i).width (same i)) in
     let name = subst (λ (w : Wire). IfOk c.text_of.result (λ text. text ≡ w.name)) c.operand.ensures.wire c.text_of.ensures in
-    let taken = subst (λ (b : Sized). IfOk c.taken.result (λ e. e ≡ taken_in source c.args.enable c.args.reset c.args.from b)) begun c.taken.ensures in
+    let taken = subst (λ (b : Sized). IfOk c.next_value.result (λ e. e ≡ taken_in source c.args.enable c.args.reset c.args.from b)) begun c.next_value.ensures in
     subst (λ (items : List ModItem). IfOk c.register.result (λ item. item ∷ [] ≡ items)) (enabled-driver source c.args.own c.args.frame c.args.enable c.args.reset c.args.first c.args.from)
     (if-alone c.register.result _ (c.register.ensures _ _ _ _ number name c.enabled_taking.ensures taken))

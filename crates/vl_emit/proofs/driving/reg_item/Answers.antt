@@ -19,7 +19,7 @@ returns c =
     let first = c.constant.ensures ∙ (λ i. constant (net i).width (same i)) in
     let name = subst (λ (w : Wire). IfOk c.text_of.result (λ text. text ≡ w.name)) c.operand.ensures.wire c.text_of.ensures in
     let test = subst (λ (slot : ℕ). IfOk c.enabled_slot.result (λ e. e ≡ gated_condition (Some (slot_in source frame slot)))) c.from.ensures c.enabled_slot.ensures in
-    let taken = subst (λ (w : Wire). IfOk c.named.result (λ e. e ≡ Name w.name)) c.operand-2.ensures.wire c.named.ensures in
+    let taken = subst (λ (w : Wire). IfOk c.operand_name.result (λ e. e ≡ Name w.name)) c.operand-2.ensures.wire c.operand_name.ensures in
     if-alone c.register.result _ (c.register.ensures _ _ _ _ first name test taken)
 
 pub operand-requires : goal.operand-requires

@@ -17,7 +17,7 @@ loop-output-preserved c =
     let f : NetPort → ModItem = output_item (naming_of (circuit_of c.args.source)) in
     let is : x ≡ get_or outs i x = subst (λ (os : List NetPort). x ≡ get_or os i x) c.outputs-output-items.ensures c.output-item.is in
     let below : i < length outs = subst (λ (os : List NetPort). i < length os) c.outputs-output-items.ensures c.loop-output-test.true in
-    let value = subst (λ (w : Wire). IfOk c.named-value.result (λ e. e ≡ Name w.name)) c.operand.ensures.wire c.named-value.ensures in
+    let value = subst (λ (w : Wire). IfOk c.operand_name-value.result (λ e. e ≡ Name w.name)) c.operand.ensures.wire c.operand_name-value.ensures in
     let name = subst (λ (text : List ℕ). IfOk c.copy-name.result (λ made. made ≡ text)) c.bytes.ensures c.copy-name.ensures in
     let put = c.in_ok-put.ensures _ (if-alone c.assignment.result _ (c.assignment.ensures _ _ name value)) in
     put-mapped f outs c.args.items.now c.loop-output.items _ i x below is c.loop-output.invariant put

@@ -13,10 +13,10 @@ common_width-common-requires-clause-right c = c.requires.right
 pub in_width-requires : goal.in_width-requires
 in_width-requires c = record { left = c.requires.left; right = c.requires.right; room = c.common_width-common.ensures.room }
 
-pub widened-requires : goal.widened-requires
-widened-requires c = c.requires.room.0
+pub bit_at_width-requires : goal.bit_at_width-requires
+bit_at_width-requires c = c.requires.room.0
 
 pub returns : goal.returns
 returns c =
-    subst (λ (n : ℕ). IfOk c.widened.result (λ made. made ≡ widened c.args.width (both_at binary.Equal n c.args.left c.args.right))) c.common_width-common.ensures.is
-    (c.widened.ensures _ c.in_width.ensures)
+    subst (λ (n : ℕ). IfOk c.bit_at_width.result (λ made. made ≡ widened c.args.width (both_at binary.Equal n c.args.left c.args.right))) c.common_width-common.ensures.is
+    (c.bit_at_width.ensures _ c.in_width.ensures)

@@ -14,14 +14,14 @@ common_width-common-requires-clause-left c = c.requires.left
 pub common_width-common-requires-clause-right : goal.common_width-common-requires-clause-right
 common_width-common-requires-clause-right c = c.requires.right
 
-pub compared-one-requires : goal.compared-one-requires
-compared-one-requires c = record { word = c.requires.left; room = c.common_width-common.ensures.room }
+pub comparand-one-requires : goal.comparand-one-requires
+comparand-one-requires c = record { word = c.requires.left; room = c.common_width-common.ensures.room }
 
-pub compared-other-requires : goal.compared-other-requires
-compared-other-requires c = record { word = c.requires.right; room = c.common_width-common.ensures.room }
+pub comparand-other-requires : goal.comparand-other-requires
+comparand-other-requires c = record { word = c.requires.right; room = c.common_width-common.ensures.room }
 
-pub widened-requires : goal.widened-requires
-widened-requires c = c.requires.room.0
+pub bit_at_width-requires : goal.bit_at_width-requires
+bit_at_width-requires c = c.requires.room.0
 
 pub returns : goal.returns
 returns c =
@@ -32,6 +32,6 @@ returns c =
       | else-left w ↦ w.signed-is ∙ sym (ap (λ (b : Bool). b || c.args.right.signed) w.if-left.false)
     ] in
     let width = c.common_width-common.ensures.is in
-    subst (λ (e : Expr). IfOk c.widened.result (λ made. made ≡ widened c.args.width e))
+    subst (λ (e : Expr). IfOk c.bit_at_width.result (λ made. made ≡ widened c.args.width e))
     (λ i. Binary binary.Less (compared (sign i) (at_width (width i) one)) (compared (sign i) (at_width (width i) other)))
-    (c.widened.ensures _ (c.binary.ensures _ _ c.compared-one.ensures c.compared-other.ensures))
+    (c.bit_at_width.ensures _ (c.binary.ensures _ _ c.comparand-one.ensures c.comparand-other.ensures))

@@ -4,7 +4,7 @@ use Rattle.vl_ast.specs.declared.expressions.Expr.TheVariants.{AsSigned}
 use Rattle.vl_emit.specs.inner.Operators.{compared}
 use Rattle.vl_emit.specs.inner.Spelled.{at_width}
 use Rattle.vl_emit.specs.inner.Spoken.{wire_at}
-use Rattle.vl_emit.proofs.operators.compared.Goals as goal
+use Rattle.vl_emit.proofs.operators.comparand.Goals as goal
 
 pub returns : goal.returns
 returns c =
