@@ -5,7 +5,7 @@ ghost use Rattle.vl_ast.specs.declared.modules.ModItem.TheVariants.{Wire, Reg};
 ghost use Rattle.st_wrap.specs.inner.Control.{control_declared, control_driven, handshake_driven, signals_driven};
 ghost use Rattle.st_wrap.specs.inner.Control.{is_due_now, next_phase, next_wait, number, phase_item, unless, wait_item};
 
-use crate::expressions::{is_zero, joined, moving, name_of, named, number, plain};
+use crate::expressions::{binary_of_names, boxed_name, is_zero, moving, name_of, number, plain};
 use crate::items::{assign, put};
 use crate::pace::{Counter, Counters};
 use fx_io::{OutOfMemory, Text};
@@ -62,21 +62,21 @@ fn with_number(
 ) -> Result<Expr, OutOfMemory>
     ensures { IfOk result (λ e. e ≡ Binary op (Name name.now) (number width bits)) }
 {
-    binary(op, named(alloc, name), number(alloc, width, bits))
+    binary(op, boxed_name(alloc, name), number(alloc, width, bits))
 }
 
 fn is_due(alloc: Global) -> Result<Expr, OutOfMemory>
     ensures { IfOk result (λ e. e ≡ is_due_now) }
 {
     let none = in_box(alloc, is_zero(alloc, b"fx_wait"));
-    binary(BinOp::Both, named(alloc, b"fx_end"), none)
+    binary(BinOp::Both, boxed_name(alloc, b"fx_end"), none)
 }
 
 fn unless(alloc: Global, name: &[u8], signal: &[u8]) -> Result<Expr, OutOfMemory>
     ensures { IfOk result (λ e. e ≡ unless name.now signal.now) }
 {
     let other = in_box(alloc, is_zero(alloc, name));
-    binary(BinOp::Either, other, named(alloc, signal))
+    binary(BinOp::Either, other, boxed_name(alloc, signal))
 }
 
 fn next_phase(alloc: Global, phase: Counter) -> Result<Expr, OutOfMemory>
@@ -86,7 +86,11 @@ fn next_phase(alloc: Global, phase: Counter) -> Result<Expr, OutOfMemory>
         alloc,
         with_number(alloc, BinOp::Add, b"fx_phase", phase.width, 1),
     );
-    choose(named(alloc, b"fx_end"), number(alloc, phase.width, 0), more)
+    choose(
+        boxed_name(alloc, b"fx_end"),
+        number(alloc, phase.width, 0),
+        more,
+    )
 }
 
 fn next_wait(alloc: Global, wait: Counter) -> Result<Expr, OutOfMemory>
@@ -97,7 +101,7 @@ fn next_wait(alloc: Global, wait: Counter) -> Result<Expr, OutOfMemory>
         with_number(alloc, BinOp::Subtract, b"fx_wait", wait.width, 1),
     );
     choose(
-        named(alloc, b"fx_wait"),
+        boxed_name(alloc, b"fx_wait"),
         fewer,
         number(alloc, wait.width, 0),
     )
@@ -119,11 +123,11 @@ fn put_assignments(alloc: Global, phase: Counter, items: &mut ModItems) -> Resul
 fn put_handshake(alloc: Global, items: &mut ModItems) -> Result<(), OutOfMemory>
     ensures { OnOk result (items.new ≡ items.old ++ handshake_driven) }
 {
-    let moves = joined(alloc, BinOp::Both, b"fx_fed", b"fx_open");
+    let moves = binary_of_names(alloc, BinOp::Both, b"fx_fed", b"fx_open");
     assign(alloc, b"fx_core_clk_enable", moves, items)?;
-    let ready = joined(alloc, BinOp::Both, b"fx_begin", b"fx_open");
+    let ready = binary_of_names(alloc, BinOp::Both, b"fx_begin", b"fx_open");
     assign(alloc, b"in_ready", ready, items)?;
-    let valid = joined(alloc, BinOp::Both, b"fx_due", b"fx_fed");
+    let valid = binary_of_names(alloc, BinOp::Both, b"fx_due", b"fx_fed");
     assign(alloc, b"out_valid", valid, items)
 }
 

@@ -17,7 +17,7 @@ pub fn name_of(name: Result<Text, OutOfMemory>) -> Result<Expr, OutOfMemory>
 }
 
 /// A name.
-pub fn named(alloc: Global, name: &[u8]) -> Result<Boxed<Expr>, OutOfMemory>
+pub fn boxed_name(alloc: Global, name: &[u8]) -> Result<Boxed<Expr>, OutOfMemory>
     ensures { IfOk result (λ e. e ≡ Name name.now) }
 {
     Boxed::new(alloc, Expr::Name(Text::copy(alloc, name)?))
@@ -45,19 +45,24 @@ pub fn number(alloc: Global, width: u32, bits: u64) -> Result<Boxed<Expr>, OutOf
 pub fn is_zero(alloc: Global, name: &[u8]) -> Result<Expr, OutOfMemory>
     ensures { IfOk result (λ e. e ≡ is_zero name.now) }
 {
-    Ok(Expr::Unary(UnOp::IsZero, named(alloc, name)?))
+    Ok(Expr::Unary(UnOp::IsZero, boxed_name(alloc, name)?))
 }
 
 /// An operator between two names.
-pub fn joined(alloc: Global, op: BinOp, left: &[u8], right: &[u8]) -> Result<Expr, OutOfMemory>
+pub fn binary_of_names(
+    alloc: Global,
+    op: BinOp,
+    left: &[u8],
+    right: &[u8],
+) -> Result<Expr, OutOfMemory>
     ensures { IfOk result (λ e. e ≡ Binary op (Name left.now) (Name right.now)) }
 {
-    binary(op, named(alloc, left), named(alloc, right))
+    binary(op, boxed_name(alloc, left), boxed_name(alloc, right))
 }
 
 /// The row moves, and the name is 1.
 pub fn moving(alloc: Global, name: &[u8]) -> Result<Expr, OutOfMemory>
     ensures { IfOk result (λ e. e ≡ moving name.now) }
 {
-    joined(alloc, BinOp::Both, b"fx_core_clk_enable", name)
+    binary_of_names(alloc, BinOp::Both, b"fx_core_clk_enable", name)
 }

@@ -6,7 +6,7 @@ ghost use Rattle.st_wrap.specs.inner.Columns.{held_driven, items_for, late_decla
 ghost use Rattle.st_wrap.specs.inner.Columns.{stage_declared, stage_driven, stage_name};
 
 use crate::columns::Column;
-use crate::expressions::{moving, name_of, named, plain};
+use crate::expressions::{boxed_name, moving, name_of, plain};
 use crate::items::{assign, put};
 use crate::names::{held_name, inner_name, late_name};
 use fx_io::{Boxed, OutOfMemory, Text};
@@ -34,8 +34,8 @@ fn fresh_or_held(alloc: Global, column: &Column) -> Result<Expr, OutOfMemory>
     let held = Expr::Name(held_name(alloc, column.name.bytes())?);
     let held = Boxed::new(alloc, held);
     choose(
-        named(alloc, b"fx_begin"),
-        named(alloc, column.name.bytes()),
+        boxed_name(alloc, b"fx_begin"),
+        boxed_name(alloc, column.name.bytes()),
         held,
     )
 }

@@ -15,7 +15,7 @@ use vl_ast::{
 /// An expression over the names that the core's have in the wrapper. The recursion is as deep as the
 /// expression nests.
 #[cycle(renaming)]
-fn renamed(alloc: Global, e: &Expr) -> Result<Expr, OutOfMemory>
+fn renamed_expr(alloc: Global, e: &Expr) -> Result<Expr, OutOfMemory>
     ensures { IfOk result (λ made. made ≡ renamed e.now) }
 {
     match e {
@@ -50,7 +50,7 @@ fn renamed(alloc: Global, e: &Expr) -> Result<Expr, OutOfMemory>
 fn renamed_boxed(alloc: Global, e: &Expr) -> Result<Boxed<Expr>, OutOfMemory>
     ensures { IfOk result (λ made. made ≡ renamed e.now) }
 {
-    in_box(alloc, renamed(alloc, e))
+    in_box(alloc, renamed_expr(alloc, e))
 }
 
 #[cycle(renaming)]
@@ -59,7 +59,7 @@ fn renamed_parts(alloc: Global, parts: &[Expr]) -> Result<Exprs, OutOfMemory>
 {
     let mut made = Exprs::new(alloc);
     for part in parts {
-        made.push(renamed(alloc, part)?)?;
+        made.push(renamed_expr(alloc, part)?)?;
     }
     Ok(made)
 }
@@ -69,7 +69,7 @@ fn renamed_condition(alloc: Global, condition: &Option<Expr>) -> Result<Option<E
 {
     match condition {
         None => Ok(None),
-        Some(condition) => Ok(Some(renamed(alloc, condition)?)),
+        Some(condition) => Ok(Some(renamed_expr(alloc, condition)?)),
     }
 }
 
@@ -88,7 +88,7 @@ fn renamed_item(alloc: Global, item: &ModItem) -> Result<ModItem, OutOfMemory>
             name,
         } => reg(*signed, *width, inner_name(alloc, name.bytes())),
         ModItem::Assign { name, value } => {
-            assignment(inner_name(alloc, name.bytes()), renamed(alloc, value))
+            assignment(inner_name(alloc, name.bytes()), renamed_expr(alloc, value))
         }
         ModItem::Always {
             name,
@@ -99,7 +99,7 @@ fn renamed_item(alloc: Global, item: &ModItem) -> Result<ModItem, OutOfMemory>
             inner_name(alloc, name.bytes()),
             *first,
             renamed_condition(alloc, condition),
-            renamed(alloc, value),
+            renamed_expr(alloc, value),
         ),
     }
 }

@@ -8,6 +8,6 @@ use Rattle.st_wrap.proofs.control.put_handshake.Goals as goal
 
 pub returns : goal.returns
 returns c =
-    let one = c.in_ok-assign.ensures (both fed_name open_name) c.joined-moves.ensures in
-    let two = put-next c.args.items.now c.assign.new.items c.assign-2.new.items (Assign enable_name (both fed_name open_name) ∷ []) (Assign (codes "in_ready") (both begin_name open_name)) one (c.in_ok-assign-2.ensures (both begin_name open_name) c.joined-ready.ensures) in
-    on_ok_weaker c.assign-3.result (λ put. put-next c.args.items.now c.assign-2.new.items c.assign-3.new.items (Assign enable_name (both fed_name open_name) ∷ Assign (codes "in_ready") (both begin_name open_name) ∷ []) (Assign (codes "out_valid") (both due_name fed_name)) two put) (c.assign-3.ensures (both due_name fed_name) c.joined-valid.ensures)
+    let one = c.in_ok-assign.ensures (both fed_name open_name) c.binary_of_names-moves.ensures in
+    let two = put-next c.args.items.now c.assign.new.items c.assign-2.new.items (Assign enable_name (both fed_name open_name) ∷ []) (Assign (codes "in_ready") (both begin_name open_name)) one (c.in_ok-assign-2.ensures (both begin_name open_name) c.binary_of_names-ready.ensures) in
+    on_ok_weaker c.assign-3.result (λ put. put-next c.args.items.now c.assign-2.new.items c.assign-3.new.items (Assign enable_name (both fed_name open_name) ∷ Assign (codes "in_ready") (both begin_name open_name) ∷ []) (Assign (codes "out_valid") (both due_name fed_name)) two put) (c.assign-3.ensures (both due_name fed_name) c.binary_of_names-valid.ensures)

@@ -17,10 +17,10 @@ returns-in-Reg c =
 pub returns-in-Assign : goal.returns-in-Assign
 returns-in-Assign c =
     let name = subst (λ (text : List ℕ). IfOk c.inner_name-in-Assign.result (λ made. made ≡ inner_name text)) c.bytes-in-Assign.ensures c.inner_name-in-Assign.ensures in
-    subst (λ (item : ModItem). IfOk c.assignment.result (λ made. made ≡ renamed_item item)) (sym c.in-Assign.is) (c.assignment.ensures _ _ name c.renamed.ensures)
+    subst (λ (item : ModItem). IfOk c.assignment.result (λ made. made ≡ renamed_item item)) (sym c.in-Assign.is) (c.assignment.ensures _ _ name c.renamed_expr.ensures)
 
 pub returns-in-Always : goal.returns-in-Always
 returns-in-Always c =
     let name = subst (λ (text : List ℕ). IfOk c.inner_name-in-Always.result (λ made. made ≡ inner_name text)) c.bytes-in-Always.ensures c.inner_name-in-Always.ensures in
     subst (λ (item : ModItem). IfOk c.clocked_item.result (λ made. made ≡ renamed_item item)) (sym c.in-Always.is)
-    (c.clocked_item.ensures _ _ _ _ refl name c.renamed_condition.ensures c.renamed-in-Always.ensures)
+    (c.clocked_item.ensures _ _ _ _ refl name c.renamed_condition.ensures c.renamed_expr-in-Always.ensures)
