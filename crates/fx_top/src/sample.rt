@@ -107,7 +107,7 @@ fn sample_response(alloc: Global, checked: &Checked, number: u32) -> Result<Text
 }
 
 /// Why the texts of a sample make no design.
-fn undesigned(number: u32, fault: DesignFault) -> SampleFault
+fn fault_of_design(number: u32, fault: DesignFault) -> SampleFault
     requires few { number ≤ 5000 }
     requires cause { IsRefusedDesign (sample_model number) sample_plan fault }
     ensures { IsSampleFault number result }
@@ -132,7 +132,7 @@ fn sample_design(alloc: Global, number: u32) -> Result<Designed, SampleFault>
     let model = model_text(alloc, number)?;
     match designed_of(alloc, model.bytes(), plan_text()) {
         Ok(designed) => Ok(designed),
-        Err(fault) => Err(undesigned(number, fault)),
+        Err(fault) => Err(fault_of_design(number, fault)),
     }
 }
 
