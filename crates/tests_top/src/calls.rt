@@ -18,7 +18,7 @@ pub struct Answer {
 }
 
 /// What the call of these words answers.
-pub fn answered<R: Threads + Sync>(
+pub fn answer_to<R: Threads + Sync>(
     rt: &R,
     alloc: Global,
     case: &Case,
@@ -27,12 +27,12 @@ pub fn answered<R: Threads + Sync>(
     let mut shelf = shelf_of(alloc, case)?;
     let words = words_of(alloc, line)?;
     match case.takes {
-        Some(takes) => stopped(rt, alloc, case, words.as_slice(), &mut shelf, takes),
-        None => called(rt, alloc, case, words.as_slice(), &mut shelf),
+        Some(takes) => stuck_answer(rt, alloc, case, words.as_slice(), &mut shelf, takes),
+        None => plain_answer(rt, alloc, case, words.as_slice(), &mut shelf),
     }
 }
 
-fn called<R: Threads + Sync>(
+fn plain_answer<R: Threads + Sync>(
     rt: &R,
     alloc: Global,
     case: &Case,
@@ -46,7 +46,7 @@ fn called<R: Threads + Sync>(
 }
 
 /// The same where standard output takes so many pieces and then nothing.
-fn stopped<R: Threads + Sync>(
+fn stuck_answer<R: Threads + Sync>(
     rt: &R,
     alloc: Global,
     case: &Case,
@@ -66,7 +66,7 @@ fn stopped<R: Threads + Sync>(
 }
 
 /// What `sample 1` answers by a bench that tells these bytes.
-pub fn benched<R: Threads + Sync>(rt: &R, alloc: Global, tells: &[u8]) -> Result<Answer> {
+pub fn bench_answer<R: Threads + Sync>(rt: &R, alloc: Global, tells: &[u8]) -> Result<Answer> {
     let mut bench = Fixed { tells };
     let mut out = sink(alloc, &[], ROOM)?;
     let mut err = sink(alloc, &[], ROOM)?;

@@ -1,6 +1,6 @@
 //! What a call finds.
 
-use crate::calls::{Answer, Held, answered, benched};
+use crate::calls::{Answer, Held, answer_to, bench_answer};
 use crate::ends::put_ends;
 use crate::plans::{FEW, WHOLE, put_explored};
 use crate::samples::{put_sample, put_summary};
@@ -48,7 +48,7 @@ impl Case {
         words: &str,
         out: &mut W,
     ) -> Result<()> {
-        let answer = answered(rt, alloc, self, words)?;
+        let answer = answer_to(rt, alloc, self, words)?;
         self.reset();
         put_answer(&answer, out)
     }
@@ -104,13 +104,13 @@ impl Case {
 impl Answers for Case {
     fn take<R: Threads + Sync, W: Write>(&mut self, line: &Line<'_, R>, out: &mut W) -> Result<()> {
         let (rt, alloc) = (line.rt, line.alloc);
-        let Some((call, rest)) = called(line.text) else {
+        let Some((call, rest)) = call_in(line.text) else {
             return put_row(rt, alloc, self, &mut line.row()?, out);
         };
         writeln!(out, "{}", line.text)?;
         match call {
             Call::Bench => {
-                let answer = benched(rt, alloc, rest.as_bytes())?;
+                let answer = bench_answer(rt, alloc, rest.as_bytes())?;
                 put_answer(&answer, out)
             }
             Call::Run => self.run(rt, alloc, rest, out),
@@ -135,7 +135,7 @@ const CALLS: &[(&str, Call)] = &[
 ];
 
 /// What a line calls, and what stands behind that; none where it is a row.
-fn called<'a>(line: &'a str) -> Option<(Call, &'a str)> {
+fn call_in<'a>(line: &'a str) -> Option<(Call, &'a str)> {
     for entry in CALLS {
         let (begin, call) = *entry;
         if let Some(rest) = line.strip_prefix(begin) {

@@ -1,6 +1,6 @@
 //! Calls whose standard output ends early.
 
-use crate::calls::{Answer, answered};
+use crate::calls::{Answer, answer_to};
 use crate::cases::Case;
 use crate::stuck::PIECE;
 use anyhow::{Error, Result};
@@ -27,7 +27,7 @@ pub fn put_ends<R: Threads + Sync, W: Write>(
     words: &str,
     out: &mut W,
 ) -> Result<()> {
-    let whole = answered(rt, alloc, case, words)?;
+    let whole = answer_to(rt, alloc, case, words)?;
     put_counts(rt, alloc, case, words, whole.out.as_slice(), out)
 }
 
@@ -89,7 +89,7 @@ fn writes<R: Threads + Sync>(
     words: &str,
     whole: &[u8],
 ) -> Result<bool> {
-    let answer = answered(rt, alloc, case, words)?;
+    let answer = answer_to(rt, alloc, case, words)?;
     is_whole(&answer, whole)
 }
 

@@ -27,7 +27,7 @@ impl Meeting {
     }
 
     /// How many workers met the other.
-    pub fn met(&self) -> u64 {
+    pub fn met_count(&self) -> u64 {
         self.met.load(Ordering::SeqCst)
     }
 

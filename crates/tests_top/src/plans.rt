@@ -27,7 +27,7 @@ pub const FEW: Range = Range {
 };
 
 /// How many plans of a model are explored.
-fn explored<R: Threads + Sync>(
+fn plan_count<R: Threads + Sync>(
     rt: &R,
     alloc: Global,
     model: &[u8],
@@ -63,7 +63,7 @@ pub fn put_explored<R: Threads + Sync, W: Write>(
     requires { IsRange range }
 {
     let meeting = Meeting::new(u64::from(range.pairs()).saturating_sub(1));
-    let explored = explored(rt, alloc, model, range, &meeting)?;
-    let met = meeting.met();
+    let explored = plan_count(rt, alloc, model, range, &meeting)?;
+    let met = meeting.met_count();
     written(writeln!(out, "{explored} plans, {met} workers met"))
 }

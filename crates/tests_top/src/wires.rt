@@ -53,11 +53,11 @@ fn meet<R: Threads + Sync>(rt: &R, alloc: Global, count: u32) -> Result<u64> {
     let module = module_of(alloc, count)?;
     let meeting = Meeting::new(u64::from(count.saturating_sub(1)));
     let _text = write(rt, alloc, &module, &meeting)?;
-    Ok(meeting.met())
+    Ok(meeting.met_count())
 }
 
 /// The bytes of parts, one after another.
-fn joined(alloc: Global, parts: &[Vec<u8>]) -> Result<Vec<u8>> {
+fn whole_text(alloc: Global, parts: &[Vec<u8>]) -> Result<Vec<u8>> {
     let mut text = Vec::new(alloc);
     for part in parts {
         text.extend_from_slice(part.as_slice())?;
@@ -88,7 +88,7 @@ fn is_written<R: Threads + Sync>(
 ) -> Result<bool> {
     let text = write(rt, alloc, module, &OpenGate)?;
     let parts = spelling_parts(rt, alloc, module, &OpenGate)?;
-    let spelled = joined(alloc, parts.as_slice())?;
+    let spelled = whole_text(alloc, parts.as_slice())?;
     Ok(text.bytes() == expected && spelled.as_slice() == expected)
 }
 
