@@ -13,17 +13,29 @@ value_between low high (Some attr) = if nat_le low attr.value && nat_le attr.val
 abbrev pub attribute : List Attr → List ℕ → ℕ → ℕ → Option ℕ
 attribute attrs name low high = value_between low high (find (λ attr. bytes_eq attr.name name) attrs)
 
+-- the most clocks of a base sample
+abbrev pub most_cycles : ℕ
+most_cycles = 1024
+
+-- the greatest period of a port, in base samples
+abbrev pub most_period : ℕ
+most_period = 4096
+
+-- the greatest latency of an output, in clocks
+abbrev pub most_latency : ℕ
+most_latency = 16777216
+
 -- how many clocks a base sample takes
 abbrev pub cycles_of : Module → Option ℕ
-cycles_of m = attribute m.attrs (codes "fx_cycles") 1 1024
+cycles_of m = attribute m.attrs (codes "fx_cycles") 1 most_cycles
 
 -- the period of a port in base samples
 abbrev pub period_of : Port → Option ℕ
-period_of port = attribute port.attrs (codes "fx_period") 1 4096
+period_of port = attribute port.attrs (codes "fx_period") 1 most_period
 
 -- how many clocks an output comes after its sample
 abbrev pub latency_of : Port → Option ℕ
-latency_of port = attribute port.attrs (codes "fx_latency") 0 16777216
+latency_of port = attribute port.attrs (codes "fx_latency") 0 most_latency
 
 -- how many clocks a base sample takes, 1 where the module doesn't say
 abbrev pub clocks_of : Module → ℕ

@@ -5,6 +5,15 @@ ghost use Rattle.vl_ast.specs.Attributes.{clocks_of, lateness_of, step_of};
 
 use crate::modules::{Attr, Module, Port};
 
+/// The most clocks of a base sample (own).
+const MOST_CYCLES: u64 = 1024;
+
+/// The greatest period of a port, in base samples (own).
+const MOST_PERIOD: u64 = 4096;
+
+/// The greatest latency of an output, in clocks (own).
+const MOST_LATENCY: u64 = 16_777_216;
+
 fn find<'a>(attrs: &'a [Attr], name: &[u8]) -> Option<&'a Attr>
     ensures { option_map (λ attr. attr.now) result
         ≡ find (λ attr. bytes_eq attr.name name.now) attrs.now }
@@ -37,21 +46,21 @@ fn attribute(attrs: &[Attr], name: &[u8], low: u64, high: u64) -> Option<u64>
 pub fn cycles_of(source: &Module) -> Option<u64>
     ensures { result ≡ cycles_of source.now }
 {
-    attribute(source.attrs.as_slice(), b"fx_cycles", 1, 1024)
+    attribute(source.attrs.as_slice(), b"fx_cycles", 1, MOST_CYCLES)
 }
 
 /// The period of a port in base samples (own).
 pub fn period_of(port: &Port) -> Option<u64>
     ensures { result ≡ period_of port.now }
 {
-    attribute(port.attrs.as_slice(), b"fx_period", 1, 4096)
+    attribute(port.attrs.as_slice(), b"fx_period", 1, MOST_PERIOD)
 }
 
 /// How many clocks an output comes after its sample (own).
 pub fn latency_of(port: &Port) -> Option<u64>
     ensures { result ≡ latency_of port.now }
 {
-    attribute(port.attrs.as_slice(), b"fx_latency", 0, 16_777_216)
+    attribute(port.attrs.as_slice(), b"fx_latency", 0, MOST_LATENCY)
 }
 
 /// How many clocks a base sample of the module takes, 1 where it doesn't say (own).
