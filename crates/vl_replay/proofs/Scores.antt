@@ -21,7 +21,7 @@ use Rattle.vl_replay.specs.inner.Sampling.{sampler_of}
 use Rattle.vl_replay.specs.inner.Played.{AreNear, IsScoreOf}
 use Rattle.vl_replay.proofs.Bits.{bits-are, fit-from, is_driven, is_reset, not-stimulus, stimulus-of}
 use Rattle.vl_ast.proofs.Ranges.{late-few, step-some}
-use Rattle.vl_ast.specs.Attributes.{clocks_of, lateness_of, step_of}
+use Rattle.vl_ast.specs.Attributes.{clocks_of, lateness_of, most_latency, step_of}
 use Rattle.vl_ast.proofs.PortLists.{filter-in}
 
 abbrev Narrow : List Port → Type 0
@@ -102,6 +102,6 @@ module _ (m : Module) (score : Score) (is : IsScoreOf m score) where
 
   pub samplers-near : AreNear score.samplers.items
   samplers-near = record {
-    delay = λ place sampler e. mapped-back (sampler_of (clocks_of m)) (λ (s : Sampler). s.delay ≤ 16777216) (output_ports m)
+    delay = λ place sampler e. mapped-back (sampler_of (clocks_of m)) (λ (s : Sampler). s.delay ≤ most_latency) (output_ports m)
         (λ port. let l = late-few port in let d = div-le_self (lateness_of port) (clocks_of m) in omega (arith, l, d)) place sampler (ap (λ xs. slice_get xs place) (sym is.samplers) ∙ e);
   }

@@ -1,5 +1,6 @@
 -- What callers see of a replay.
 use Rattle.std.specs.Prelude.{◌≡◌, ◌+◌, ◌*◌, ◌≤◌, length}
+use Rattle.fx_tables.specs.Stimulus.{most_cells}
 use Rattle.fx_tables.specs.declared.table.Rows.{Rows as Table}
 use Rattle.vl_ast.specs.declared.modules.Module.{Module}
 use Rattle.vl_ast.specs.Windows.{Sample}
@@ -17,7 +18,7 @@ stimulus_of replay = replay.score.stimulus
 
 -- the numbers of all samples before this one are given, and the clocks of those that it waits for are passed
 pub record StandsBefore (replay : Replay) (t : Sample) : Type 0 where
-  pub few : replay.score.stimulus.lines ≤ 50000000
+  pub few : replay.score.stimulus.lines ≤ most_cells
   pub wide : length replay.bits.items ≡ length replay.score.drivers.items
   pub delay : IsDelay replay.score replay.delay
   pub window : IsWindow replay.score replay.delay replay.window

@@ -1,4 +1,5 @@
 ghost use Rattle.std.specs.Prelude.{◌≡◌, ◌≤◌, ◌<◌, ◌+◌, ◌*◌, IfOk, length};
+ghost use Rattle.vl_ast.specs.Attributes.{most_latency};
 ghost use Rattle.vl_ast.specs.Conditions.{BreaksNone};
 ghost use Rattle.vl_ast.specs.Driven.{stimulus_ports};
 ghost use Rattle.vl_eval.specs.Machine.{source_of};
@@ -62,7 +63,7 @@ pub fn delay_of(score: &Score) -> u64
 /// For how many samples numbers are held while the latest output is sampled so late: from the
 /// earliest to the latest, and for no more than there are.
 pub fn window_of(score: &Score, delay: u64) -> u64
-    requires late { delay ≤ 16777216 }
+    requires late { delay ≤ most_latency }
     ensures { IsWindow score.now delay result }
 {
     let mut earliest = delay;

@@ -1,4 +1,5 @@
 ghost use Rattle.std.specs.Prelude.{◌≡◌, ◌≤◌, ◌<◌, ◌+◌, ◌*◌, ◌^◌, ℤ, IfOk, OnOk, List, length};
+ghost use Rattle.fx_tables.specs.Stimulus.{most_cells};
 ghost use Rattle.vl_ast.specs.Conditions.{BreaksNone};
 ghost use Rattle.vl_ast.specs.Driven.{output_ports, stimulus_ports};
 ghost use Rattle.vl_ast.specs.Steps.{IsFirstRow};
@@ -47,7 +48,7 @@ impl Replay {
         requires row { IsFirstRow (source_of machine) (λ name. 0) (λ name. 0) (row_of machine) }
         requires columns { stimulus.columns ≡ length (stimulus_ports (source_of machine)) }
         requires outputs { length (output_ports (source_of machine)) < 2 ^ 32 }
-        requires few { stimulus.lines ≤ 50000000 }
+        requires few { stimulus.lines ≤ most_cells }
         ensures stands { IfOk result (λ replay. StandsBefore replay 0) }
         ensures source { IfOk result (λ replay. module_of replay ≡ source_of machine) }
         ensures stimulus { IfOk result (λ replay. stimulus_of replay ≡ stimulus) }

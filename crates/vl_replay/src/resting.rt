@@ -1,4 +1,6 @@
 ghost use Rattle.std.specs.Prelude.{◌≡◌, ◌≤◌, ◌<◌, ◌+◌, ◌-◌, ◌*◌, ℕ, IfOk, Some, slice_get};
+ghost use Rattle.fx_tables.specs.Stimulus.{most_cells};
+ghost use Rattle.vl_ast.specs.Attributes.{most_latency};
 ghost use Rattle.vl_eval.specs.Given.{driven_ports, given};
 ghost use Rattle.vl_eval.specs.Machine.{AreFit, HasRoom, IsReady, row_of, source_of};
 ghost use Rattle.vl_replay.specs.declared.drivers.Driver.{Driver};
@@ -18,7 +20,7 @@ const FEW: u64 = 1024;
 
 /// From which sample on the driver shows no number of so many samples.
 fn past(driver: Driver, samples: u64) -> u64
-    requires few { samples ≤ 50000000 }
+    requires few { samples ≤ most_cells }
     ensures past { IsPast samples result driver }
     ensures near { result ≤ 5000000000 }
 {
@@ -30,7 +32,7 @@ fn past(driver: Driver, samples: u64) -> u64
 
 /// From which sample on no driver shows a number of so many samples.
 fn driven_until(drivers: &[Driver], samples: u64) -> u64
-    requires few { samples ≤ 50000000 }
+    requires few { samples ≤ most_cells }
     ensures past { (k : ℕ) (driver : Driver) → slice_get drivers.now k ≡ Some driver
         → IsPast samples result driver }
     ensures near { result ≤ 5000000000 }
@@ -44,8 +46,8 @@ fn driven_until(drivers: &[Driver], samples: u64) -> u64
 
 /// From which sample on none of so many is sampled of the outputs that come less late.
 fn sampled_until(samplers: &[Sampler], samples: u64, delay: u64) -> u64
-    requires few { samples ≤ 50000000 }
-    requires late { delay ≤ 16777216 }
+    requires few { samples ≤ most_cells }
+    requires late { delay ≤ most_latency }
     ensures past { (place : ℕ) (sampler : Sampler) → slice_get samplers.now place ≡ Some sampler
         → sampler.delay < delay → samples + sampler.delay ≤ result }
     ensures near { result ≤ 5000000000 }
@@ -61,8 +63,8 @@ fn sampled_until(samplers: &[Sampler], samples: u64, delay: u64) -> u64
 
 /// From which sample on, until the latest output comes, inputs stay and no output is due.
 fn quiet_from(score: &Score, delay: u64) -> u64
-    requires few { score.now.stimulus.lines ≤ 50000000 }
-    requires late { delay ≤ 16777216 }
+    requires few { score.now.stimulus.lines ≤ most_cells }
+    requires late { delay ≤ most_latency }
     ensures quiet { IsQuiet score.now result delay }
     ensures near { result ≤ 5000000000 }
 {
@@ -136,8 +138,8 @@ pub fn play_ahead(
     cells: &mut [i128],
 ) -> Result<(), OutOfMemory>
     requires begins { CanPlay machine.old score.now window bits.old cells.old }
-    requires few { score.now.stimulus.lines ≤ 50000000 }
-    requires late { span ≤ 16777216 }
+    requires few { score.now.stimulus.lines ≤ most_cells }
+    requires late { span ≤ most_latency }
     ensures played { IfOk result (λ done.
         IsPlayed score.now window (span * score.now.cycles) machine.new cells.new) }
     ensures source { source_of machine.new ≡ source_of machine.old }

@@ -2,6 +2,7 @@
 use Rattle.std.specs.Prelude.{◌≡◌, ◌<◌, ◌≤◌, ◌^◌, ℕ, All, List, length, map}
 use Rattle.fx_replayed.specs.declared.response.Response.{Response}
 use Rattle.fx_replayed.specs.Replayed.{IsSoundText}
+use Rattle.fx_tables.specs.Stimulus.{most_cells}
 use Rattle.fx_tables.specs.declared.row_text.RowText.{RowText}
 use Rattle.fx_tables.specs.declared.table.Column.{Column}
 use Rattle.fx_tables.specs.declared.table.Rows.{Rows}
@@ -27,7 +28,7 @@ pub record CanRespond (machine : Machine) (rows : Rows) (outputs : List Column) 
   pub row : IsFirstRow (source_of machine) (λ name. 0) (λ name. 0) (row_of machine)
   pub columns : rows.columns ≡ length (stimulus_ports (source_of machine))
   pub few_outputs : length (output_ports (source_of machine)) < 2 ^ 32
-  pub few : rows.lines ≤ 50000000
+  pub few : rows.lines ≤ most_cells
   pub periods : All (λ column. 0 < column.period) outputs
   pub few_columns : length outputs < 2 ^ 32
 

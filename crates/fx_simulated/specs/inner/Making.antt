@@ -10,7 +10,7 @@ use Rattle.fx_simulated.specs.declared.simulation.Simulation.{Simulation}
 use Rattle.fx_tables.specs.declared.table.Column.{Column}
 use Rattle.fx_tables.specs.declared.table.Rows.{Rows}
 use Rattle.fx_tables.specs.RowText.{periods_of}
-use Rattle.fx_tables.specs.Stimulus.{FitsColumns}
+use Rattle.fx_tables.specs.Stimulus.{FitsColumns, most_cells}
 
 -- these are the columns of a diagram
 unfoldable pub HasColumns : Diagram → RootColumns → Type 0
@@ -21,7 +21,7 @@ pub record HaveRows (diagram : Diagram) (own : RootColumns) (rows : Rows) : Type
   pub columns : HasColumns diagram own
   pub count : rows.columns ≡ length own.inputs
   pub fits : FitsColumns own.inputs rows
-  pub few : rows.lines ≤ 50000000
+  pub few : rows.lines ≤ most_cells
 
 -- a response to these rows and the writer of its lines are ready
 pub record IsReadyFor (checked : CheckedDiagram) (columns : RootColumns) (rows : Rows) (ready : Simulation) : Type 0 where

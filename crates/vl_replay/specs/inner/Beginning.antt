@@ -1,5 +1,6 @@
 -- What a replay has before its first clock.
 use Rattle.std.specs.Prelude.{◌^◌, ◌<◌, ◌≤◌, length}
+use Rattle.fx_tables.specs.Stimulus.{most_cells}
 use Rattle.vl_ast.specs.Driven.{output_ports}
 use Rattle.vl_ast.specs.Steps.{IsFirstRow}
 use Rattle.vl_eval.specs.Machine.{IsReady, row_of}
@@ -13,6 +14,6 @@ pub record CanBegin (replay : Replay) : Type 0 where
   pub row : IsFirstRow (module_of replay) (λ name. 0) (λ name. 0) (row_of replay.machine)
   pub outputs : length (output_ports (module_of replay)) < 2 ^ 32
   pub score : IsScoreOf (module_of replay) replay.score
-  pub few : (stimulus_of replay).lines ≤ 50000000
+  pub few : (stimulus_of replay).lines ≤ most_cells
   pub delay : IsDelay replay.score replay.delay
   pub window : IsWindow replay.score replay.delay replay.window

@@ -7,7 +7,7 @@ use Rattle.vl_ast.specs.Driven.{output_ports, port_number, stimulus_ports}
 use Rattle.vl_ast.specs.Windows.{Each, Sample}
 use Rattle.vl_ast.specs.Runs.{Rows}
 use Rattle.vl_ast.specs.Steps.{AreSteps, IsFirstRow}
-use Rattle.vl_ast.specs.Attributes.{clocks_of, lateness_of, step_of}
+use Rattle.vl_ast.specs.Attributes.{clocks_of, lateness_of, most_latency, step_of}
 use Rattle.vl_eval.specs.Given.{driven_ports}
 use Rattle.vl_eval.specs.Machine.{IsReady, row_of, source_of}
 use Rattle.vl_eval.specs.declared.machine.Machine.{Machine}
@@ -52,18 +52,18 @@ pub record IsPlayed (score : Score) (window clocks : ℕ) (machine : Machine) (c
   pub last : rows (1 + clocks) ≡ row_of machine
   pub have : HaveCells (source_of machine) score.stimulus.lines window clocks rows cells
 
--- no output is sampled more than 16,777,216 samples late
+-- no output is sampled more samples late than it may come clocks late
 pub record AreNear (samplers : List Sampler) : Type 0 where
-  pub delay : (place : ℕ) (sampler : Sampler) → slice_get samplers place ≡ Some sampler → sampler.delay ≤ 16777216
+  pub delay : (place : ℕ) (sampler : Sampler) → slice_get samplers place ≡ Some sampler → sampler.delay ≤ most_latency
 
 -- no number is sampled more samples late; with no samples there are none
 pub record IsDelay (score : Score) (delay : ℕ) : Type 0 where
-  pub few : delay ≤ 16777216
+  pub few : delay ≤ most_latency
   pub most : (place : ℕ) (sampler : Sampler) → slice_get score.samplers.items place ≡ Some sampler → 0 < score.stimulus.lines → sampler.delay ≤ delay
 
 -- a ring of so many rows holds the numbers of a sample until all of them are sampled: its row is another's only once
 -- that one's number is sampled, by each sampler's own delay
 pub record IsWindow (score : Score) (delay window : ℕ) : Type 0 where
   pub some : 0 < window
-  pub few : window ≤ 16777217
+  pub few : window ≤ most_latency + 1
   pub wide : (place : ℕ) (sampler : Sampler) → slice_get score.samplers.items place ≡ Some sampler → window < score.stimulus.lines → delay < window + sampler.delay

@@ -1,9 +1,10 @@
 use Rattle.std.proofs.Common.{◌≡◌, ◌≤◌, ◌<◌, ℕ, Some, slice_get}
+use Rattle.vl_ast.specs.Attributes.{most_latency}
 use Rattle.vl_replay.specs.declared.samplers.Sampler.{Sampler}
 use Rattle.vl_replay.proofs.playing.delay_of.Given as goal
 
 abbrev pub invariant-loop-sampler : goal.invariant-loop-sampler
 invariant-loop-sampler l = record {
-  few : l.delay ≤ 16777216;
+  few : l.delay ≤ most_latency;
   most : (place : ℕ) (sampler : Sampler) → slice_get l.score.samplers.items place ≡ Some sampler → place < l.sampler-index → sampler.delay ≤ l.delay;
 }
