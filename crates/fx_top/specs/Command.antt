@@ -1,6 +1,7 @@
 -- The words of a call, and the files that they name (own).
 use Rattle.std.specs.Prelude.{ℕ, nat_le, ◌&&◌, if◌then◌else◌, List, [], ◌∷◌, bytes_eq, codes, Option, Some, None}
 use Rattle.fx_explored.specs.RangeWord.{plain_number, range_of}
+use Rattle.fx_sample.specs.Numbers.{greatest_sample}
 use Rattle.hw_explore.specs.declared.range.Range.{Range}
 
 -- a word for a plan: `-` for the empty one, which no file holds, or the name of a file
@@ -41,7 +42,7 @@ explored model (Some range) = Some (OfFiles (Explore model range))
 -- a number that samples have
 abbrev pub within_samples : Option ℕ → Option ℕ
 within_samples None = None
-within_samples (Some number) = if nat_le 1 number && nat_le number 5000 then Some number else None
+within_samples (Some number) = if nat_le 1 number && nat_le number greatest_sample then Some number else None
 
 -- the number of a sample that a word names: 1 to 5000, without zeros in front
 abbrev pub number_of : List ℕ → Option ℕ

@@ -7,6 +7,9 @@ ghost use Rattle.fx_top.specs.inner.Tasks.{IsTask};
 use crate::task::Task;
 use fx_explored::{plain_number, read_range};
 
+/// The greatest number of a sample (own).
+const GREATEST_SAMPLE: u64 = 5000;
+
 /// What the words of a call ask for.
 #[derive(Clone, Copy)]
 pub enum Command<'a> {
@@ -111,7 +114,7 @@ fn number_of(word: &[u8]) -> Option<u32>
     let Some(number) = plain_number(word) else {
         return None;
     };
-    if 1 <= number && number <= 5000 {
+    if 1 <= number && number <= GREATEST_SAMPLE {
         Some(number as u32)
     } else {
         None

@@ -3,6 +3,7 @@ ghost use Rattle.fx_designed.specs.Design.{IsDesignOf};
 ghost use Rattle.fx_designed.specs.Refused.{IsDesigned, IsRefusedDesign};
 ghost use Rattle.fx_model.specs.Model.{IsModelOf};
 ghost use Rattle.fx_sample.specs.ModelText.{sample_model};
+ghost use Rattle.fx_sample.specs.Numbers.{greatest_sample};
 ghost use Rattle.fx_sample.specs.Stimulus.{sample_plan, sample_stimulus};
 ghost use Rattle.fx_top.specs.Call.{stream_in};
 ghost use Rattle.fx_top.specs.Sampled.{EndsSample, HasSampleCause, HasSampleWritten};
@@ -84,7 +85,7 @@ fn made_of(alloc: Global, checked: &Checked, planned: &Planned) -> Result<Made, 
 /// What the module of a sample is compared with: the response of its diagram, and no bytes where the
 /// stimulus doesn't fit the diagram's columns.
 fn sample_response(alloc: Global, checked: &Checked, number: u32) -> Result<Text, SampleFault>
-    requires few { number ≤ 5000 }
+    requires few { number ≤ greatest_sample }
     requires model { IsModelOf (sample_model number) checked.now.diagram }
     ensures made { IfOk result (IsSampleResponse number) }
     ensures refused { IfErr result (IsSampleFault number) }
@@ -108,7 +109,7 @@ fn sample_response(alloc: Global, checked: &Checked, number: u32) -> Result<Text
 
 /// Why the texts of a sample make no design.
 fn fault_of_design(number: u32, fault: DesignFault) -> SampleFault
-    requires few { number ≤ 5000 }
+    requires few { number ≤ greatest_sample }
     requires cause { IsRefusedDesign (sample_model number) sample_plan fault }
     ensures { IsSampleFault number result }
 {
@@ -124,7 +125,7 @@ fn fault_of_design(number: u32, fault: DesignFault) -> SampleFault
 
 /// The design of a sample.
 fn sample_design(alloc: Global, number: u32) -> Result<Designed, SampleFault>
-    requires { number ≤ 5000 }
+    requires { number ≤ greatest_sample }
     ensures designed { IfOk result (IsDesigned (sample_model number) sample_plan) }
     ensures on { IfOk result (λ designed. IsPlanOn designed.checked.diagram designed.planned) }
     ensures refused { IfErr result (IsSampleFault number) }
@@ -145,7 +146,7 @@ fn summary_by<R: Threads + Sync, B: Bench>(
     planned: &Planned,
     bench: &mut B,
 ) -> Result<Text, SampleFault>
-    requires few { number ≤ 5000 }
+    requires few { number ≤ greatest_sample }
     requires design { IsDesignOf (sample_model number) sample_plan checked.now.diagram
         planned.now.resolved (timing_in planned.now.times) }
     requires on { IsPlanOn checked.now.diagram planned.now }
@@ -185,7 +186,7 @@ fn summary_of<R: Threads + Sync, B: Bench>(
     number: u32,
     bench: &mut B,
 ) -> Result<Text, SampleFault>
-    requires { number ≤ 5000 }
+    requires { number ≤ greatest_sample }
     ensures made { IfOk result (IsSummaryOf B.may_tell number (B.tells bench.new)) }
     ensures refused { IfErr result (IsSampleFault number) }
 {
@@ -213,7 +214,7 @@ pub fn sample<'a, R: Threads + Sync, B: Bench, K: Sink>(
     bench: &mut B,
     out: &mut K,
 ) -> Answer<'a>
-    requires { number ≤ 5000 }
+    requires { number ≤ greatest_sample }
     ensures cause { HasSampleCause number result }
     ensures written { HasSampleWritten (IsSummaryOf B.may_tell number (B.tells bench.new))
         (stream_in K.taken K.faults out.old out.new) result }
@@ -244,7 +245,7 @@ pub fn sample_with<R: Threads + Sync, B: Bench, K: Sink, E: Sink>(
     err: &mut E,
 ) -> u8
     requires least { 1 ≤ number }
-    requires most { number ≤ 5000 }
+    requires most { number ≤ greatest_sample }
     ensures { EndsSample number (IsSummaryOf B.may_tell number (B.tells bench.new))
         (stream_in K.taken K.faults out.old out.new)
         (stream_in E.taken E.faults err.old err.new) result }

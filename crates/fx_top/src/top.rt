@@ -1,5 +1,6 @@
 ghost use Rattle.std.specs.Prelude.{◌≤◌, map, string_bytes};
 ghost use Rattle.fx_replayed.specs.Benched.{IsTold};
+ghost use Rattle.fx_sample.specs.Numbers.{greatest_sample};
 ghost use Rattle.fx_top.specs.Call.{files_in, stream_in};
 ghost use Rattle.fx_top.specs.Caused.{IsCarriedOut, Ends};
 ghost use Rattle.fx_top.specs.Command.{asked_of};
@@ -90,7 +91,7 @@ fn replayed_sample<'a, R: Threads + Sync, K: Sink>(
     number: u32,
     out: &mut K,
 ) -> Answer<'a>
-    requires { number ≤ 5000 }
+    requires { number ≤ greatest_sample }
     ensures cause { HasSampleCause number result }
     ensures written { HasSampleWritten (IsSummed IsTold number)
         (stream_in K.taken K.faults out.old out.new) result }

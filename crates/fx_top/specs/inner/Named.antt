@@ -1,5 +1,6 @@
 -- A command that borrows its words.
 use Rattle.std.specs.Prelude.{ℕ, ◌≤◌, List}
+use Rattle.fx_sample.specs.Numbers.{greatest_sample}
 use Rattle.fx_top.specs.Command.{Asked, OfFiles, Sample}
 use Rattle.fx_top.specs.declared.command.Command.{Command as CommandOf}
 use Rattle.fx_top.specs.declared.command.Command.TheVariants as borrowed
@@ -18,4 +19,4 @@ named (borrowed.Sample number) = Sample number
 -- a range that it names is one, and a number is that of a sample
 abbrev pub HasRange : CommandOf → Type 0
 HasRange (borrowed.OverFiles task first second) = IsTask task
-HasRange (borrowed.Sample number) = (1 ≤ number) × (number ≤ 5000)
+HasRange (borrowed.Sample number) = (1 ≤ number) × (number ≤ greatest_sample)
