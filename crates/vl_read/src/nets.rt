@@ -141,7 +141,7 @@ impl Reader {
     }
 
     /// The declaration goes on, if the lexeme is this word.
-    fn fixed(&mut self, net: NetKind, word: &str, lexeme: &[u8], at: NetSpot) -> bool
+    fn fixed_word(&mut self, net: NetKind, word: &str, lexeme: &[u8], at: NetSpot) -> bool
         ensures { stepped result (seen self.new)
             ≡ expect word.now lexeme.now self.old.draft
             (Net (net_seen self.old.held.attrs net) at) }
@@ -191,7 +191,7 @@ impl Reader {
         if is_name(lexeme) {
             self.declare(net, signed, 1, lexeme)
         } else {
-            Ok(self.fixed(net, "[", lexeme, NetSpot::Bound { signed }))
+            Ok(self.fixed_word(net, "[", lexeme, NetSpot::Bound { signed }))
         }
     }
 
@@ -203,21 +203,21 @@ impl Reader {
             (kind_of lexeme.now) lexeme.now) }
     {
         match at {
-            NetSpot::Word => Ok(self.fixed(net, "wire", lexeme, NetSpot::Signed)),
+            NetSpot::Word => Ok(self.fixed_word(net, "wire", lexeme, NetSpot::Signed)),
             NetSpot::Signed => self.kind_end(net, lexeme),
             NetSpot::Ranged { signed } => self.range_or_name(net, signed, lexeme),
             NetSpot::Bound { signed } => Ok(self.bound(net, signed, lexeme)),
             NetSpot::Colon { signed, width } => {
                 let at = NetSpot::Zero { signed, width };
-                Ok(self.fixed(net, ":", lexeme, at))
+                Ok(self.fixed_word(net, ":", lexeme, at))
             }
             NetSpot::Zero { signed, width } => {
                 let at = NetSpot::Close { signed, width };
-                Ok(self.fixed(net, "0", lexeme, at))
+                Ok(self.fixed_word(net, "0", lexeme, at))
             }
             NetSpot::Close { signed, width } => {
                 let at = NetSpot::Named { signed, width };
-                Ok(self.fixed(net, "]", lexeme, at))
+                Ok(self.fixed_word(net, "]", lexeme, at))
             }
             NetSpot::Named { signed, width } => {
                 if is_name(lexeme) {
