@@ -21,7 +21,7 @@ pub fn sum(call: &OpCall, inputs: &[i128], frac: i16, narrow: Narrow) -> i128
 }
 
 /// The input that a Switch takes.
-fn taken(criterion: Criterion, threshold: i128, inputs: &[i128]) -> i128
+fn switch_input(criterion: Criterion, threshold: i128, inputs: &[i128]) -> i128
     requires { length inputs.now ≡ 3 }
     ensures { result ≡ cond (meets_of criterion threshold (value_of inputs.now 1))
         (value_of inputs.now 0) (value_of inputs.now 2) }
@@ -46,6 +46,6 @@ pub fn switch(call: &OpCall, inputs: &[i128], narrow: Narrow) -> i128
     else {
         return output(call, inputs);
     };
-    let v = short(taken(criterion, threshold, inputs));
+    let v = short(switch_input(criterion, threshold, inputs));
     i128::from(narrow.convert(v))
 }

@@ -6,7 +6,7 @@ ghost use Rattle.fx_type.specs.FxType.{IsType, InRange};
 ghost use Rattle.fx_type.specs.FullType.{IsUnion};
 ghost use Rattle.dg_model.specs.Operation.{meets as meets_of, compares as compares_of, compares_values as compares_values_of, gate_of, is_true as is_true_of};
 
-use crate::exact::aligned;
+use crate::exact::aligned_value;
 use dg_model::{Criterion, Gate, Relation};
 use fx_type::FxType;
 
@@ -45,7 +45,11 @@ pub fn compares_values(operator: Relation, a: FxType, b: FxType, x: i128, y: i12
     ensures { result ≡ compares_values_of operator a b x y }
 {
     let frac = a.frac().max(b.frac());
-    compares(operator, aligned(frac, a, x), aligned(frac, b, y))
+    compares(
+        operator,
+        aligned_value(frac, a, x),
+        aligned_value(frac, b, y),
+    )
 }
 
 /// Whether every input is true.

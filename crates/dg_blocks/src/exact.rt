@@ -10,7 +10,7 @@ use dg_model::OpCall;
 use fx_type::FxType;
 
 /// `v` with `gap` more bits behind the point.
-fn shifted(v: i128, gap: u32) -> i128
+fn left_shift(v: i128, gap: u32) -> i128
     requires { FitsSigned w128 (v *ℤ pos (2 ^ gap)) }
     ensures { result ≡ v *ℤ pos (2 ^ gap) }
 {
@@ -41,14 +41,14 @@ pub fn product_frac(a: FxType, b: FxType) -> i16
 }
 
 /// The stored integer `v` of the type, written with `frac` bits behind the point.
-pub fn aligned(frac: i16, kind: FxType, v: i128) -> i128
+pub fn aligned_value(frac: i16, kind: FxType, v: i128) -> i128
     requires valid { IsType kind }
     requires above { frac_of kind ≤ℤ frac }
     requires high { frac ≤ℤ pos 128 }
     requires fits { FitsSigned w128 (aligned_of frac kind v) }
     ensures { result ≡ aligned_of frac kind v }
 {
-    shifted(v, gap_above(frac, kind))
+    left_shift(v, gap_above(frac, kind))
 }
 
 /// A term of a sum: the stored integer with its sign, written with `frac` bits behind the point.
@@ -60,9 +60,9 @@ fn term(negative: bool, frac: i16, kind: FxType, v: i128) -> i128
     ensures { result ≡ negated_if negative (aligned_of frac kind v) }
 {
     if negative {
-        aligned(frac, kind, -v)
+        aligned_value(frac, kind, -v)
     } else {
-        aligned(frac, kind, v)
+        aligned_value(frac, kind, v)
     }
 }
 
@@ -111,7 +111,7 @@ pub fn product(a: FxType, b: FxType, x: i128, y: i128) -> i128
 }
 
 /// An exact result in units of 2 to the `-frac`, converted to the result type of the call.
-pub fn settled(call: &OpCall, exact: i128, frac: i16) -> i128
+pub fn exact_conversion(call: &OpCall, exact: i128, frac: i16) -> i128
     requires low { negsuc 63 ≤ℤ frac }
     requires high { frac ≤ℤ pos 128 }
     requires result { IsType call.now.result }

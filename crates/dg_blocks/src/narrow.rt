@@ -89,7 +89,7 @@ fn tie(even: bool, lower: i64) -> i64
 }
 
 /// The whole number below `v`, with the bias added, over 2 to the power `down`.
-fn shifted(v: i64, down: u32, bias: i64, even: bool) -> i64
+fn biased_shift(v: i64, down: u32, bias: i64, even: bool) -> i64
     requires small { IsSmall v }
     requires down { down ≤ 60 }
     requires bias { (pos 0 ≤ℤ bias) × (bias ≤ℤ pos (2 ^ 60)) }
@@ -102,7 +102,7 @@ fn shifted(v: i64, down: u32, bias: i64, even: bool) -> i64
 impl Narrow {
     /// The conversion of a whole number to a type without bits behind the point, where that has at
     /// most 60 bits.
-    fn unshifted(to: FxType, saturate: bool) -> Option<Narrow>
+    fn without_shift(to: FxType, saturate: bool) -> Option<Narrow>
         requires { IsType to }
         ensures ends { IfSome result (λ narrow. HasEnds narrow to saturate) }
         ensures plain { IfSome result (λ narrow. (narrow.scale ≡ pos 1) × (narrow.down ≡ 0)
@@ -138,7 +138,7 @@ impl Narrow {
         ensures is { IfSome result (λ narrow. IsNarrow narrow frac to mode saturate) }
         ensures room { IfSome result (λ narrow. HasRoom narrow bits) }
     {
-        let Some(mut narrow) = Narrow::unshifted(to, saturate) else {
+        let Some(mut narrow) = Narrow::without_shift(to, saturate) else {
             return None;
         };
         if let Some(up) = gap(frac, to.frac()) {
@@ -175,7 +175,7 @@ impl Narrow {
             → Converts v from to mode saturate result }
     {
         let scaled = v * self.scale;
-        self.settled(shifted(scaled, self.down, self.bias_for(scaled), self.even))
+        self.stored_value(biased_shift(scaled, self.down, self.bias_for(scaled), self.even))
     }
 
     /// The bias of a number.
@@ -186,7 +186,7 @@ impl Narrow {
     }
 
     /// What the result type stores for a whole number.
-    fn settled(self, r: i64) -> i64
+    fn stored_value(self, r: i64) -> i64
         requires { (to : FxType) × (saturate : Bool) × HasEnds self to saturate }
         ensures { (to : FxType) (saturate : Bool) → HasEnds self to saturate
             → Settles to saturate r result }

@@ -7,7 +7,7 @@ ghost use Rattle.fx_type.specs.Conversion.{Converts};
 ghost use Rattle.dg_model.specs.Operation.{operation_of, without_frac, IsConverted, CanCarryOut, OpGives};
 
 use crate::conditions::{compares_values, gate, meets};
-use crate::exact::{greatest_frac, product, product_frac, settled, signed_sum};
+use crate::exact::{exact_conversion, greatest_frac, product, product_frac, signed_sum};
 use dg_model::{Op, OpCall, without_frac};
 use fx_type::FxType;
 
@@ -29,9 +29,9 @@ pub fn output(call: &OpCall, inputs: &[i128]) -> i128
             threshold,
         } => {
             if meets(criterion, threshold, inputs[1]) {
-                converted(call, inputs[0], call.types[0])
+                conversion(call, inputs[0], call.types[0])
             } else {
-                converted(call, inputs[2], call.types[2])
+                conversion(call, inputs[2], call.types[2])
             }
         }
         Op::Relational { operator } => {
@@ -39,7 +39,7 @@ pub fn output(call: &OpCall, inputs: &[i128]) -> i128
             i128::from(compares_values(operator, a, b, inputs[0], inputs[1]))
         }
         Op::Logic { operator } => i128::from(gate(operator, inputs)),
-        Op::Convert { stored: false } => converted(call, inputs[0], call.types[0]),
+        Op::Convert { stored: false } => conversion(call, inputs[0], call.types[0]),
         Op::Convert { stored: true } => stored_converted(call, inputs[0], call.types[0]),
         Op::Pass => inputs[0],
     }
@@ -53,7 +53,7 @@ fn sum(call: &OpCall, inputs: &[i128]) -> i128
 {
     let frac = greatest_frac(call.types);
     let exact = signed_sum(call.signs, call.types, inputs, frac);
-    settled(call, exact, frac)
+    exact_conversion(call, exact, frac)
 }
 
 /// A Product or a Gain of two stored integers.
@@ -67,11 +67,11 @@ fn times(call: &OpCall, a: FxType, b: FxType, x: i128, y: i128) -> i128
     ensures { (full : FxType) × IsFullProduct a b full
         × IsConverted (operation_of call.now) (x *ℤ y) full result }
 {
-    settled(call, product(a, b, x, y), product_frac(a, b))
+    exact_conversion(call, product(a, b, x, y), product_frac(a, b))
 }
 
 /// A stored integer converted to the result type of the call.
-fn converted(call: &OpCall, v: i128, from: FxType) -> i128
+fn conversion(call: &OpCall, v: i128, from: FxType) -> i128
     requires from { IsType from }
     requires in_range { InRange from v }
     requires result { IsType call.now.result }

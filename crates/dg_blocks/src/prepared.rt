@@ -6,7 +6,9 @@ ghost use Rattle.dg_blocks.specs.Prepared.{IsPrepared};
 use crate::carrying::{sum, switch};
 use crate::narrow::Narrow;
 use crate::operation::output;
-use crate::preparing::{chosen, converted, multiplied, scaled, summed};
+use crate::preparing::{
+    prepared_conversion, prepared_gain, prepared_product, prepared_sum, prepared_switch,
+};
 use dg_model::{Op, OpCall};
 
 /// How an operation is carried out (own).
@@ -33,11 +35,11 @@ impl Prepared {
         ensures { IsPrepared result (operation_of call.now) }
     {
         match call.op {
-            Op::Sum => summed(call),
-            Op::Gain { coefficient, param } => scaled(call, coefficient, param),
-            Op::Product => multiplied(call),
-            Op::Switch { .. } => chosen(call),
-            Op::Convert { stored: false } => converted(call),
+            Op::Sum => prepared_sum(call),
+            Op::Gain { coefficient, param } => prepared_gain(call, coefficient, param),
+            Op::Product => prepared_product(call),
+            Op::Switch { .. } => prepared_switch(call),
+            Op::Convert { stored: false } => prepared_conversion(call),
             Op::Convert { stored: true } | Op::Relational { .. } | Op::Logic { .. } | Op::Pass => {
                 Prepared::Wide
             }

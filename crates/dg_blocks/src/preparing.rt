@@ -30,7 +30,7 @@ fn product_narrow(call: &OpCall, a: FxType, b: FxType) -> Option<Narrow>
 }
 
 /// Of a Sum.
-pub fn summed(call: &OpCall) -> Prepared
+pub fn prepared_sum(call: &OpCall) -> Prepared
     requires can { CanPrepare (operation_of call.now) }
     requires is_sum { call.now.op ≡ Sum }
     ensures { IsPrepared result (operation_of call.now) }
@@ -48,7 +48,7 @@ pub fn summed(call: &OpCall) -> Prepared
 }
 
 /// Of a Gain.
-pub fn scaled(call: &OpCall, coefficient: i128, param: FxType) -> Prepared
+pub fn prepared_gain(call: &OpCall, coefficient: i128, param: FxType) -> Prepared
     requires can { CanPrepare (operation_of call.now) }
     requires is_gain { call.now.op ≡ Gain coefficient param }
     ensures { IsPrepared result (operation_of call.now) }
@@ -60,7 +60,7 @@ pub fn scaled(call: &OpCall, coefficient: i128, param: FxType) -> Prepared
 }
 
 /// Of a Product.
-pub fn multiplied(call: &OpCall) -> Prepared
+pub fn prepared_product(call: &OpCall) -> Prepared
     requires can { CanPrepare (operation_of call.now) }
     requires is_product { call.now.op ≡ Product }
     ensures { IsPrepared result (operation_of call.now) }
@@ -72,7 +72,7 @@ pub fn multiplied(call: &OpCall) -> Prepared
 }
 
 /// Of a Switch.
-pub fn chosen(call: &OpCall) -> Prepared
+pub fn prepared_switch(call: &OpCall) -> Prepared
     requires can { CanPrepare (operation_of call.now) }
     requires is_switch { (criterion : Criterion) × (threshold : ℤ)
         × (call.now.op ≡ Switch criterion threshold) }
@@ -91,7 +91,7 @@ pub fn chosen(call: &OpCall) -> Prepared
 }
 
 /// Of a Data Type Conversion that keeps the real value.
-pub fn converted(call: &OpCall) -> Prepared
+pub fn prepared_conversion(call: &OpCall) -> Prepared
     requires can { CanPrepare (operation_of call.now) }
     requires is_convert { call.now.op ≡ Convert false }
     ensures { IsPrepared result (operation_of call.now) }

@@ -41,7 +41,7 @@ pub fn are_short(frac: i16, types: &[FxType]) -> bool
 }
 
 /// `v` with `gap` more bits behind the point.
-fn shifted(v: i64, gap: u32) -> i64
+fn left_shift(v: i64, gap: u32) -> i64
     requires gap { gap ≤ 60 }
     requires fits { FitsSigned w64 (v *ℤ pos (2 ^ gap)) }
     ensures { result ≡ v *ℤ pos (2 ^ gap) }
@@ -57,7 +57,7 @@ fn term(negative: bool, frac: i16, kind: FxType, v: i64) -> i64
     requires small { IsSmall (aligned frac kind v) }
     ensures { result ≡ negated_if negative (aligned frac kind v) }
 {
-    let value = shifted(v, gap_above(frac, kind));
+    let value = left_shift(v, gap_above(frac, kind));
     if negative { -value } else { value }
 }
 

@@ -7,24 +7,24 @@ use Rattle.dg_blocks.proofs.carrying.switch.Goals as goal
 
 pub short-v-requires : goal.short-v-requires
 short-v-requires c =
-    let own = to_z-of_z w128 c.taken.result (record { sfits = c.taken.type_inv }) in
-    rw own (chosen_fits (operation_of c.args.call.now) c.args.inputs.now c.requires.can c.args.narrow c.requires.prepared _ c.taken.result c.taken.ensures)
+    let own = to_z-of_z w128 c.switch_input.result (record { sfits = c.switch_input.type_inv }) in
+    rw own (chosen_fits (operation_of c.args.call.now) c.args.inputs.now c.requires.can c.args.narrow c.requires.prepared _ c.switch_input.result c.switch_input.ensures)
 
 pub convert-requires-clause-small : goal.convert-requires-clause-small
 convert-requires-clause-small c =
-    let own = to_z-of_z w128 c.taken.result (record { sfits = c.taken.type_inv }) in
+    let own = to_z-of_z w128 c.switch_input.result (record { sfits = c.switch_input.type_inv }) in
     let short = to_z-of_z w64 c.short-v.result (record { sfits = c.short-v.type_inv }) in
-    let same : c.short-v.result ≡ c.taken.result = rw own at c.short-v.ensures in
-    rw (short, same) (chosen_small (operation_of c.args.call.now) c.args.inputs.now c.requires.can c.args.narrow c.requires.prepared _ c.taken.result c.taken.ensures)
+    let same : c.short-v.result ≡ c.switch_input.result = rw own at c.short-v.ensures in
+    rw (short, same) (chosen_small (operation_of c.args.call.now) c.args.inputs.now c.requires.can c.args.narrow c.requires.prepared _ c.switch_input.result c.switch_input.ensures)
 
 pub returns : goal.returns
 returns c =
-    let own = to_z-of_z w128 c.taken.result (record { sfits = c.taken.type_inv }) in
+    let own = to_z-of_z w128 c.switch_input.result (record { sfits = c.switch_input.type_inv }) in
     let short = to_z-of_z w64 c.short-v.result (record { sfits = c.short-v.type_inv }) in
-    let same : c.short-v.result ≡ c.taken.result = rw own at c.short-v.ensures in
+    let same : c.short-v.result ≡ c.switch_input.result = rw own at c.short-v.ensures in
     let fits : FitsSigned w128 c.in-Switch.threshold = search rules in
     let threshold = to_z-of_z w128 c.in-Switch.threshold fits in
-    let taken : c.taken.result ≡ cond (meets c.in-Switch.criterion c.in-Switch.threshold (value_of c.args.inputs.now 1)) (value_of c.args.inputs.now 0) (value_of c.args.inputs.now 2) = rw threshold at c.taken.ensures in
+    let taken : c.switch_input.result ≡ cond (meets c.in-Switch.criterion c.in-Switch.threshold (value_of c.args.inputs.now 1)) (value_of c.args.inputs.now 0) (value_of c.args.inputs.now 2) = rw threshold at c.switch_input.ensures in
     let n : FitsSigned w64 c.convert.result = record { sfits = c.convert.type_inv } in
     let r : to_z w128 (of_z w128 c.from.result) ≡ c.convert.result = omega (arith, ints, c.from.ensures, n) in
     rw r (chosen_gives (operation_of c.args.call.now) c.args.inputs.now c.requires.can c.args.narrow c.requires.prepared c.args.call.now.op refl c.in-Switch.criterion c.in-Switch.threshold c.convert.result c.in-Switch.is

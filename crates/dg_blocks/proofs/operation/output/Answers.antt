@@ -47,20 +47,20 @@ compares_values-requires c =
     let y = read c.args.call.now.types.now c.args.inputs.now 1 c.requires.prepared.types c.requires.values (omega (arith, two)) in
     record { left = x.0; right = y.0; x_in_range = x.1; y_in_range = y.1; union = subst (λ (op : Op). HasFullType op c.args.call.now.signs.now c.args.call.now.types.now) c.in-Relational.is c.requires.prepared.full_type }
 
-pub converted-requires : goal.converted-requires
-converted-requires c =
+pub conversion-requires : goal.conversion-requires
+conversion-requires c =
     let three : length c.args.call.now.types.now ≡ 3 = subst (λ (op : Op). HasArity op (length c.args.call.now.types.now)) c.in-Switch.is c.requires.prepared.arity in
     let x = read c.args.call.now.types.now c.args.inputs.now 0 c.requires.prepared.types c.requires.values (omega (arith, three)) in
     record { from = x.0; in_range = x.1; result = c.requires.prepared.result }
 
-pub converted-requires-else-meets : goal.converted-requires-else-meets
-converted-requires-else-meets c =
+pub conversion-requires-else-meets : goal.conversion-requires-else-meets
+conversion-requires-else-meets c =
     let three : length c.args.call.now.types.now ≡ 3 = subst (λ (op : Op). HasArity op (length c.args.call.now.types.now)) c.in-Switch.is c.requires.prepared.arity in
     let x = read c.args.call.now.types.now c.args.inputs.now 2 c.requires.prepared.types c.requires.values (omega (arith, three)) in
     record { from = x.0; in_range = x.1; result = c.requires.prepared.result }
 
-pub converted-requires-in-Convert-false : goal.converted-requires-in-Convert-false
-converted-requires-in-Convert-false c =
+pub conversion-requires-in-Convert-false : goal.conversion-requires-in-Convert-false
+conversion-requires-in-Convert-false c =
     let one : length c.args.call.now.types.now ≡ 1 = subst (λ (op : Op). HasArity op (length c.args.call.now.types.now)) c.in-Convert-false.is c.requires.prepared.arity in
     let x = read c.args.call.now.types.now c.args.inputs.now 0 c.requires.prepared.types c.requires.values (omega (arith, one)) in
     record { from = x.0; in_range = x.1; result = c.requires.prepared.result }
@@ -107,13 +107,13 @@ switched operation inputs criterion threshold first r can op met given =
 
 pub returns-then-meets : goal.returns-then-meets
 returns-then-meets c =
-    rw (to_z-of_z w128 c.converted.result (record { sfits = c.converted.type_inv }))
-    (switched (operation_of c.args.call.now) c.args.inputs.now c.in-Switch.criterion c.in-Switch.threshold true c.converted.result c.requires c.in-Switch.is c.if-meets.ensures c.converted.ensures)
+    rw (to_z-of_z w128 c.conversion.result (record { sfits = c.conversion.type_inv }))
+    (switched (operation_of c.args.call.now) c.args.inputs.now c.in-Switch.criterion c.in-Switch.threshold true c.conversion.result c.requires c.in-Switch.is c.if-meets.ensures c.conversion.ensures)
 
 pub returns-else-meets : goal.returns-else-meets
 returns-else-meets c =
-    rw (to_z-of_z w128 c.converted-else-meets.result (record { sfits = c.converted-else-meets.type_inv }))
-    (switched (operation_of c.args.call.now) c.args.inputs.now c.in-Switch.criterion c.in-Switch.threshold false c.converted-else-meets.result c.requires c.in-Switch.is c.if-meets.ensures c.converted-else-meets.ensures)
+    rw (to_z-of_z w128 c.conversion-else-meets.result (record { sfits = c.conversion-else-meets.type_inv }))
+    (switched (operation_of c.args.call.now) c.args.inputs.now c.in-Switch.criterion c.in-Switch.threshold false c.conversion-else-meets.result c.requires c.in-Switch.is c.if-meets.ensures c.conversion-else-meets.ensures)
 
 pub returns-in-Product : goal.returns-in-Product
 returns-in-Product c =

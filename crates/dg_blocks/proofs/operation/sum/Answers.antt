@@ -26,14 +26,14 @@ full_of c =
 pub signed_sum-exact-requires-clause-full : goal.signed_sum-exact-requires-clause-full
 signed_sum-exact-requires-clause-full c = full_of (goal.at.signed_sum-exact-requires-clause-full c).After-greatest_frac-frac
 
-pub settled-requires-clause-low : goal.settled-requires-clause-low
-settled-requires-clause-low c =
-    let full = full_of (goal.at.settled-requires-clause-low c).After-greatest_frac-frac in
+pub exact_conversion-requires-clause-low : goal.exact_conversion-requires-clause-low
+exact_conversion-requires-clause-low c =
+    let full = full_of (goal.at.exact_conversion-requires-clause-low c).After-greatest_frac-frac in
     rw (← full.2) (frac_bounds full.0 full.1.valid).0
 
-pub settled-requires-clause-high : goal.settled-requires-clause-high
-settled-requires-clause-high c =
-    let full = full_of (goal.at.settled-requires-clause-high c).After-greatest_frac-frac in
+pub exact_conversion-requires-clause-high : goal.exact_conversion-requires-clause-high
+exact_conversion-requires-clause-high c =
+    let full = full_of (goal.at.exact_conversion-requires-clause-high c).After-greatest_frac-frac in
     rw (← full.2) (frac_bounds full.0 full.1.valid).1
 
 pub returns : goal.returns
@@ -41,6 +41,6 @@ returns c =
     let full = full_of (goal.at.returns c).After-greatest_frac-frac in
     let s = c.signed_sum-exact.result in
     let exact : to_z w128 (of_z w128 s) ≡ s = to_z-of_z w128 s (record { sfits = c.signed_sum-exact.type_inv }) in
-    let r : to_z w128 (of_z w128 c.settled.result) ≡ c.settled.result = to_z-of_z w128 c.settled.result (record { sfits = c.settled.type_inv }) in
-    let converted = rw (exact, c.signed_sum-exact.ensures, ← full.2) at (c.settled.ensures full.0 full.2) in
-    rw r (subst (λ (op : Op). Gives op (operation_of c.args.call.now) c.args.call.now.types.now c.args.inputs.now c.settled.result) (sym c.requires.is_sum) (full.0, full.1, converted))
+    let r : to_z w128 (of_z w128 c.exact_conversion.result) ≡ c.exact_conversion.result = to_z-of_z w128 c.exact_conversion.result (record { sfits = c.exact_conversion.type_inv }) in
+    let converted = rw (exact, c.signed_sum-exact.ensures, ← full.2) at (c.exact_conversion.ensures full.0 full.2) in
+    rw r (subst (λ (op : Op). Gives op (operation_of c.args.call.now) c.args.call.now.types.now c.args.inputs.now c.exact_conversion.result) (sym c.requires.is_sum) (full.0, full.1, converted))

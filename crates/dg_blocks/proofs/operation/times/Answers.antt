@@ -10,11 +10,11 @@ use Rattle.dg_blocks.proofs.operation.times.Goals.{After-product_frac}
 full_frac : (c : After-product_frac) → to_z w16 (of_z w16 c.product_frac.result) ≡ frac_of c.requires.full.0
 full_frac c = to_z-of_z w16 c.product_frac.result (record { sfits = c.product_frac.type_inv }) ∙ c.product_frac.ensures ∙ sym c.requires.full.1.frac
 
-pub settled-requires-clause-low : goal.settled-requires-clause-low
-settled-requires-clause-low c = rw (full_frac (goal.at.settled-requires-clause-low c).After-product_frac) (frac_bounds c.requires.full.0 c.requires.full.1.valid).0
+pub exact_conversion-requires-clause-low : goal.exact_conversion-requires-clause-low
+exact_conversion-requires-clause-low c = rw (full_frac (goal.at.exact_conversion-requires-clause-low c).After-product_frac) (frac_bounds c.requires.full.0 c.requires.full.1.valid).0
 
-pub settled-requires-clause-high : goal.settled-requires-clause-high
-settled-requires-clause-high c = rw (full_frac (goal.at.settled-requires-clause-high c).After-product_frac) (frac_bounds c.requires.full.0 c.requires.full.1.valid).1
+pub exact_conversion-requires-clause-high : goal.exact_conversion-requires-clause-high
+exact_conversion-requires-clause-high c = rw (full_frac (goal.at.exact_conversion-requires-clause-high c).After-product_frac) (frac_bounds c.requires.full.0 c.requires.full.1.valid).1
 
 pub returns : goal.returns
 returns c =
@@ -23,8 +23,8 @@ returns c =
     let y : to_z w128 (of_z w128 c.args.y) ≡ c.args.y = to_z-of_z w128 c.args.y c.ranges.y in
     let p = c.product.result in
     let product : to_z w128 (of_z w128 p) ≡ c.args.x *ℤ c.args.y = to_z-of_z w128 p (record { sfits = c.product.type_inv }) ∙ c.product.ensures ∙ rw (x, y) refl in
-    let r : to_z w128 (of_z w128 c.settled.result) ≡ c.settled.result = to_z-of_z w128 c.settled.result (record { sfits = c.settled.type_inv }) in
-    let converted = c.settled.ensures full (sym (full_frac (goal.at.returns c).After-product_frac)) in
+    let r : to_z w128 (of_z w128 c.exact_conversion.result) ≡ c.exact_conversion.result = to_z-of_z w128 c.exact_conversion.result (record { sfits = c.exact_conversion.type_inv }) in
+    let converted = c.exact_conversion.ensures full (sym (full_frac (goal.at.returns c).After-product_frac)) in
     (full, c.requires.full.1, rw r (rw product at converted))
 
 pub product-requires-clause-left : goal.product-requires-clause-left
@@ -42,5 +42,5 @@ product-requires-clause-y_in_range c = rw (to_z-of_z w128 c.args.y c.ranges.y) c
 pub product-requires-clause-full : goal.product-requires-clause-full
 product-requires-clause-full c = c.requires.full
 
-pub settled-requires-clause-result : goal.settled-requires-clause-result
-settled-requires-clause-result c = c.requires.result
+pub exact_conversion-requires-clause-result : goal.exact_conversion-requires-clause-result
+exact_conversion-requires-clause-result c = c.requires.result

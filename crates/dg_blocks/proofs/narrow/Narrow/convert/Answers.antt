@@ -11,13 +11,13 @@ scaled_is v scale f g small =
     let p : FitsSigned w64 (v *ℤ scale) = omega (arith, ints, small.low, small.high) in
     rw (to_z-of_z w64 v f, to_z-of_z w64 scale g) (to_z-of_z w64 (v *ℤ scale) p)
 
-pub shifted-requires-clause-small : goal.shifted-requires-clause-small
-shifted-requires-clause-small c =
+pub biased_shift-requires-clause-small : goal.biased_shift-requires-clause-small
+biased_shift-requires-clause-small c =
     let f : FitsSigned w64 c.args.self.scale = search rules in
     rw (scaled_is c.args.v c.args.self.scale c.ranges.v f c.requires.small) c.requires.small
 
-pub shifted-requires-clause-bias : goal.shifted-requires-clause-bias
-shifted-requires-clause-bias c =
+pub biased_shift-requires-clause-bias : goal.biased_shift-requires-clause-bias
+biased_shift-requires-clause-bias c =
     let n = c.requires.narrow in
     let k = to_z-of_z w64 c.bias_for.result (record { sfits = c.bias_for.type_inv }) in
     rw (k, c.bias_for.ensures) (bias_range c.args.self n.0 n.1 n.2 (to_z w64 (of_z w64 (to_z w64 (of_z w64 c.args.v) *ℤ to_z w64 (of_z w64 c.args.self.scale)))) n.4.shifts)
@@ -27,11 +27,11 @@ returns c from to mode saturate is =
     let f : FitsSigned w64 c.args.self.scale = search rules in
     let p = scaled_is c.args.v c.args.self.scale c.ranges.v f c.requires.small in
     let k = to_z-of_z w64 c.bias_for.result (record { sfits = c.bias_for.type_inv }) in
-    let r = to_z-of_z w64 c.shifted.result (record { sfits = c.shifted.type_inv }) in
-    let t = to_z-of_z w64 c.settled.result (record { sfits = c.settled.type_inv }) in
+    let r = to_z-of_z w64 c.biased_shift.result (record { sfits = c.biased_shift.type_inv }) in
+    let t = to_z-of_z w64 c.stored_value.result (record { sfits = c.stored_value.type_inv }) in
     let q : c.bias_for.result ≡ bias_for (c.args.v *ℤ c.args.self.scale) c.args.self.bias c.args.self.below = rw p at c.bias_for.ensures in
-    let shifted : IsShifted (c.args.v *ℤ c.args.self.scale) (bias_for (c.args.v *ℤ c.args.self.scale) c.args.self.bias c.args.self.below) c.args.self.even (2 ^ c.args.self.down) c.shifted.result = rw (p, k, q) at c.shifted.ensures in
-    rw t (narrow_converts c.args.self from to mode saturate c.args.v c.shifted.result c.settled.result is shifted (rw r at (c.settled.ensures to saturate is.ends)))
+    let shifted : IsShifted (c.args.v *ℤ c.args.self.scale) (bias_for (c.args.v *ℤ c.args.self.scale) c.args.self.bias c.args.self.below) c.args.self.even (2 ^ c.args.self.down) c.biased_shift.result = rw (p, k, q) at c.biased_shift.ensures in
+    rw t (narrow_converts c.args.self from to mode saturate c.args.v c.biased_shift.result c.stored_value.result is shifted (rw r at (c.stored_value.ensures to saturate is.ends)))
 
 pub overflow_mul-scaled : goal.overflow_mul-scaled
 overflow_mul-scaled c =
@@ -39,8 +39,8 @@ overflow_mul-scaled c =
     let p : FitsSigned w64 (c.args.v *ℤ c.args.self.scale) = omega (arith, ints, c.requires.small.low, c.requires.small.high) in
     rw (to_z-of_z w64 c.args.v c.ranges.v, to_z-of_z w64 c.args.self.scale f) p
 
-pub settled-requires : goal.settled-requires
-settled-requires c = (c.requires.narrow.1, c.requires.narrow.3, c.requires.narrow.4.ends)
+pub stored_value-requires : goal.stored_value-requires
+stored_value-requires c = (c.requires.narrow.1, c.requires.narrow.3, c.requires.narrow.4.ends)
 
-pub shifted-requires-clause-down : goal.shifted-requires-clause-down
-shifted-requires-clause-down c = c.requires.narrow.4.shifts.down_below
+pub biased_shift-requires-clause-down : goal.biased_shift-requires-clause-down
+biased_shift-requires-clause-down c = c.requires.narrow.4.shifts.down_below

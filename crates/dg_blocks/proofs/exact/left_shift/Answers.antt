@@ -2,7 +2,7 @@ use Rattle.std.proofs.Common.{◌≡◌, ◌^◌, ◌*ℤ◌, pos, to_z, of_z}
 use Rattle.std.specs.Int.{w128}
 use Rattle.std.proofs.lemmas.Int.{to_z-of_z}
 use Rattle.dg_blocks.proofs.Products.{one_shifted}
-use Rattle.dg_blocks.proofs.exact.shifted.Goals as goal
+use Rattle.dg_blocks.proofs.exact.left_shift.Goals as goal
 
 pub overflow_mul-result : goal.overflow_mul-result
 overflow_mul-result c =

@@ -6,8 +6,8 @@ use Rattle.fx_type.proofs.Ranges.{frac_bounds}
 use Rattle.dg_model.specs.declared.op.Op.{Op}
 use Rattle.dg_model.specs.Operation.{HasArity, HasSigns, HasFullType}
 use Rattle.dg_blocks.specs.Narrow.{HasRoom}
-use Rattle.dg_blocks.proofs.preparing.summed.Goals as goal
-use Rattle.dg_blocks.proofs.preparing.summed.Goals.{After-frac-frac}
+use Rattle.dg_blocks.proofs.preparing.prepared_sum.Goals as goal
+use Rattle.dg_blocks.proofs.preparing.prepared_sum.Goals.{After-frac-frac}
 
 -- the frac at hand is that of the full type
 full_frac : (c : After-frac-frac) → to_z w16 (of_z w16 c.frac-frac.result) ≡ frac_of c.sum_type-full.result

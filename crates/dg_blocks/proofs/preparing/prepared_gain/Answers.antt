@@ -6,7 +6,7 @@ use Rattle.dg_model.specs.declared.op.Op.{Op}
 use Rattle.dg_model.specs.declared.op.Op.TheVariants.{Gain}
 use Rattle.dg_model.specs.Operation.{HasParameters}
 use Rattle.dg_blocks.proofs.Narrowed.{range_within, whole_fits}
-use Rattle.dg_blocks.proofs.preparing.scaled.Goals as goal
+use Rattle.dg_blocks.proofs.preparing.prepared_gain.Goals as goal
 
 pub short-requires : goal.short-requires
 short-requires c =

@@ -4,7 +4,7 @@ use Rattle.std.specs.Int.Signed.{shr_z}
 use Rattle.std.proofs.lemmas.Int.{ints, to_z-of_z}
 use Rattle.dg_blocks.specs.Narrow.{IsTie}
 use Rattle.dg_blocks.proofs.Shifts.{shr-fits, shifted_is}
-use Rattle.dg_blocks.proofs.narrow.shifted.Goals as goal
+use Rattle.dg_blocks.proofs.narrow.biased_shift.Goals as goal
 
 pub returns : goal.returns
 returns c =

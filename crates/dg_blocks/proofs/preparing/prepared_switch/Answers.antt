@@ -5,8 +5,8 @@ use Rattle.fx_type.specs.FxType.{IsType, frac_of}
 use Rattle.fx_type.proofs.Ranges.{frac_bounds}
 use Rattle.dg_model.specs.declared.op.Op.{Op}
 use Rattle.dg_model.specs.Operation.{HasArity, type_of}
-use Rattle.dg_blocks.proofs.preparing.chosen.Goals as goal
-use Rattle.dg_blocks.proofs.preparing.chosen.Goals.{After-frac-frac}
+use Rattle.dg_blocks.proofs.preparing.prepared_switch.Goals as goal
+use Rattle.dg_blocks.proofs.preparing.prepared_switch.Goals.{After-frac-frac}
 
 frac_is : (c : After-frac-frac) → to_z w16 (of_z w16 c.frac-frac.result) ≡ frac_of (type_of c.args.call.now.types.now 0)
 frac_is c = to_z-of_z w16 c.frac-frac.result (record { sfits = c.frac-frac.type_inv }) ∙ c.frac-frac.ensures

@@ -4,7 +4,7 @@ use Rattle.std.proofs.lemmas.Int.{ints, to_z-of_z}
 use Rattle.fx_type.specs.FxType.{lowest_of, highest_of}
 use Rattle.fx_type.specs.Conversion.{Settles}
 use Rattle.dg_blocks.proofs.Narrowed.{inside, below, above, ordered}
-use Rattle.dg_blocks.proofs.narrow.Narrow.settled.Goals as goal
+use Rattle.dg_blocks.proofs.narrow.Narrow.stored_value.Goals as goal
 
 pub returns-then-r-self : goal.returns-then-r-self
 returns-then-r-self c to saturate ends =

@@ -6,8 +6,8 @@ use Rattle.fx_type.proofs.Ranges.{frac_bounds}
 use Rattle.dg_model.specs.declared.op.Op.{Op}
 use Rattle.dg_model.specs.Operation.{HasArity, type_of}
 use Rattle.dg_blocks.specs.Narrow.{HasRoom}
-use Rattle.dg_blocks.proofs.preparing.converted.Goals as goal
-use Rattle.dg_blocks.proofs.preparing.converted.Goals.{After-frac}
+use Rattle.dg_blocks.proofs.preparing.prepared_conversion.Goals as goal
+use Rattle.dg_blocks.proofs.preparing.prepared_conversion.Goals.{After-frac}
 
 frac_is : (c : After-frac) → to_z w16 (of_z w16 c.frac.result) ≡ frac_of (type_of c.args.call.now.types.now 0)
 frac_is c = to_z-of_z w16 c.frac.result (record { sfits = c.frac.type_inv }) ∙ c.frac.ensures

@@ -2,7 +2,7 @@ use Rattle.std.proofs.Common.{◌^◌, ◌*ℤ◌, pos}
 use Rattle.std.specs.Int.{w64}
 use Rattle.std.proofs.lemmas.Int.{to_z-of_z}
 use Rattle.dg_blocks.proofs.Narrowed.{one_shifted}
-use Rattle.dg_blocks.proofs.short_sums.shifted.Goals as goal
+use Rattle.dg_blocks.proofs.short_sums.left_shift.Goals as goal
 
 pub overflow_mul-result : goal.overflow_mul-result
 overflow_mul-result c = rw (to_z-of_z w64 c.args.v c.ranges.v, one_shifted c.args.gap c.requires.gap) c.requires.fits
