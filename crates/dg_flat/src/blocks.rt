@@ -45,7 +45,7 @@ fn resets_at(blocks: &[NestedBlock], control: u32) -> bool
 }
 
 /// The block with its path, in the enabled subsystem of this EnableTest.
-fn placed(
+fn placed_block(
     alloc: Global,
     block: &Block,
     path: Path,
@@ -100,10 +100,10 @@ fn placed_under(
         (option_map (flat_place blocks.now) control) block.now) }
 {
     match control {
-        None => placed(alloc, block, path, false, None),
+        None => placed_block(alloc, block, path, false, None),
         Some(control) => {
             let resets = resets_at(blocks, control);
-            placed(alloc, block, path, resets, Some(places[control as usize]))
+            placed_block(alloc, block, path, resets, Some(places[control as usize]))
         }
     }
 }

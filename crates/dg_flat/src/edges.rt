@@ -90,7 +90,7 @@ fn end_of(
 }
 
 /// The edge between two ports.
-fn joined(source: Option<FlatPort>, end: Option<FlatPort>) -> Option<Edge>
+fn edge_of_ports(source: Option<FlatPort>, end: Option<FlatPort>) -> Option<Edge>
     ensures { result ≡ joined_of source end }
 {
     let Some(source) = source else { return None };
@@ -121,7 +121,7 @@ fn line_edges(
     for line in lines {
         let source = source_of(systems, blocks, places, *line);
         let end = end_of(systems, blocks, places, line.to, line.target);
-        if let Some(edge) = joined(source, end) {
+        if let Some(edge) = edge_of_ports(source, end) {
             edges.push(edge)?;
         }
     }

@@ -21,7 +21,7 @@ use fx_io::OutOfMemory;
 use std::alloc::Global;
 
 /// A rule is broken at a block.
-fn broken(
+fn rule_fault(
     alloc: Global,
     rule: Rule,
     blocks: &[NestedBlock],
@@ -61,11 +61,11 @@ fn check(
 {
     let blocks = nested.blocks.as_slice();
     if let Some(place) = first_unwired(alloc, systems, nested)? {
-        let fault = broken(alloc, Rule::Wiring, blocks, paths, place)?;
+        let fault = rule_fault(alloc, Rule::Wiring, blocks, paths, place)?;
         return Err(CheckFault::Broken(fault));
     }
     if let Some(place) = first_misplaced(systems, nested) {
-        let fault = broken(alloc, Rule::Enable, blocks, paths, place)?;
+        let fault = rule_fault(alloc, Rule::Enable, blocks, paths, place)?;
         return Err(CheckFault::Broken(fault));
     }
     Ok(())

@@ -8,7 +8,7 @@ use fx_io::{OutOfMemory, Sequence};
 use std::alloc::Global;
 
 /// A list of its own with the same items.
-fn copied<E: Copy>(alloc: Global, list: &[E]) -> Result<Sequence<E>, OutOfMemory>
+fn copy_list<E: Copy>(alloc: Global, list: &[E]) -> Result<Sequence<E>, OutOfMemory>
     ensures { IfOk result (λ copy. copy ≡ list.now) }
 {
     Ok(Sequence::from_vec(Vec::from_slice(alloc, list)?))
@@ -70,7 +70,7 @@ fn copy_unlisted(alloc: Global, kind: &Kind) -> Result<Kind, OutOfMemory>
         Kind::Outport { number } => Ok(Kind::Outport { number: *number }),
         Kind::Ground => Ok(Kind::Ground),
         Kind::Sum { negative } => Ok(Kind::Sum {
-            negative: copied(alloc, negative.as_slice())?,
+            negative: copy_list(alloc, negative.as_slice())?,
         }),
         Kind::Product => Ok(Kind::Product),
         Kind::Relational { operator } => Ok(Kind::Relational {
@@ -81,10 +81,10 @@ fn copy_unlisted(alloc: Global, kind: &Kind) -> Result<Kind, OutOfMemory>
         }),
         Kind::Convert { stored } => Ok(Kind::Convert { stored: *stored }),
         Kind::Mux { sizes } => Ok(Kind::Mux {
-            sizes: copied(alloc, sizes.as_slice())?,
+            sizes: copy_list(alloc, sizes.as_slice())?,
         }),
         Kind::Demux { sizes } => Ok(Kind::Demux {
-            sizes: copied(alloc, sizes.as_slice())?,
+            sizes: copy_list(alloc, sizes.as_slice())?,
         }),
         Kind::Pass { width } => Ok(Kind::Pass { width: *width }),
         Kind::EnableTest => Ok(Kind::EnableTest),
@@ -98,7 +98,7 @@ pub fn copy_kind(alloc: Global, kind: &Kind, resets: bool) -> Result<Kind, OutOf
     ensures { IfOk result (λ copy. copy ≡ resetting resets kind.now) }
 {
     match kind.list() {
-        Some(list) => Ok(with_list(kind, copied(alloc, list)?, resets)),
+        Some(list) => Ok(with_list(kind, copy_list(alloc, list)?, resets)),
         None => copy_unlisted(alloc, kind),
     }
 }

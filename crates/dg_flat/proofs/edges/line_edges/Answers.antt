@@ -19,9 +19,9 @@ loop-line-preserved c =
     let i = c.loop-line.line-index in
     let line = get_or lines i none in
     let inside : i < length lines = c.loop-line-test.true in
-    let is : c.joined.result ≡ edge_of blocks line =
-    c.joined.ensures ∙ ap (λ (o : Option FlatPort). joined o c.end_of-end.result) c.source_of-source.ensures ∙ ap (joined (source_of blocks line)) c.end_of-end.ensures in
-    elim c.match-joined.branch [
+    let is : c.edge_of_ports.result ≡ edge_of blocks line =
+    c.edge_of_ports.ensures ∙ ap (λ (o : Option FlatPort). joined o c.end_of-end.result) c.source_of-source.ensures ∙ ap (joined (source_of blocks line)) c.end_of-end.ensures in
+    elim c.match-edge_of_ports.branch [
       | in-Some+in_ok-push w ↦
           ap (λ v. v.items) w.edges-is ∙ w.in_ok-push.ensures.items ∙ ap (λ edges. edges ++ w.in-Some.edge ∷ []) c.loop-line.invariant
           ∙ sym (gathered_some (edge_of blocks) lines i none w.in-Some.edge inside (sym is ∙ w.in-Some.is))

@@ -15,7 +15,7 @@ unlisted resets other none = refl
 pub with_list-requires : goal.with_list-requires
 with_list-requires c =
     let has : (row_of c.args.kind.now).signal.lists ≡ c.in-Some.list.now ∷ [] = rw c.in-Some.is at c.list.ensures in
-    has ∙ ap (λ (list : List Decimal). list ∷ []) (sym c.in_ok-copied-in-Some.ensures)
+    has ∙ ap (λ (list : List Decimal). list ∷ []) (sym c.in_ok-copy_list-in-Some.ensures)
 
 pub returns-in-None : goal.returns-in-None
 returns-in-None c =

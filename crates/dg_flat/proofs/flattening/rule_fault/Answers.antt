@@ -4,7 +4,7 @@ use Rattle.dg_model.specs.Faults.{fault_of}
 use Rattle.dg_flat.specs.inner.Slots.{slot_of}
 use Rattle.dg_flat.proofs.Firsts.{slot_within}
 use Rattle.dg_flat.proofs.PathTable.{path_is}
-use Rattle.dg_flat.proofs.flattening.broken.Goals as goal
+use Rattle.dg_flat.proofs.flattening.rule_fault.Goals as goal
 
 pub returns : goal.returns
 returns c =
