@@ -137,7 +137,7 @@ pub fn all_readers(alloc: Global, count: usize, edges: &[Edge]) -> Result<Vec<Si
 }
 
 /// The blocks of a diagram as the rounds see them.
-pub fn linked(alloc: Global, diagram: &Diagram) -> Result<WidthRound, OutOfMemory>
+pub fn width_round(alloc: Global, diagram: &Diagram) -> Result<WidthRound, OutOfMemory>
     requires few { length diagram.now.blocks < 2 ^ 32 }
     requires can { CanLink diagram.now.blocks diagram.now.edges }
     ensures size { IfOk result (λ round. length round.sources ≡ length diagram.now.blocks) }

@@ -8,7 +8,7 @@ ghost use Rattle.dg_model.specs.Widths.{widths_of};
 ghost use Rattle.dg_model.specs.Wired.{IsWired};
 ghost use Rattle.dg_types.specs.inner.Scanned.{IsScan, KeepAllBelow};
 
-use crate::build::linked;
+use crate::build::width_round;
 use crate::elements::is_bounded;
 use crate::fitting::keeps;
 use crate::scanning::{Scan, scan_of};
@@ -82,7 +82,7 @@ pub fn widths(alloc: Global, diagram: &Diagram) -> Result<PortWidths, CheckFault
     ensures kept { OnOk result (KeepsDimensions diagram.now) }
     ensures refused { IfErr result (IsRefusal (BreaksDimension diagram.now)) }
 {
-    let round = linked(alloc, diagram)?;
+    let round = width_round(alloc, diagram)?;
     let scan = scan_of(alloc, diagram, &round)?;
     widths_in(alloc, diagram, &scan)
 }

@@ -34,7 +34,7 @@ fn all_inputs(edges: &[Edge], widths: &[Sizes]) -> u64
 }
 
 /// How many samples a block keeps of all of its elements, saturating.
-fn delayed(block: &Block, row: &[u32]) -> u64
+fn delay_samples(block: &Block, row: &[u32]) -> u64
     ensures { result ≡ min (2 ^ 64 - 1) (delayed_of block.now row.now) }
 {
     u64::from(block.kind.row().delay).saturating_mul(u64::from(first_of(row)))
@@ -52,7 +52,7 @@ fn all_kept(blocks: &[Block], widths: &[Sizes]) -> (u64, u64)
     for place in 0..blocks.len() {
         let row = widths[place].as_slice();
         outputs = outputs.saturating_add(elements_of(&blocks[place], row));
-        kept = kept.saturating_add(delayed(&blocks[place], row));
+        kept = kept.saturating_add(delay_samples(&blocks[place], row));
     }
     (outputs, kept)
 }

@@ -65,7 +65,7 @@ fn fits_at(decimal: Decimal, signed: bool, width: u8, frac: i16) -> bool
 
 /// The least number of steps down from the frac 128, no fewer than these, after which a decimal
 /// fits.
-fn lowered(decimal: Decimal, signed: bool, width: u8, steps: u8) -> Option<u8>
+fn fitting_step(decimal: Decimal, signed: bool, width: u8, steps: u8) -> Option<u8>
     requires word { IsWord width signed }
     requires sign { HasSign signed decimal }
     requires few { steps < 193 }
@@ -88,7 +88,7 @@ fn greatest_fit(value: &[Decimal], signed: bool, width: u8) -> Option<i16>
 {
     let mut steps = 0;
     for decimal in value {
-        let Some(next) = lowered(*decimal, signed, width, steps) else {
+        let Some(next) = fitting_step(*decimal, signed, width, steps) else {
             return None;
         };
         steps = next;

@@ -8,7 +8,7 @@ ghost use Rattle.dg_types.specs.inner.TypedInputs.{IsKnownValid, AreReady, FullT
 ghost use Rattle.dg_types.specs.inner.TypedScan.{IsTyped};
 ghost use Rattle.dg_types.specs.inner.TypedLaws.{first_types, typed_is_local, typed_stays};
 
-use crate::build::linked;
+use crate::build::width_round;
 use crate::linked::WidthRound;
 use crate::typed_step::taken_type;
 use dg_model::{Block, Diagram};
@@ -97,7 +97,7 @@ pub fn round_of(alloc: Global, diagram: &Diagram) -> Result<TypeRound<'_>, OutOf
 {
     fx_type::full_sum_is_one();
     fx_type::union_is_one();
-    let links = linked(alloc, diagram)?;
+    let links = width_round(alloc, diagram)?;
     Ok(TypeRound {
         blocks: diagram.blocks.as_slice(),
         links,

@@ -49,7 +49,7 @@ enum Pairing {
 }
 
 /// The type that two make, where it is valid.
-fn paired(how: Pairing, left: FxType, right: FxType) -> Option<FxType>
+fn pair_type(how: Pairing, left: FxType, right: FxType) -> Option<FxType>
     requires left { IsType left }
     requires right { IsType right }
     ensures { result ≡ paired_of how left right }
@@ -103,7 +103,7 @@ fn scaled_at(
     let Some(kind) = param_type(value, param, input) else {
         return None;
     };
-    paired(Pairing::Product, input, kind)
+    pair_type(Pairing::Product, input, kind)
 }
 
 /// The type that input 1 and another make.
@@ -124,7 +124,7 @@ fn paired_at(
     let Some(right) = input_at(values, sources, other) else {
         return None;
     };
-    paired(how, left, right)
+    pair_type(how, left, right)
 }
 
 /// The full type or union that a kind's equation names of these inputs, where the types that it

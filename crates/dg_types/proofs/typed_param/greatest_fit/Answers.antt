@@ -15,14 +15,14 @@ pub returns-in_default-clause-value : goal.returns-in_default-clause-value
 returns-in_default-clause-value c =
     let steps = c.loop-decimal.steps in
     let e : find (at_step (get_or c.args.value.now c.loop-decimal.decimal-index c.decimal-item.result) c.args.signed c.args.width) (range_with_len steps (193 - steps)) ≡ None =
-    ap (λ (d : Decimal). find (at_step d c.args.signed c.args.width) (range_with_len steps (193 - steps))) (sym c.decimal-item.is) ∙ sym c.lowered.ensures ∙ c.in_default.is in
+    ap (λ (d : Decimal). find (at_step d c.args.signed c.args.width) (range_with_len steps (193 - steps))) (sym c.decimal-item.is) ∙ sym c.fitting_step.ensures ∙ c.in_default.is in
     sym (greatest_none c.args.value.now c.args.signed c.args.width c.loop-decimal.decimal-index steps c.decimal-item.result c.loop-decimal-test.true c.loop-decimal.invariant e)
 
 pub loop-decimal-preserved : goal.loop-decimal-preserved
 loop-decimal-preserved c =
     let steps = c.loop-decimal.steps in
     let e : find (at_step (get_or c.args.value.now c.loop-decimal.decimal-index c.decimal-item.result) c.args.signed c.args.width) (range_with_len steps (193 - steps)) ≡ Some c.in-Some.next =
-    ap (λ (d : Decimal). find (at_step d c.args.signed c.args.width) (range_with_len steps (193 - steps))) (sym c.decimal-item.is) ∙ sym c.lowered.ensures ∙ c.in-Some.is in
+    ap (λ (d : Decimal). find (at_step d c.args.signed c.args.width) (range_with_len steps (193 - steps))) (sym c.decimal-item.is) ∙ sym c.fitting_step.ensures ∙ c.in-Some.is in
     lowered_more c.args.value.now c.args.signed c.args.width c.loop-decimal.decimal-index steps c.in-Some.next c.decimal-item.result c.requires.word
     (All-take (HasSign c.args.signed) c.loop-decimal.decimal-index c.args.value.now c.requires.sign) c.loop-decimal-test.true c.loop-decimal.invariant e
 

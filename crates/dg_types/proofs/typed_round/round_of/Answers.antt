@@ -2,8 +2,8 @@ use Rattle.dg_types.proofs.FromWired.{can_link}
 use Rattle.dg_types.proofs.TypedWired.{are_ready, full_types_are}
 use Rattle.dg_types.proofs.typed_round.round_of.Goals as goal
 
-pub linked-requires-clause-can : goal.linked-requires-clause-can
-linked-requires-clause-can c = can_link c.args.diagram.now c.requires
+pub width_round-requires-clause-can : goal.width_round-requires-clause-can
+width_round-requires-clause-can c = can_link c.args.diagram.now c.requires
 
 pub invariant_of-result : goal.invariant_of-result
 invariant_of-result c = record {

@@ -20,6 +20,6 @@ pub returns : goal.returns
 returns c =
     let first : known_at (source_types c.args.values.now c.args.sources.now) 0 ≡ Some c.in-Some.input = sym c.input_at.ensures.value ∙ c.in-Some.is in
     let param : param_type_of c.args.value.now c.args.param c.in-Some.input ≡ Some c.in-Some-param_type.kind = sym (param_is c.args.value.now c.args.param c.in-Some.input) ∙ sym c.param_type.ensures.value ∙ c.in-Some-param_type.is in
-    c.paired.ensures
+    c.pair_type.ensures
     ∙ sym (known_step (known_at (source_types c.args.values.now c.args.sources.now) 0) c.in-Some.input (λ input. with_known (param_type_of c.args.value.now c.args.param input) (full_product_of input)) first
     ∙ ap (λ (o : Option FxType). with_known o (full_product_of c.in-Some.input)) param)

@@ -7,8 +7,8 @@ use Rattle.fx_type.specs.StoredOf.{rounded_of, is_in_range}
 use Rattle.dg_model.specs.GainParam.{frac_down}
 use Rattle.dg_types.specs.inner.TypedFit.{at_step}
 use Rattle.fx_io.proofs.Places.{search_step}
-use Rattle.dg_types.proofs.typed_param.lowered.Goals as goal
-use Rattle.dg_types.proofs.typed_param.lowered.Goals.{After-fits_at}
+use Rattle.dg_types.proofs.typed_param.fitting_step.Goals as goal
+use Rattle.dg_types.proofs.typed_param.fitting_step.Goals.{After-fits_at}
 
 abbrev test : After-fits_at → ℕ → Bool
 test c = at_step c.args.decimal c.args.signed c.args.width

@@ -3,7 +3,7 @@ use Rattle.std.proofs.lemmas.Option.{slice_get-get_or}
 use Rattle.dg_types.specs.inner.Build.{all_forms, Gathered, Known}
 use Rattle.dg_types.specs.inner.Shown.{source_of}
 use Rattle.dg_types.proofs.Built.{are_linked, mirrors_built, length_forms}
-use Rattle.dg_types.proofs.build.linked.Goals as goal
+use Rattle.dg_types.proofs.build.width_round.Goals as goal
 
 pub invariant_of-result : goal.invariant_of-result
 invariant_of-result c =
