@@ -73,7 +73,7 @@ pub fn base_period(diagram: &Diagram) -> Decimal
 }
 
 /// The period that an inheriting block of this kind has before the first round.
-fn inherited(kind: &Kind) -> Known
+fn inherited_period(kind: &Kind) -> Known
     ensures { result ≡ first_inherited (row_of kind.now).timing.inherits }
 {
     match kind.row().inherits {
@@ -98,7 +98,7 @@ fn first_period(block: &Block, base: Decimal) -> Result<Known, NotWhole>
             None => Err(NotWhole),
         },
         PeriodSpec::Constant => Ok(Some(None)),
-        PeriodSpec::Inherit => Ok(inherited(&block.kind)),
+        PeriodSpec::Inherit => Ok(inherited_period(&block.kind)),
     }
 }
 

@@ -125,7 +125,7 @@ impl Round for PeriodRound {
         if own.is_some() {
             return own;
         }
-        self.taken(values, block)
+        self.period_of_sources(values, block)
     }
 
     fn readers(&self, block: u32) -> &[u32] {
@@ -152,7 +152,7 @@ impl PeriodRound {
     }
 
     /// The period that a block without one takes.
-    fn taken(&self, values: &[Known], block: u32) -> Known
+    fn period_of_sources(&self, values: &[Known], block: u32) -> Known
         requires inside { block < length self.now.links.sources }
         requires size { length values.now ≡ length self.now.links.sources }
         ensures { result ≡ taken_by (slice_index_or self.now.rests block false)

@@ -16,7 +16,7 @@ fn rank_of(decimal: Decimal) -> u32
 }
 
 /// Digits with so many zeros behind them, where they have room in 128 bits.
-fn scaled(digits: u64, zeros: u32) -> Option<u128>
+fn scaled_digits(digits: u64, zeros: u32) -> Option<u128>
     requires { 0 < digits }
     ensures { Shows (digits * 10 ^ zeros) result }
 {
@@ -42,11 +42,11 @@ fn in_one_unit(first: Decimal, second: Decimal) -> Aligned
     if rank <= other {
         Aligned {
             first: Some(u128::from(first.digits)),
-            second: scaled(second.digits, other - rank),
+            second: scaled_digits(second.digits, other - rank),
         }
     } else {
         Aligned {
-            first: scaled(first.digits, rank - other),
+            first: scaled_digits(first.digits, rank - other),
             second: Some(u128::from(second.digits)),
         }
     }

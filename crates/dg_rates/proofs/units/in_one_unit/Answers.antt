@@ -17,7 +17,7 @@ returns-then-rank-other c =
       first_is = ap (λ n. c.args.first.digits * 10 ^ n) (sym c.rank_of-rank.ensures.value);
       second_is = ap (λ n. c.args.second.digits * 10 ^ n) (sym c.rank_of-other.ensures.value) ∙ raised c.args.second.digits low high below;
       left_shown = c.from.ensures;
-      right_shown = c.scaled.ensures;
+      right_shown = c.scaled_digits.ensures;
       small = inl c.args.first.eighteen_digits;
     }
 
@@ -35,7 +35,7 @@ returns-else-rank-other c =
       some_right = c.requires.second;
       first_is = ap (λ n. c.args.first.digits * 10 ^ n) (sym c.rank_of-rank.ensures.value) ∙ raised c.args.first.digits low high below;
       second_is = ap (λ n. c.args.second.digits * 10 ^ n) (sym c.rank_of-other.ensures.value);
-      left_shown = c.scaled-else-rank-other.ensures;
+      left_shown = c.scaled_digits-else-rank-other.ensures;
       right_shown = c.from-else-rank-other.ensures;
       small = inr c.args.second.eighteen_digits;
     }
