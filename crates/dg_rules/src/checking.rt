@@ -30,14 +30,14 @@ pub fn check(alloc: Global, diagram: Diagram) -> Result<Checked, Refused>
     ensures kept { IfErr result (λ refused. refused.diagram ≡ diagram) }
     ensures broken { IfErr result (λ refused. IsRefusal (BreaksRule diagram) refused.fault) }
 {
-    match propagated(alloc, &diagram) {
+    match propagation(alloc, &diagram) {
         Ok(values) => Ok(Checked::new(diagram, values)),
         Err(fault) => Err(Refused { fault, diagram }),
     }
 }
 
 /// What propagation gives the blocks of a diagram, or the first rule that it breaks.
-fn propagated(alloc: Global, diagram: &Diagram) -> Result<Propagated, CheckFault>
+fn propagation(alloc: Global, diagram: &Diagram) -> Result<Propagated, CheckFault>
     requires { IsWired diagram.now }
     ensures checked { IfOk result (λ _. IsChecked diagram.now) }
     ensures propagated { IfOk result (IsPropagated diagram.now) }

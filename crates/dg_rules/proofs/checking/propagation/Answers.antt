@@ -7,7 +7,7 @@ use Rattle.dg_model.specs.Loop.{BreaksLoop}
 use Rattle.dg_model.specs.Rate.{BreaksRate}
 use Rattle.dg_model.specs.TypeRule.{BreaksType}
 use Rattle.dg_model.proofs.Refused.{refused_as}
-use Rattle.dg_rules.proofs.checking.propagated.Goals as goal
+use Rattle.dg_rules.proofs.checking.propagation.Goals as goal
 
 pub returns-in_err-widths-clause-broken : goal.returns-in_err-widths-clause-broken
 returns-in_err-widths-clause-broken c =
