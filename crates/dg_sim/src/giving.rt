@@ -69,7 +69,7 @@ fn gather(row: &[i128], args: &[u32], inputs: &mut [i128])
 }
 
 /// What an operation gives of these inputs. Its call is put together only where something asks for it.
-fn carried(program: &Program, work: Work, prepared: &Prepared, inputs: &[i128]) -> i128
+fn operation_output(program: &Program, work: Work, prepared: &Prepared, inputs: &[i128]) -> i128
     requires types { work.first + work.count ≤ length program.now.types }
     requires signs { work.first_sign + work.signs ≤ length program.now.signs }
     requires ready { IsPrepared prepared.now (operation_at program.now work) }
@@ -103,7 +103,7 @@ fn work(
 {
     let (first, count) = (work.first as usize, work.count as usize);
     gather(row, &program.args.as_slice()[first..first + count], inputs);
-    carried(program, work, prepared, &inputs[..count])
+    operation_output(program, work, prepared, &inputs[..count])
 }
 
 /// Whether one of these cells is above 0.
@@ -116,7 +116,7 @@ fn some_above(row: &[i128], args: &[u32]) -> bool
 }
 
 /// What a memory keeps, or else an initial value.
-fn recalled(pasts: &[Past], memory: u32, age: u32, initial: i128) -> i128
+fn memory_value(pasts: &[Past], memory: u32, age: u32, initial: i128) -> i128
     ensures { result ≡ kept_or (kept_at pasts.now memory) age initial }
 {
     match pasts.get(memory as usize) {
@@ -166,18 +166,18 @@ pub fn give(
             memory,
             age,
             initial,
-        } => recalled(pasts, memory, age, initial),
+        } => memory_value(pasts, memory, age, initial),
         Rule::Slower {
             memory,
             period,
             initial,
-        } => recalled(pasts, memory, if hits(period, t) { 0 } else { 1 }, initial),
+        } => memory_value(pasts, memory, if hits(period, t) { 0 } else { 1 }, initial),
         Rule::Held {
             memory,
             from,
             control,
             initial,
-        } => read_where_on(row, from, control, recalled(pasts, memory, 0, initial)),
+        } => read_where_on(row, from, control, memory_value(pasts, memory, 0, initial)),
         Rule::Reset {
             from,
             control,

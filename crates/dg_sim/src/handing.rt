@@ -7,9 +7,9 @@ ghost use Rattle.dg_tables.specs.Finding.{Finds, IsRead, ReadsNow};
 ghost use Rattle.dg_sim.specs.inner.Turns.{IsMadeFor, IsTurnOf};
 ghost use Rattle.dg_model.specs.declared.kind.Kind.{Kind};
 
-use crate::memories::slowed;
+use crate::memories::transition_rule;
 use crate::program::{Program, Rule};
-use crate::turn::{Turn, offered};
+use crate::turn::{Turn, offered_entry};
 use dg_model::is_slow_to_fast;
 use dg_tables::period_of_input;
 use fx_io::OutOfMemory;
@@ -25,7 +25,7 @@ pub fn hand_on<'a>(program: &Program, turn: Turn<'a>, port: u32, element: u32) -
         turn.place.block port element }
     ensures { IsMadeFor turn.entry program.now program.now result }
 {
-    let from = offered(turn, &program.places, port, element);
+    let from = offered_entry(turn, &program.places, port, element);
     Rule::Same { from }
 }
 
@@ -44,7 +44,7 @@ pub fn transition<'a>(
     let slow = period_of_input(turn.checked, turn.starts, turn.place.block, 1);
     let own = turn.checked.period(turn.place.block);
     if is_slow_to_fast(slow, own) {
-        slowed(program, turn, initial, slow)
+        transition_rule(program, turn, initial, slow)
     } else {
         Ok(hand_on(program, turn, 1, turn.place.element))
     }

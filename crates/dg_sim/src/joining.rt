@@ -61,7 +61,7 @@ struct Part {
 
 /// The cursor itself where it stands in the block and not behind a port and an element, or else before
 /// the first port.
-fn begun(cursor: Cursor, block: u32, ports: u32, element: u32) -> Cursor
+fn start_cursor(cursor: Cursor, block: u32, ports: u32, element: u32) -> Cursor
     ensures block { result.block ≡ block }
     ensures ports { result.ports ≤ ports }
     ensures before { result.before ≤ element }
@@ -98,7 +98,7 @@ fn part_into(
         result.element × (result.before ≡ sum (map (width_into checked.now.diagram
         (attributes_of checked.now.diagram) block) (numbers_from 1 signal))) }
 {
-    let start = begun(from, block, inputs, element);
+    let start = start_cursor(from, block, inputs, element);
     let mut signal = start.ports;
     let mut before = start.before;
     let mut width = width_of_input(checked, starts, block, signal + 1);
@@ -125,7 +125,7 @@ fn width_before(checked: &Checked, from: Cursor, block: u32, port: u32) -> u32
         (numbers_from 1 (port - 1))) }
 {
     let count = port - 1;
-    let start = begun(from, block, count, u32::MAX);
+    let start = start_cursor(from, block, count, u32::MAX);
     let mut total = start.before;
     for i in start.ports..count {
         total += width_of_output(checked, block, i + 1);

@@ -12,7 +12,7 @@ ghost use Rattle.dg_sim.specs.inner.Turns.{IsMadeFor, IsTurnOf};
 ghost use Rattle.dg_tables.specs.Entries.{place_at};
 
 use crate::program::{Memory, Program, Rule};
-use crate::turn::{Turn, offered};
+use crate::turn::{Turn, offered_entry};
 use crate::values::own_stored;
 use dg_tables::{Place, kept_moves, look_up};
 use fx_io::OutOfMemory;
@@ -66,7 +66,7 @@ fn remember<'a>(
         (attributes_of turn.entry.checked.now.diagram) program.old program.new turn.entry.place m) }
 {
     let place = turn.place;
-    let from = offered(turn, &program.places, 1, place.element);
+    let from = offered_entry(turn, &program.places, 1, place.element);
     let Ok(number) = u32::try_from(program.memories.as_slice().len()) else {
         // word: a rule names its memory in 32 bits
         return Err(OutOfMemory);
@@ -83,7 +83,7 @@ fn remember<'a>(
 }
 
 /// The rule of a Delay.
-pub fn delayed<'a>(
+pub fn delay_rule<'a>(
     program: &mut Program,
     turn: Turn<'a>,
     length: u32,
@@ -109,7 +109,7 @@ pub fn delayed<'a>(
 }
 
 /// The rule of a rate transition from slow to fast.
-pub fn slowed<'a>(
+pub fn transition_rule<'a>(
     program: &mut Program,
     turn: Turn<'a>,
     initial: &[Decimal],
@@ -136,7 +136,7 @@ pub fn slowed<'a>(
 }
 
 /// The rule of an output port of an enabled subsystem.
-pub fn gated<'a>(
+pub fn enabled_output_rule<'a>(
     program: &mut Program,
     turn: Turn<'a>,
     reset: bool,
@@ -152,7 +152,7 @@ pub fn gated<'a>(
         unreachable!();
     };
     let cell = control_cell(program, turn, enable);
-    let from = offered(turn, &program.places, 1, turn.place.element);
+    let from = offered_entry(turn, &program.places, 1, turn.place.element);
     let first = own_stored(turn, initial);
     if reset {
         return Ok(Rule::Reset {

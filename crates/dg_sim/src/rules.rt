@@ -12,7 +12,7 @@ use crate::columns::find_root;
 use crate::enabling::above;
 use crate::handing::{hand_on, transition};
 use crate::joining::{Cursors, spread};
-use crate::memories::{delayed, gated};
+use crate::memories::{delay_rule, enabled_output_rule};
 use crate::program::{Program, Rule};
 use crate::turn::Turn;
 use crate::values::own_stored;
@@ -86,8 +86,13 @@ pub fn rule_by_kind<'a>(
             length,
             initial,
             reset,
-        } => delayed(program, turn, *length, initial.as_slice(), *reset),
-        Kind::EnOut { reset, initial } => gated(program, turn, *reset, initial.as_slice()),
+        } => delay_rule(program, turn, *length, initial.as_slice(), *reset),
+        Kind::EnOut { reset, initial } => enabled_output_rule(
+            program,
+            turn,
+            *reset,
+            initial.as_slice(),
+        ),
         Kind::Sum { .. }
         | Kind::Gain { .. }
         | Kind::Product

@@ -17,7 +17,7 @@ pub struct Turn<'a> {
 }
 
 /// The number of the entry that an input port of the block offers to an element.
-pub fn offered<'a>(turn: Turn<'a>, places: &Places, port: u32, element: u32) -> u32
+pub fn offered_entry<'a>(turn: Turn<'a>, places: &Places, port: u32, element: u32) -> u32
     requires finds { Finds turn.checked.now turn.starts.now places.now }
     requires read { IsRead turn.checked.now.diagram (attributes_of turn.checked.now.diagram)
         turn.place.block port element }

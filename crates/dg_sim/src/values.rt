@@ -18,7 +18,7 @@ fn place_in(width: usize, element: u32) -> usize
 }
 
 /// The entry of a list parameter for an element, stored in a type.
-pub fn stored(list: &[Decimal], element: u32, kind: FxType) -> i128
+pub fn stored_entry(list: &[Decimal], element: u32, kind: FxType) -> i128
     requires kind { IsType kind }
     requires entry { HasEntry list.now element }
     ensures { StoresEntry list.now element kind result }
@@ -37,7 +37,7 @@ pub fn own_stored<'a>(turn: Turn<'a>, list: &[Decimal]) -> i128
 {
     operations_prepare();
     turn.checked.keeps_rules();
-    stored(
+    stored_entry(
         list,
         turn.place.element,
         turn.checked.result(turn.place.block),

@@ -10,8 +10,8 @@ ghost use Rattle.dg_tables.specs.Finding.{AreLines, IsRead};
 ghost use Rattle.dg_sim.specs.inner.Turns.{CanOffer, IsMadeFor, IsTurnOf};
 
 use crate::program::{Program, Rule, Work};
-use crate::turn::{Turn, offered};
-use crate::values::stored;
+use crate::turn::{Turn, offered_entry};
+use crate::values::stored_entry;
 use dg_model::{FxTypes, Kind, Op};
 use dg_tables::{Places, operations_prepare, type_of_input};
 use fx_io::{Flags, OutOfMemory, Sizes};
@@ -36,7 +36,7 @@ pub fn put_argument<'a>(
         (attributes_of turn.entry.checked.now.diagram) places.now turn.entry.place.block port
         element number × (types.new ≡ types.old ++ kind ∷ [])) }
 {
-    let number = offered(turn, places, port, element);
+    let number = offered_entry(turn, places, port, element);
     args.push(number)?;
     types.push(kind)?;
     Ok(())
@@ -97,7 +97,7 @@ fn op_of<'a>(turn: Turn<'a>) -> Op
         Kind::Sum { .. } => Op::Sum,
         Kind::Gain { value, .. } => {
             let param = turn.checked.param(turn.place.block);
-            let coefficient = stored(value.as_slice(), turn.place.element, param);
+            let coefficient = stored_entry(value.as_slice(), turn.place.element, param);
             Op::Gain { coefficient, param }
         }
         Kind::Product => Op::Product,
@@ -106,7 +106,7 @@ fn op_of<'a>(turn: Turn<'a>) -> Op
             threshold,
         } => {
             let control = type_of_input(turn.checked, turn.starts, turn.place.block, 2);
-            let threshold = stored(threshold.as_slice(), turn.place.element, control);
+            let threshold = stored_entry(threshold.as_slice(), turn.place.element, control);
             Op::Switch {
                 criterion: *criterion,
                 threshold,

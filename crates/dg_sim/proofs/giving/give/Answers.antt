@@ -43,13 +43,13 @@ returns-in-Fixed c =
 
 pub returns-in-Past : goal.returns-in-Past
 returns-in-Past c =
-    let kept = rw (to_z-of_z w128 c.in-Past.initial (search rules)) at c.recalled.ensures in
-    gives_own c.args.program.now (value_at c.args.row.now) (kept_at c.args.pasts.now) c.args.numbers.now c.args.t _ _ c.recalled.result (record { sfits = c.recalled.type_inv }) c.in-Past.is kept
+    let kept = rw (to_z-of_z w128 c.in-Past.initial (search rules)) at c.memory_value.ensures in
+    gives_own c.args.program.now (value_at c.args.row.now) (kept_at c.args.pasts.now) c.args.numbers.now c.args.t _ _ c.memory_value.result (record { sfits = c.memory_value.type_inv }) c.in-Past.is kept
 
 pub returns-in-Held : goal.returns-in-Held
 returns-in-Held c =
-    let kept = rw (to_z-of_z w128 c.in-Held.initial (search rules)) at c.recalled-in-Held.ensures in
-    let given = rw (to_z-of_z w128 c.recalled-in-Held.result (record { sfits = c.recalled-in-Held.type_inv }), kept) at c.read_where_on.ensures in
+    let kept = rw (to_z-of_z w128 c.in-Held.initial (search rules)) at c.memory_value-in-Held.ensures in
+    let given = rw (to_z-of_z w128 c.memory_value-in-Held.result (record { sfits = c.memory_value-in-Held.type_inv }), kept) at c.read_where_on.ensures in
     gives_own c.args.program.now (value_at c.args.row.now) (kept_at c.args.pasts.now) c.args.numbers.now c.args.t _ _ c.read_where_on.result (record { sfits = c.read_where_on.type_inv }) c.in-Held.is given
 
 pub returns-in-Reset : goal.returns-in-Reset

@@ -14,8 +14,8 @@ looked args first count look inputs within h =
     let size : length (take count (drop first args)) ≡ count = length-take-le count (drop first args) (omega (arith, length-drop first args)) in
     rw (e, size) at h
 
-pub carried-requires-clause-can : goal.carried-requires-clause-can
-carried-requires-clause-can c =
+pub operation_output-requires-clause-can : goal.operation_output-requires-clause-can
+operation_output-requires-clause-can c =
     let work = c.args.work in
     let values = looked c.as_slice.result.now work.first work.count (value_at c.args.row.now) c.gather.new.inputs (rw c.as_slice.ensures c.requires.args) c.gather.ensures in
     rw (values, c.as_slice.ensures) c.requires.can
@@ -23,7 +23,7 @@ carried-requires-clause-can c =
 pub returns : goal.returns
 returns c =
     let work = c.args.work in
-    let e = to_z-of_z w128 c.carried.result (record { sfits = c.carried.type_inv }) in
+    let e = to_z-of_z w128 c.operation_output.result (record { sfits = c.operation_output.type_inv }) in
     let values = looked c.as_slice.result.now work.first work.count (value_at c.args.row.now) c.gather.new.inputs (rw c.as_slice.ensures c.requires.args) c.gather.ensures in
-    let given : OpGives (operation_at c.args.program.now work) (take work.count c.gather.new.inputs) c.carried.result = c.carried.ensures in
+    let given : OpGives (operation_at c.args.program.now work) (take work.count c.gather.new.inputs) c.operation_output.result = c.operation_output.ensures in
     rw e (rw (values, c.as_slice.ensures) at given)

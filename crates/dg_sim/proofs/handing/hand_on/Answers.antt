@@ -6,7 +6,7 @@ use Rattle.dg_sim.proofs.handing.hand_on.Goals as goal
 pub returns : goal.returns
 returns c =
     let diagram = c.args.turn.checked.now.diagram in
-    let from = c.offered-from in
+    let from = c.offered_entry-from in
     record {
       grows = grows_same c.args.program.now;
       memories = λ are. are;

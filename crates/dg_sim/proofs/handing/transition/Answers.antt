@@ -34,8 +34,8 @@ hand_on-requires c =
 pub period-own-requires : goal.period-own-requires
 period-own-requires c = slice_get_within c.args.turn.checked.now.diagram.blocks c.args.turn.place.block c.args.turn.block.now c.requires.turn.shown.block_is
 
-pub slowed-requires-clause-slower : goal.slowed-requires-clause-slower
-slowed-requires-clause-slower c = ap (is_slow_to_fast c.period_of_input-slow.result) (sym c.period-own.ensures) ∙ (sym c.is_slow_to_fast.ensures ∙ c.if-is_slow_to_fast.true)
+pub transition_rule-requires-clause-slower : goal.transition_rule-requires-clause-slower
+transition_rule-requires-clause-slower c = ap (is_slow_to_fast c.period_of_input-slow.result) (sym c.period-own.ensures) ∙ (sym c.is_slow_to_fast.ensures ∙ c.if-is_slow_to_fast.true)
 
 pub returns-then-is_slow_to_fast : goal.returns-then-is_slow_to_fast
-returns-then-is_slow_to_fast c = c.slowed.ensures
+returns-then-is_slow_to_fast c = c.transition_rule.ensures

@@ -5,16 +5,16 @@ use Rattle.dg_model.specs.Wires.{width_into}
 use Rattle.dg_tables.proofs.Lists.{sum_last, part_here}
 use Rattle.dg_sim.proofs.Joined.{before_end}
 use Rattle.dg_sim.proofs.joining.part_into.Goals as goal
-use Rattle.dg_sim.proofs.joining.part_into.Goals.{After-begun-start, In-loop-width}
+use Rattle.dg_sim.proofs.joining.part_into.Goals.{After-start_cursor-start, In-loop-width}
 
 -- the first ports have so many elements together
-at_start : (c : After-begun-start) → c.begun-start.result.before ≡ sum (map (width_into c.args.checked.now.diagram (attributes_of c.args.checked.now.diagram) c.args.block) (numbers_from 1 c.begun-start.result.ports))
-at_start c = c.begun-start.ensures.sums (width_into c.args.checked.now.diagram (attributes_of c.args.checked.now.diagram)) c.requires.into
+at_start : (c : After-start_cursor-start) → c.start_cursor-start.result.before ≡ sum (map (width_into c.args.checked.now.diagram (attributes_of c.args.checked.now.diagram) c.args.block) (numbers_from 1 c.start_cursor-start.result.ports))
+at_start c = c.start_cursor-start.ensures.sums (width_into c.args.checked.now.diagram (attributes_of c.args.checked.now.diagram)) c.requires.into
 
 -- none of them is the last
-start_below : (c : After-begun-start) → c.begun-start.result.ports < c.args.inputs
+start_below : (c : After-start_cursor-start) → c.start_cursor-start.result.ports < c.args.inputs
 start_below c =
-    before_end (width_into c.args.checked.now.diagram (attributes_of c.args.checked.now.diagram) c.args.block) c.args.inputs c.begun-start.result.ports c.begun-start.result.before c.args.element c.begun-start.ensures.ports (at_start c) c.begun-start.ensures.before c.requires.element
+    before_end (width_into c.args.checked.now.diagram (attributes_of c.args.checked.now.diagram) c.args.block) c.args.inputs c.start_cursor-start.result.ports c.start_cursor-start.result.before c.args.element c.start_cursor-start.ensures.ports (at_start c) c.start_cursor-start.ensures.before c.requires.element
 
 -- so it is with one port more
 at_next : (c : In-loop-width) → c.loop-width.before + c.loop-width.width ≡ sum (map (width_into c.args.checked.now.diagram (attributes_of c.args.checked.now.diagram) c.args.block) (numbers_from 1 (c.loop-width.signal + 1)))
@@ -31,8 +31,8 @@ next_below c =
 
 pub loop-width-init : goal.loop-width-init
 loop-width-init c =
-    let start = (goal.at.loop-width-init c).After-begun-start in
-    record { at = at_start start; low = c.begun-start.ensures.before; below = start_below start; width = c.width_of_input-width.ensures }
+    let start = (goal.at.loop-width-init c).After-start_cursor-start in
+    record { at = at_start start; low = c.start_cursor-start.ensures.before; below = start_below start; width = c.width_of_input-width.ensures }
 
 pub returns : goal.returns
 returns c =
@@ -51,7 +51,7 @@ loop-width-preserved c =
     record { at = at_next turn; low = next_low turn; below = next_below turn; width = c.width_of_input-width-in-loop-width.ensures }
 
 pub overflow_add-signal : goal.overflow_add-signal
-overflow_add-signal c = record { fits = omega (arith, start_below (goal.at.overflow_add-signal c).After-begun-start) }
+overflow_add-signal c = record { fits = omega (arith, start_below (goal.at.overflow_add-signal c).After-start_cursor-start) }
 
 pub overflow_add-signal-in-loop-width-2 : goal.overflow_add-signal-in-loop-width-2
 overflow_add-signal-in-loop-width-2 c = record { fits = omega (arith, next_below (goal.at.overflow_add-signal-in-loop-width-2 c).In-loop-width) }

@@ -5,7 +5,7 @@ use Rattle.dg_tables.proofs.Lists.{sum_before, sum_last}
 use Rattle.dg_sim.proofs.joining.width_before.Goals as goal
 
 pub loop-i-init : goal.loop-i-init
-loop-i-init c = c.begun-start.ensures.sums (attributes_of c.args.checked.now.diagram).width_at c.requires.out
+loop-i-init c = c.start_cursor-start.ensures.sums (attributes_of c.args.checked.now.diagram).width_at c.requires.out
 
 pub loop-i-preserved : goal.loop-i-preserved
 loop-i-preserved c =
@@ -15,7 +15,7 @@ loop-i-preserved c =
 pub returns : goal.returns
 returns c =
     let f = (attributes_of c.args.checked.now.diagram).width_at c.args.block in
-    let last : c.loop-i.i ≡ c.args.port - 1 = omega (arith, c.begun-start.ensures.ports) in
+    let last : c.loop-i.i ≡ c.args.port - 1 = omega (arith, c.start_cursor-start.ensures.ports) in
     c.loop-i.invariant ∙ ap (λ (n : ℕ). sum (map f (numbers_from 1 n))) last
 
 pub overflow_add-total : goal.overflow_add-total

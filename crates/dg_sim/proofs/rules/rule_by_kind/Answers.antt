@@ -67,15 +67,15 @@ transition-requires c = record {
 pub above-requires : goal.above-requires
 above-requires c = record { kind = c.in-EnableTest.is; turn = c.requires.turn }
 
-pub delayed-requires : goal.delayed-requires
-delayed-requires c = record {
+pub delay_rule-requires : goal.delay_rule-requires
+delay_rule-requires c = record {
   turn = c.requires.turn;
   kind = c.in-Delay.is ∙ ap (λ (initial : List Decimal). Delay c.in-Delay.length initial c.in-Delay.reset) (sym c.as_slice-in-Delay.ensures);
   some = delay_some c.args.turn.checked.now.diagram c.keeps_rules.ensures.checked.wired c.args.turn.place.block c.args.turn.block.now c.requires.turn.shown.block_is c.in-Delay.length _ c.in-Delay.reset c.in-Delay.is;
 }
 
-pub gated-requires : goal.gated-requires
-gated-requires c = record { turn = c.requires.turn; kind = c.in-EnOut.is ∙ ap (λ (initial : List Decimal). EnOut c.in-EnOut.reset initial) (sym c.as_slice-in-EnOut.ensures) }
+pub enabled_output_rule-requires : goal.enabled_output_rule-requires
+enabled_output_rule-requires c = record { turn = c.requires.turn; kind = c.in-EnOut.is ∙ ap (λ (initial : List Decimal). EnOut c.in-EnOut.reset initial) (sym c.as_slice-in-EnOut.ensures) }
 
 pub works-requires : goal.works-requires
 works-requires c = record {

@@ -6,25 +6,25 @@ use Rattle.dg_sim.specs.inner.Turns.{HasEntry}
 use Rattle.dg_sim.proofs.ListEntries.{gain_entry, switch_entry}
 use Rattle.dg_sim.proofs.working.op_of.Goals as goal
 
-pub stored-coefficient-requires-clause-kind : goal.stored-coefficient-requires-clause-kind
-stored-coefficient-requires-clause-kind c =
+pub stored_entry-coefficient-requires-clause-kind : goal.stored_entry-coefficient-requires-clause-kind
+stored_entry-coefficient-requires-clause-kind c =
     let checked = c.args.turn.checked.now in
     let valid = c.operations_prepare.ensures.types checked.diagram checked.order c.args.turn.place.block c.args.turn.block.now (record { checked = c.keeps_rules.ensures.checked; ordered = c.keeps_rules.ensures.ordered }) c.requires.shown.block_is in
     subst IsType (sym c.param-param.ensures) valid.1
 
-pub stored-coefficient-requires-clause-entry : goal.stored-coefficient-requires-clause-entry
-stored-coefficient-requires-clause-entry c =
+pub stored_entry-coefficient-requires-clause-entry : goal.stored_entry-coefficient-requires-clause-entry
+stored_entry-coefficient-requires-clause-entry c =
     subst (λ (list : List Decimal). HasEntry list c.args.turn.place.element) (sym c.as_slice.ensures)
     (gain_entry c.args.turn.checked.now.diagram c.keeps_rules.ensures.checked c.args.turn.place.block c.args.turn.place.port c.args.turn.place.element c.args.turn.block.now c.requires.shown _ _ c.in-Gain.is)
 
-pub stored-threshold-requires-clause-kind : goal.stored-threshold-requires-clause-kind
-stored-threshold-requires-clause-kind c =
+pub stored_entry-threshold-requires-clause-kind : goal.stored_entry-threshold-requires-clause-kind
+stored_entry-threshold-requires-clause-kind c =
     let checked = c.args.turn.checked.now in
     let valid = c.operations_prepare.ensures.types checked.diagram checked.order c.args.turn.place.block c.args.turn.block.now (record { checked = c.keeps_rules.ensures.checked; ordered = c.keeps_rules.ensures.ordered }) c.requires.shown.block_is in
     subst IsType (sym c.type_of_input-control.ensures) (valid.2 2)
 
-pub stored-threshold-requires-clause-entry : goal.stored-threshold-requires-clause-entry
-stored-threshold-requires-clause-entry c =
+pub stored_entry-threshold-requires-clause-entry : goal.stored_entry-threshold-requires-clause-entry
+stored_entry-threshold-requires-clause-entry c =
     subst (λ (list : List Decimal). HasEntry list c.args.turn.place.element) (sym c.as_slice-in-Switch.ensures)
     (switch_entry c.args.turn.checked.now.diagram c.keeps_rules.ensures.checked c.args.turn.place.block c.args.turn.place.port c.args.turn.place.element c.args.turn.block.now c.requires.shown _ _ c.in-Switch.is)
 

@@ -2,5 +2,5 @@ use Rattle.dg_sim.proofs.working.put_argument.Goals as goal
 
 pub returns : goal.returns
 returns c =
-    let number = c.offered-number in
+    let number = c.offered_entry-number in
     (number.result, c.in_ok-push.ensures.appended, number.ensures.before c.args.turn.cell c.requires.offers.now, number.ensures.reads, c.in_ok-push-2.ensures.appended)

@@ -18,8 +18,8 @@ use Rattle.dg_sim.proofs.Grown.{grows_same}
 use Rattle.dg_sim.proofs.Turns.{control_before, output_reads, turn_now}
 use Rattle.dg_sim.proofs.Kept.{gated_moves, reset_rule, held_rule}
 use Rattle.dg_sim.proofs.ListEntries.{output_entry_there}
-use Rattle.dg_sim.proofs.memories.gated.Goals as goal
-use Rattle.dg_sim.proofs.memories.gated.Goals.{After-own_stored-first}
+use Rattle.dg_sim.proofs.memories.enabled_output_rule.Goals as goal
+use Rattle.dg_sim.proofs.memories.enabled_output_rule.Goals.{After-own_stored-first}
 
 pub own_stored-first-requires-clause-there : goal.own_stored-first-requires-clause-there
 own_stored-first-requires-clause-there c = c.requires.turn.shown.block_is
@@ -29,9 +29,9 @@ control_below : (c : After-own_stored-first) → c.control_cell-cell.result < c.
 control_below c =
     control_before c.args.turn.checked.now c.args.turn.starts.now c.args.program.now.places c.args.turn.cell c.args.turn.place c.args.turn.block.now c.requires.turn c.control_cell-cell.result c.in-Some.enable c.args.reset c.args.initial.now c.requires.kind c.in-Some.is c.control_cell-cell.ensures
 
-from_below : (c : After-own_stored-first) → c.offered-from.result < c.args.turn.cell
+from_below : (c : After-own_stored-first) → c.offered_entry-from.result < c.args.turn.cell
 from_below c =
-    c.offered-from.ensures.before c.args.turn.cell
+    c.offered_entry-from.ensures.before c.args.turn.cell
     (turn_now c.args.turn.checked.now c.args.turn.starts.now c.args.program.now.places c.args.turn.cell c.args.turn.place c.args.turn.block.now c.requires.turn (EnOut c.args.reset c.args.initial.now) c.requires.kind refl)
 
 pub returns-then-reset : goal.returns-then-reset
@@ -43,8 +43,8 @@ returns-then-reset c =
     rw (to_z-of_z w128 c.own_stored-first.result fits) (record {
       grows = grows_same c.args.program.now;
       memories = λ are. are;
-      made = reset_rule diagram (attributes_of diagram) c.args.program.now c.args.program.now c.args.turn.place c.args.turn.block.now c.requires.turn.shown.block_is c.args.turn.cell c.control_cell-cell.result c.offered-from.result c.args.initial.now c.own_stored-first.result (control_below stored) (from_below stored)
-          (c.in-Some.enable, c.in-Some.is, c.control_cell-cell.ensures) c.offered-from.ensures.reads c.own_stored-first.ensures kind;
+      made = reset_rule diagram (attributes_of diagram) c.args.program.now c.args.program.now c.args.turn.place c.args.turn.block.now c.requires.turn.shown.block_is c.args.turn.cell c.control_cell-cell.result c.offered_entry-from.result c.args.initial.now c.own_stored-first.result (control_below stored) (from_below stored)
+          (c.in-Some.enable, c.in-Some.is, c.control_cell-cell.ensures) c.offered_entry-from.ensures.reads c.own_stored-first.ensures kind;
     })
 
 pub period-period-requires : goal.period-period-requires
@@ -60,19 +60,19 @@ returns c =
     let diagram = c.args.turn.checked.now.diagram in
     let fits : FitsSigned w128 c.own_stored-first.result = record { sfits = c.own_stored-first.type_inv } in
     let is = c.in_ok-memory.ensures in
-    let reads = subst (λ (places : List Place). Reads diagram (attributes_of diagram) places c.args.turn.place.block 1 c.args.turn.place.element c.offered-from.result) (sym is.grows.places) c.offered-from.ensures.reads in
+    let reads = subst (λ (places : List Place). Reads diagram (attributes_of diagram) places c.args.turn.place.block 1 c.args.turn.place.element c.offered_entry-from.result) (sym is.grows.places) c.offered_entry-from.ensures.reads in
     let control = subst (λ (places : List Place). IsControlCell places c.args.turn.block.now.enable c.control_cell-cell.result) (sym is.grows.places) (c.in-Some.enable, c.in-Some.is, c.control_cell-cell.ensures) in
     let kind = c.requires.kind ∙ ap (λ (reset : Bool). EnOut reset c.args.initial.now) c.if-reset.false in
     let stored = (goal.at.returns c).After-own_stored-first in
     rw (to_z-of_z w128 c.own_stored-first.result fits) (record {
       grows = is.grows;
       memories = is.memories;
-      made = held_rule diagram (attributes_of diagram) c.args.program.now c.remember.new.program c.args.turn.place c.args.turn.block.now c.requires.turn.shown.block_is c.args.turn.cell c.control_cell-cell.result c.offered-from.result c.args.initial.now c.own_stored-first.result (control_below stored) (from_below stored)
+      made = held_rule diagram (attributes_of diagram) c.args.program.now c.remember.new.program c.args.turn.place c.args.turn.block.now c.requires.turn.shown.block_is c.args.turn.cell c.control_cell-cell.result c.offered_entry-from.result c.args.initial.now c.own_stored-first.result (control_below stored) (from_below stored)
           control reads c.own_stored-first.ensures c.kept_moves.ensures.read c.in_ok-memory.memory kind is;
     })
 
-pub offered-from-requires-clause-read : goal.offered-from-requires-clause-read
-offered-from-requires-clause-read c = output_reads c.args.turn.checked.now c.args.turn.starts.now c.args.program.now.places c.args.turn.cell c.args.turn.place c.args.turn.block.now c.requires.turn c.keeps_rules.ensures.checked c.args.reset c.args.initial.now c.requires.kind
+pub offered_entry-from-requires-clause-read : goal.offered_entry-from-requires-clause-read
+offered_entry-from-requires-clause-read c = output_reads c.args.turn.checked.now c.args.turn.starts.now c.args.program.now.places c.args.turn.cell c.args.turn.place c.args.turn.block.now c.requires.turn c.keeps_rules.ensures.checked c.args.reset c.args.initial.now c.requires.kind
 
 pub remember-requires-clause-read : goal.remember-requires-clause-read
 remember-requires-clause-read c = output_reads c.args.turn.checked.now c.args.turn.starts.now c.args.program.now.places c.args.turn.cell c.args.turn.place c.args.turn.block.now c.requires.turn c.keeps_rules.ensures.checked c.args.reset c.args.initial.now c.requires.kind
@@ -86,8 +86,8 @@ control_cell-cell-requires-clause-turn c = c.requires.turn
 pub control_cell-cell-requires-clause-enable : goal.control_cell-cell-requires-clause-enable
 control_cell-cell-requires-clause-enable c = c.in-Some.is
 
-pub offered-from-requires-clause-finds : goal.offered-from-requires-clause-finds
-offered-from-requires-clause-finds c = c.requires.turn.finds
+pub offered_entry-from-requires-clause-finds : goal.offered_entry-from-requires-clause-finds
+offered_entry-from-requires-clause-finds c = c.requires.turn.finds
 
 pub remember-requires-clause-turn : goal.remember-requires-clause-turn
 remember-requires-clause-turn c = c.requires.turn

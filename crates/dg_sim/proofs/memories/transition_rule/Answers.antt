@@ -6,7 +6,7 @@ use Rattle.dg_tables.specs.State.{kept_count}
 use Rattle.dg_sim.proofs.Kept.{slow_made, slow_moves}
 use Rattle.dg_sim.proofs.Turns.{rate_reads}
 use Rattle.dg_sim.proofs.ListEntries.{rate_entry}
-use Rattle.dg_sim.proofs.memories.slowed.Goals as goal
+use Rattle.dg_sim.proofs.memories.transition_rule.Goals as goal
 
 pub own_stored-first-requires-clause-there : goal.own_stored-first-requires-clause-there
 own_stored-first-requires-clause-there c = c.requires.turn.shown.block_is

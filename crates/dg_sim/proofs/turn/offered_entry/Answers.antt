@@ -3,7 +3,7 @@ use Rattle.dg_model.specs.Attributes.{attributes_of}
 use Rattle.dg_tables.specs.declared.entries.Place.{Place}
 use Rattle.dg_tables.specs.Entries.{Reads}
 use Rattle.dg_tables.specs.Finding.{ReadsNow}
-use Rattle.dg_sim.proofs.turn.offered.Goals as goal
+use Rattle.dg_sim.proofs.turn.offered_entry.Goals as goal
 
 pub input-requires-clause-finds : goal.input-requires-clause-finds
 input-requires-clause-finds c = rw c.as_slice.ensures c.requires.finds

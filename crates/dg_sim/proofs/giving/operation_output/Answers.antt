@@ -3,7 +3,7 @@ use Rattle.std.specs.Int.{w128}
 use Rattle.std.proofs.lemmas.Int.{to_z-of_z}
 use Rattle.dg_model.specs.Operation.{Operation, OpGives}
 use Rattle.dg_sim.specs.Program.{operation_at}
-use Rattle.dg_sim.proofs.giving.carried.Goals as goal
+use Rattle.dg_sim.proofs.giving.operation_output.Goals as goal
 
 pub alone-requires : goal.alone-requires
 alone-requires c = (operation_at c.args.program.now c.args.work, c.requires.ready, c.requires.can)

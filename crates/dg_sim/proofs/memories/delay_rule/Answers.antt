@@ -7,7 +7,7 @@ use Rattle.dg_tables.specs.State.{kept_count}
 use Rattle.dg_sim.proofs.Kept.{delay_made, delay_move_is}
 use Rattle.dg_sim.proofs.Turns.{delay_reads}
 use Rattle.dg_sim.proofs.ListEntries.{delay_entry}
-use Rattle.dg_sim.proofs.memories.delayed.Goals as goal
+use Rattle.dg_sim.proofs.memories.delay_rule.Goals as goal
 
 pub own_stored-first-requires-clause-there : goal.own_stored-first-requires-clause-there
 own_stored-first-requires-clause-there c = c.requires.turn.shown.block_is

@@ -4,7 +4,7 @@ use Rattle.std.proofs.lemmas.Int.{to_z-of_z}
 use Rattle.std.proofs.lemmas.Option.{slice_get-get_or}
 use Rattle.fx_type.specs.declared.decimal.Decimal.{Decimal}
 use Rattle.fx_type.specs.Conversion.{Stores}
-use Rattle.dg_sim.proofs.values.stored.Goals as goal
+use Rattle.dg_sim.proofs.values.stored_entry.Goals as goal
 
 pub returns : goal.returns
 returns c =
