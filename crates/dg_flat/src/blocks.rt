@@ -1,5 +1,6 @@
 ghost use Rattle.std.specs.Prelude.{◌≡◌, ℕ, ◌<◌, ◌≤◌, List, length, slice_get, option_map, MatchOption, IfOk, Some, ⊤};
 ghost use Rattle.dg_model.specs.declared.nested.NestedBlock.{NestedBlock};
+ghost use Rattle.dg_model.specs.Limits.{most_blocks};
 ghost use Rattle.dg_flat.specs.Flat.{flat_place, flat_block as flat_block_of, flat_blocks as flat_blocks_of, resets, resets_under, placed_as, control_as};
 ghost use Rattle.dg_flat.specs.Parts.{control_of};
 ghost use Rattle.dg_flat.specs.inner.Paths.{ArePaths};
@@ -17,7 +18,7 @@ use std::alloc::Global;
 
 /// Where each block stands in the flat list: subsystems are left out.
 pub fn flat_places(alloc: Global, blocks: &[NestedBlock]) -> Result<Vec<u32>, OutOfMemory>
-    requires { length blocks.now ≤ 20000 }
+    requires { length blocks.now ≤ most_blocks }
     ensures { IfOk result (λ places. IsTable (length blocks.now)
         (flat_place blocks.now) places.items) }
 {

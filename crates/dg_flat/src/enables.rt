@@ -1,4 +1,5 @@
 ghost use Rattle.std.specs.Prelude.{◌≡◌, ◌<◌, ◌≤◌, length, slice_get, IsTrue, IsFalse, Some};
+ghost use Rattle.dg_model.specs.Limits.{most_blocks};
 ghost use Rattle.dg_flat.specs.Rules.{KeepsEnable};
 ghost use Rattle.dg_flat.specs.Parts.{enable_port, control_of, system_around};
 ghost use Rattle.dg_flat.specs.inner.Slots.{slot_of, HaveParents};
@@ -63,7 +64,7 @@ fn keeps_enable(nested: &Nested, systems: &Systems, place: u32, block: &NestedBl
 
 /// The first block that breaks the rule of enabled subsystems.
 pub fn first_misplaced(systems: &Systems, nested: &Nested) -> Option<u32>
-    requires few { length nested.now.blocks ≤ 20000 }
+    requires few { length nested.now.blocks ≤ most_blocks }
     requires parents { HaveParents nested.now.blocks }
     requires systems { AreSystems nested.now.blocks systems.now }
     ensures { IsFirst nested.now KeepsEnable result }

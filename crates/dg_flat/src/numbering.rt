@@ -4,6 +4,7 @@ ghost use Rattle.dg_flat.specs.inner.Slots.{slot_of, HaveParents};
 ghost use Rattle.dg_flat.specs.inner.Tables.{IsTable, AreRows};
 ghost use Rattle.dg_flat.specs.declared.numbering.Side.{Side};
 ghost use Rattle.dg_model.specs.declared.nested.NestedBlock.{NestedBlock};
+ghost use Rattle.dg_model.specs.Limits.{most_blocks};
 
 use crate::rows::Rows;
 use crate::systems::{note_first, slot};
@@ -43,7 +44,7 @@ pub fn number_of(side: Side, part: &Part) -> Option<u32>
 
 /// How many ports of this side each System has.
 fn counts(alloc: Global, blocks: &[NestedBlock], side: Side) -> Result<Vec<u32>, OutOfMemory>
-    requires few { length blocks.now ≤ 20000 }
+    requires few { length blocks.now ≤ most_blocks }
     requires parents { HaveParents blocks.now }
     ensures { IfOk result (λ counts. IsTable (suc (length blocks.now))
         (count_at blocks.now side) counts.items) }
@@ -60,7 +61,7 @@ fn counts(alloc: Global, blocks: &[NestedBlock], side: Side) -> Result<Vec<u32>,
 impl Numbering {
     /// The ports of this side.
     pub fn of(alloc: Global, blocks: &[NestedBlock], side: Side) -> Result<Numbering, OutOfMemory>
-        requires few { length blocks.now ≤ 20000 }
+        requires few { length blocks.now ≤ most_blocks }
         requires parents { HaveParents blocks.now }
         ensures { IfOk result (IsNumbering blocks.now side) }
     {

@@ -1,4 +1,5 @@
 ghost use Rattle.std.specs.Prelude.{◌≡◌, suc, ◌<◌, ◌≤◌, length, set, slice_index_or, IfOk};
+ghost use Rattle.dg_model.specs.Limits.{most_blocks};
 ghost use Rattle.dg_flat.specs.Parts.{enable_port, control_of, is_subsystem as is_subsystem_of};
 ghost use Rattle.dg_flat.specs.inner.Slots.{slot_of, system_of, first_of, HaveParents};
 ghost use Rattle.dg_flat.specs.inner.Systems.{AreSystems};
@@ -56,7 +57,7 @@ pub fn note_first(table: &mut Vec<Option<u32>>, at: usize, place: u32)
 
 /// The first EnablePort of each System.
 fn enable_ports(alloc: Global, blocks: &[NestedBlock]) -> Result<Vec<Option<u32>>, OutOfMemory>
-    requires few { length blocks.now ≤ 20000 }
+    requires few { length blocks.now ≤ most_blocks }
     requires parents { HaveParents blocks.now }
     ensures { IfOk result (λ ports. IsTable (suc (length blocks.now))
         (λ slot. enable_port blocks.now (system_of slot)) ports.items) }
@@ -76,7 +77,7 @@ fn controls(
     blocks: &[NestedBlock],
     enables: &[Option<u32>],
 ) -> Result<Vec<Option<u32>>, OutOfMemory>
-    requires few { length blocks.now ≤ 20000 }
+    requires few { length blocks.now ≤ most_blocks }
     requires parents { HaveParents blocks.now }
     requires enables { IsTable (suc (length blocks.now))
         (λ slot. enable_port blocks.now (system_of slot)) enables.now }
@@ -99,7 +100,7 @@ fn controls(
 impl Systems {
     /// The tables of the Systems.
     pub fn of(alloc: Global, blocks: &[NestedBlock]) -> Result<Systems, OutOfMemory>
-        requires few { length blocks.now ≤ 20000 }
+        requires few { length blocks.now ≤ most_blocks }
         requires parents { HaveParents blocks.now }
         ensures { IfOk result (AreSystems blocks.now) }
     {

@@ -1,4 +1,5 @@
 ghost use Rattle.std.specs.Prelude.{◌≡◌, ◌<◌, ◌≤◌, ◌||◌, false, length, set, slice_index, slice_index_or, IfOk, All};
+ghost use Rattle.dg_model.specs.Limits.{most_blocks};
 ghost use Rattle.dg_flat.specs.inner.Ports.{inputs_at, is_lacking, one_more, port_drivers as port_drivers_of, control_drivers};
 ghost use Rattle.dg_flat.specs.inner.Systems.{AreSystems};
 ghost use Rattle.dg_flat.specs.inner.Tables.{IsTable, IsRowTable, AreRows};
@@ -30,7 +31,7 @@ fn input_counts(
     systems: &Systems,
     blocks: &[NestedBlock],
 ) -> Result<Vec<u32>, OutOfMemory>
-    requires few { length blocks.now ≤ 20000 }
+    requires few { length blocks.now ≤ most_blocks }
     requires systems { AreSystems blocks.now systems.now }
     ensures { IfOk result (λ counts. IsTable (length blocks.now)
         (inputs_at blocks.now) counts.items) }
@@ -133,7 +134,7 @@ impl Tally {
         blocks: &[NestedBlock],
         lines: &[NestedLine],
     ) -> Result<Tally, OutOfMemory>
-        requires few { length blocks.now ≤ 20000 }
+        requires few { length blocks.now ≤ most_blocks }
         requires systems { AreSystems blocks.now systems.now }
         requires ends { HaveEnds blocks.now lines.now }
         ensures { IfOk result (IsTally blocks.now lines.now) }

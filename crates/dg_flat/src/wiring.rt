@@ -1,5 +1,6 @@
 ghost use Rattle.std.specs.Prelude.{◌≡◌, ◌≢◌, ℕ, ◌<◌, ◌≤◌, List, length, slice_index, IsTrue, IsFalse, IfOk, Some};
 ghost use Rattle.dg_model.specs.declared.nested.NestedBlock.{NestedBlock};
+ghost use Rattle.dg_model.specs.Limits.{most_blocks};
 ghost use Rattle.dg_flat.specs.declared.numbering.Side.{Side};
 ghost use Rattle.dg_flat.specs.Rules.{KeepsWiring};
 ghost use Rattle.dg_flat.specs.inner.Numbering.{IsNumbering, IsNumberedAt};
@@ -101,7 +102,7 @@ pub fn first_unwired(
     systems: &Systems,
     nested: &Nested,
 ) -> Result<Option<u32>, OutOfMemory>
-    requires few { length nested.now.blocks ≤ 20000 }
+    requires few { length nested.now.blocks ≤ most_blocks }
     requires parents { HaveParents nested.now.blocks }
     requires ends { HaveEnds nested.now.blocks nested.now.lines }
     requires systems { AreSystems nested.now.blocks systems.now }

@@ -9,6 +9,7 @@ use Rattle.dg_model.specs.declared.rule.Rule.{Rule}
 use Rattle.dg_model.specs.Faults.{fault_of, AllKeep, BreaksAt}
 use Rattle.dg_model.specs.KindRow.{Shape}
 use Rattle.dg_model.specs.Library.{row_of}
+use Rattle.dg_model.specs.Limits.{widest_signal, most_output_elements, most_input_elements, most_delay_elements}
 use Rattle.dg_model.specs.Widths.{Widths, width_at, input_widths, are_open, next_widths, widths_of}
 
 -- a width or a length of 1 is repeated
@@ -27,7 +28,7 @@ Agrees Shape.Single outputs inputs = ⊤
 pub record KeepsDimension (diagram : Diagram) (widths : Widths) (place : ℕ) (block : Block) : Type 0 where
   -- one more round changes nothing
   pub settled : next_widths diagram widths place ≡ slice_index_or widths place []
-  pub within : (1 ≤ block.outputs) → All (λ width. width ≤ 1024) (slice_index_or widths place [])
+  pub within : (1 ≤ block.outputs) → All (λ width. width ≤ widest_signal) (slice_index_or widths place [])
   pub agrees : Agrees (row_of block.kind).signal.shape (slice_index_or widths place []) (input_widths diagram widths place)
   pub lists : All (λ list. IsRepeated (width_at widths place 1) (length list)) (row_of block.kind).signal.lists
   pub declared : ((row_of block.kind).signal.width ≡ 0) ⊎ (width_at widths place 1 ≡ (row_of block.kind).signal.width)
@@ -50,9 +51,9 @@ delay_elements diagram widths = sum (map (λ (place, block). (row_of block.kind)
 
 -- there are few enough
 pub record IsBounded (diagram : Diagram) (widths : Widths) : Type 0 where
-  pub outputs : output_elements diagram widths ≤ 200000
-  pub inputs : input_elements diagram widths ≤ 400000
-  pub delays : delay_elements diagram widths ≤ 4000000
+  pub outputs : output_elements diagram widths ≤ most_output_elements
+  pub inputs : input_elements diagram widths ≤ most_input_elements
+  pub delays : delay_elements diagram widths ≤ most_delay_elements
 
 -- the rule is kept
 pub record KeepsDimensions (diagram : Diagram) : Type 0 where

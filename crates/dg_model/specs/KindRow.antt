@@ -12,6 +12,7 @@ use Rattle.dg_model.specs.declared.row.OwnType.{OwnType}
 use Rattle.dg_model.specs.declared.row.Inherited.{Inherited}
 use Rattle.dg_model.specs.declared.row.Reading.{Reading}
 use Rattle.dg_model.specs.declared.row.Asking.{Asking}
+use Rattle.dg_model.specs.Limits.{longest_list}
 
 -- ---- what a parameter, a specification of a type and one of a period may be
 
@@ -25,7 +26,7 @@ IsBetween low high n = (low ≤ n) × (n ≤ high)
 
 -- a list parameter: 1 to 1024 decimals
 abbrev pub IsList : List Decimal → Type 0
-IsList list = IsBetween 1 1024 (length list)
+IsList list = IsBetween 1 longest_list (length list)
 
 -- a period: a decimal above 0
 pub record IsPeriod (decimal : Decimal) : Type 0 where

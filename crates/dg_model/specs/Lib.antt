@@ -12,6 +12,7 @@ pub mod LatencyEdges
 pub mod Laws
 pub mod Lent
 pub mod Library
+pub mod Limits
 pub mod Loop
 pub mod Naming
 pub mod Operation

@@ -17,6 +17,7 @@ use Rattle.dg_model.specs.declared.row.Inherited.{Inherited}
 use Rattle.dg_model.specs.declared.row.Reading.{Reading}
 use Rattle.dg_model.specs.declared.row.Asking.{Asking}
 use Rattle.dg_model.specs.KindRow.{Row, Shape, FullRule, Only, IsBetween, IsList, IsPeriod, IsSpec, MayBeFixed, IsChoice, IsFixed, MayDeclare, IsConstantPeriod}
+use Rattle.dg_model.specs.Limits.{most_blocks, widest_signal, longest_list, longest_delay}
 
 -- a gate has 2 to 32 inputs, and NOT one
 abbrev pub HasOperands : Gate → ℕ → Type 0
@@ -30,7 +31,7 @@ HasOperands Not inputs = inputs ≡ 1
 
 -- a Mux has one input a size, or 1 to 1024 where no size is fixed
 abbrev pub HasParts : List ℕ → ℕ → Type 0
-HasParts [] inputs = IsBetween 1 1024 inputs
+HasParts [] inputs = IsBetween 1 longest_list inputs
 HasParts (size ∷ sizes) inputs = inputs ≡ length (size ∷ sizes)
 
 -- the row of each kind
@@ -38,7 +39,7 @@ abbrev pub row_of : Kind → Row
 row_of (Inport number width) = record {
   place = record { role = Role.RootInput number; stands = Standing.Anywhere };
   ports = record { inputs = Only 0; outputs = Only 1 };
-  parameters = IsBetween 1 20000 number × IsBetween 0 1024 width;
+  parameters = IsBetween 1 most_blocks number × IsBetween 0 widest_signal width;
   signal = record { shape = Shape.Elementwise; lists = []; width = width };
   types = record { may_be = MayBeFixed; own = OwnType.Untyped; full = FullRule.NoFull; rounds = false };
   timing = record { may_be = MayDeclare; inherits = Inherited.Base; reads = Reading.Now; asks = Asking.Never; delay = 0 };
@@ -47,7 +48,7 @@ row_of (Inport number width) = record {
 row_of (Outport number) = record {
   place = record { role = Role.RootOutput number; stands = Standing.Anywhere };
   ports = record { inputs = Only 1; outputs = Only 0 };
-  parameters = IsBetween 1 20000 number;
+  parameters = IsBetween 1 most_blocks number;
   signal = record { shape = Shape.Elementwise; lists = []; width = 0 };
   types = record { may_be = MayBeFixed; own = OwnType.OfInput; full = FullRule.NoFull; rounds = false };
   timing = record { may_be = MayDeclare; inherits = Inherited.Moving; reads = Reading.Now; asks = Asking.Never; delay = 0 };
@@ -137,7 +138,7 @@ row_of (Convert stored) = record {
 row_of (Delay delay initial reset) = record {
   place = record { role = Role.Plain; stands = Standing.Anywhere };
   ports = record { inputs = Only 1; outputs = Only 1 };
-  parameters = IsBetween 1 1024 delay × IsList initial;
+  parameters = IsBetween 1 longest_delay delay × IsList initial;
   signal = record { shape = Shape.Elementwise; lists = initial ∷ []; width = 0 };
   types = record { may_be = Only Auto; own = OwnType.OfInput; full = FullRule.NoFull; rounds = false };
   timing = record { may_be = MayDeclare; inherits = Inherited.Moving; reads = Reading.Before; asks = Asking.Before; delay = delay };
@@ -146,7 +147,7 @@ row_of (Delay delay initial reset) = record {
 row_of (Mux sizes) = record {
   place = record { role = Role.Plain; stands = Standing.Anywhere };
   ports = record { inputs = HasParts sizes; outputs = Only 1 };
-  parameters = IsBetween 0 1024 (length sizes) × All (IsBetween 1 1024) sizes;
+  parameters = IsBetween 0 longest_list (length sizes) × All (IsBetween 1 widest_signal) sizes;
   signal = record { shape = Shape.Joined sizes; lists = []; width = 0 };
   types = record { may_be = Only Auto; own = OwnType.OfInput; full = FullRule.NoFull; rounds = false };
   timing = record { may_be = Only Inherit; inherits = Inherited.OfSources; reads = Reading.Now; asks = Asking.Never; delay = 0 };
@@ -155,7 +156,7 @@ row_of (Mux sizes) = record {
 row_of (Demux sizes) = record {
   place = record { role = Role.Plain; stands = Standing.Anywhere };
   ports = record { inputs = Only 1; outputs = Only (length sizes) };
-  parameters = IsBetween 1 1024 (length sizes) × (All (IsBetween 1 1024) sizes ⊎ All (Only 0) sizes);
+  parameters = IsBetween 1 longest_list (length sizes) × (All (IsBetween 1 widest_signal) sizes ⊎ All (Only 0) sizes);
   signal = record { shape = Shape.Parted sizes; lists = []; width = 0 };
   types = record { may_be = Only Auto; own = OwnType.OfInput; full = FullRule.NoFull; rounds = false };
   timing = record { may_be = Only Inherit; inherits = Inherited.OfSources; reads = Reading.Now; asks = Asking.Never; delay = 0 };
@@ -173,7 +174,7 @@ row_of (RateTransition period initial) = record {
 row_of (Pass width) = record {
   place = record { role = Role.InnerPort width; stands = Standing.Anywhere };
   ports = record { inputs = Only 1; outputs = Only 1 };
-  parameters = IsBetween 0 1024 width;
+  parameters = IsBetween 0 widest_signal width;
   signal = record { shape = Shape.Elementwise; lists = []; width = width };
   types = record { may_be = MayBeFixed; own = OwnType.OfInput; full = FullRule.NoFull; rounds = false };
   timing = record { may_be = MayDeclare; inherits = Inherited.OfSources; reads = Reading.Now; asks = Asking.Never; delay = 0 };

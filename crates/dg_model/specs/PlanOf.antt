@@ -4,6 +4,7 @@ use Rattle.dg_model.specs.declared.diagram.Diagram.{Diagram}
 use Rattle.dg_model.specs.declared.diagram.Block.{Block}
 use Rattle.dg_model.specs.declared.resolved.Resolved.{Resolved}
 use Rattle.dg_model.specs.Attributes.{attributes_of}
+use Rattle.dg_model.specs.Limits.{most_cycles, most_multipliers, most_stages}
 use Rattle.dg_model.specs.PlanNames.{MayBePipelined}
 
 -- how many registers a plan sets behind a block
@@ -17,8 +18,8 @@ pub record StagesAreAllowed (diagram : Diagram) (plan : Resolved) : Type 0 where
 -- 1 to 1024 clocks, at most 64 multipliers, and for each block a count of at most 64 registers
 pub record IsPlanOf (diagram : Diagram) (plan : Resolved) : Type 0 where
   pub some_clocks : 1 ≤ plan.cycles
-  pub few_clocks : plan.cycles ≤ 1024
-  pub few_multipliers : plan.multipliers ≤ 64
+  pub few_clocks : plan.cycles ≤ most_cycles
+  pub few_multipliers : plan.multipliers ≤ most_multipliers
   pub size : length plan.stages ≡ length diagram.blocks
-  pub stages : All (λ stages. stages ≤ 64) plan.stages
+  pub stages : All (λ stages. stages ≤ most_stages) plan.stages
   pub allowed : StagesAreAllowed diagram plan

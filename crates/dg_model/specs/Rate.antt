@@ -9,12 +9,13 @@ use Rattle.dg_model.specs.declared.row.Reading.{Reading}
 use Rattle.dg_model.specs.declared.rule.Rule.{Rule}
 use Rattle.dg_model.specs.Library.{row_of}
 use Rattle.dg_model.specs.Faults.{AllKeep, BreaksAt}
+use Rattle.dg_model.specs.Limits.{most_times}
 use Rattle.dg_model.specs.Periods.{units_of, declared_period, base_units, Period, drivers_of, sources_of, periods_of, period_at}
 
 -- a declared period is a whole multiple of the base period, at most 4096 times
 abbrev pub KeepsDeclared : Diagram → ℕ → Block → Type 0
 KeepsDeclared diagram place block =
-    MatchOption (declared_period block.period) ⊤ (λ decimal. (times : ℕ) × (times ≤ 4096) × (units_of decimal ≡ times * base_units diagram))
+    MatchOption (declared_period block.period) ⊤ (λ decimal. (times : ℕ) × (times ≤ most_times) × (units_of decimal ≡ times * base_units diagram))
 
 -- a block that reads its input before where that is slower joins two periods
 abbrev pub joins_periods : Reading → Bool

@@ -10,6 +10,7 @@ use Rattle.dg_model.specs.declared.nested.Target.TheVariants.{Port, Enable as En
 use Rattle.dg_model.specs.declared.row.Role.{Role}
 use Rattle.dg_model.specs.KindRow.{IsBetween}
 use Rattle.dg_model.specs.Library.{row_of, IsReadable}
+use Rattle.dg_model.specs.Limits.{most_blocks, most_levels}
 
 -- the part is a subsystem
 abbrev pub IsSubSystem : Part → Type 0
@@ -35,7 +36,7 @@ HasParent blocks block parent = MatchOption parent ⊤ (λ system. (system < blo
 pub record AreLevels (blocks : List NestedBlock) (level : Option ℕ → ℕ) : Type 0 where
   pub root : level None ≡ 1
   pub inner : (block : ℕ) (b : NestedBlock) → slice_get blocks block ≡ Some b → IsSubSystem b.part → level (Some block) ≡ suc (level b.parent)
-  pub deepest : (block : ℕ) (b : NestedBlock) → slice_get blocks block ≡ Some b → IsSubSystem b.part → level (Some block) ≤ 64
+  pub deepest : (block : ℕ) (b : NestedBlock) → slice_get blocks block ≡ Some b → IsSubSystem b.part → level (Some block) ≤ most_levels
 
 -- two blocks of one System have different names
 abbrev pub HaveNames : NestedBlock → NestedBlock → Type 0
@@ -43,13 +44,13 @@ HaveNames block other = block.parent ≡ other.parent → block.name ≢ other.n
 
 -- the end of a line is a port that can be
 abbrev pub IsTarget : Target → Type 0
-IsTarget (Port port) = IsBetween 1 20000 port
+IsTarget (Port port) = IsBetween 1 most_blocks port
 IsTarget EnableTarget = ⊤
 
 -- the line joins blocks of one System
 pub record JoinsWithin (blocks : List NestedBlock) (line : NestedLine) : Type 0 where
   pub system : MatchOption (slice_get blocks line.from) ⊥ (λ source. MatchOption (slice_get blocks line.to) ⊥ (λ target. source.parent ≡ target.parent))
-  pub from_port : IsBetween 1 20000 line.from_port
+  pub from_port : IsBetween 1 most_blocks line.from_port
   pub target : IsTarget line.target
 
 -- the System holds an EnablePort
@@ -113,7 +114,7 @@ HasPlainRole (Enable reset) = ⊤
 
 -- the blocks and lines are well formed
 pub record IsSound (nested : Nested) : Type 0 where
-  pub size : length nested.blocks ≤ 20000
+  pub size : length nested.blocks ≤ most_blocks
   pub parents : (block : ℕ) (b : NestedBlock) → slice_get nested.blocks block ≡ Some b → HasParent nested.blocks block b.parent
   pub levels : (level : Option ℕ → ℕ) × AreLevels nested.blocks level
   pub names : AllPairs HaveNames nested.blocks

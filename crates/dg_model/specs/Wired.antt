@@ -3,6 +3,7 @@ use Rattle.std.specs.Prelude.{◌≡◌, ℕ, ◌≤◌, ◌<◌, ◌≢◌, ◌
 use Rattle.dg_model.specs.declared.diagram.Diagram.{Diagram}
 use Rattle.dg_model.specs.declared.diagram.Block.{Block}
 use Rattle.dg_model.specs.declared.diagram.Edge.{Edge}
+use Rattle.dg_model.specs.Limits.{most_blocks}
 use Rattle.dg_model.specs.Wires.{enters}
 use Rattle.dg_model.specs.declared.row.Role.{Role}
 use Rattle.dg_model.specs.declared.row.Standing.{Standing}
@@ -52,7 +53,7 @@ MayStand Standing.Inside enable = IsSome enable
 
 -- the diagram is well formed
 pub record IsWired (diagram : Diagram) : Type 0 where
-  pub size : length diagram.blocks ≤ 20000
+  pub size : length diagram.blocks ≤ most_blocks
   pub edges : All (Joins diagram.blocks) diagram.edges
   pub driven : (block port : ℕ) (b : Block) → slice_get diagram.blocks block ≡ Some b → 1 ≤ port → port ≤ b.inputs → count_by (enters block port) diagram.edges ≡ 1
   pub ordered : AllPairs StandsBefore diagram.edges

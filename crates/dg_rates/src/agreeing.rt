@@ -3,6 +3,7 @@ ghost use Rattle.dg_model.specs.declared.fault.Shown.TheVariants.{Periods as Sho
 ghost use Rattle.dg_model.specs.declared.rule.Rule.{Rule};
 ghost use Rattle.dg_model.specs.Faults.{AllKeep, BreaksAt, IsRefusal, fault_of};
 ghost use Rattle.dg_model.specs.Library.{row_of};
+ghost use Rattle.dg_model.specs.Limits.{most_blocks};
 ghost use Rattle.dg_model.specs.Periods.{period_at};
 ghost use Rattle.dg_model.specs.Rate.{KeepsPeriods, joins_periods as joins_periods_of, shown_period, shown_periods, suits as suits_of};
 ghost use Rattle.dg_rates.specs.inner.Agreeing.{asked_among, without_control as without_control_of};
@@ -113,7 +114,7 @@ pub fn check_periods(
     links: &Links,
     periods: &[Option<u32>],
 ) -> Result<(), CheckFault>
-    requires few { length diagram.now.blocks ≤ 20000 }
+    requires few { length diagram.now.blocks ≤ most_blocks }
     requires size { length links.now.sources ≡ length diagram.now.blocks }
     requires sources { AreSources diagram.now links.now.sources }
     requires periods { length periods.now ≡ length diagram.now.blocks }

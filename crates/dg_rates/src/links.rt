@@ -1,4 +1,5 @@
 ghost use Rattle.std.specs.Prelude.{◌≡◌, ◌<◌, ◌≤◌, All, IfOk, OnOk, length};
+ghost use Rattle.dg_model.specs.Limits.{most_blocks};
 ghost use Rattle.dg_model.specs.Wired.{IsWired};
 ghost use Rattle.dg_rates.specs.inner.Links.{AreOwn, AreTied, AreDrivers, AreSources};
 ghost use Rattle.fx_io.specs.Rows.{noted, row_at};
@@ -25,7 +26,7 @@ struct Rows {
 
 /// So many rows, each with its own number.
 fn own_rows(alloc: Global, count: usize) -> Result<Vec<Sizes>, OutOfMemory>
-    requires { count ≤ 20000 }
+    requires { count ≤ most_blocks }
     ensures { IfOk result (λ rows. AreOwn count rows.items) }
 {
     let mut rows: Vec<Sizes> = Vec::new(alloc);
@@ -55,7 +56,7 @@ fn link(rows: &mut Rows, reader: u32, source: u32) -> Result<(), OutOfMemory>
 
 /// The links along these edges.
 fn edge_rows(alloc: Global, count: usize, edges: &[Edge]) -> Result<Rows, OutOfMemory>
-    requires few { count ≤ 20000 }
+    requires few { count ≤ most_blocks }
     requires from { All (λ edge. edge.from < count) edges.now }
     requires to { All (λ edge. edge.to < count) edges.now }
     ensures tied { IfOk result (λ rows. AreTied count rows.sources.items rows.readers.items) }

@@ -2,6 +2,7 @@ ghost use Rattle.std.specs.Prelude.{◌≡◌, ◌<◌, ◌≤◌, ◌&&◌, IfO
 ghost use Rattle.std.specs.List.{list_all};
 ghost use Rattle.dg_waves.specs.Rounds.{after_rounds as after_rounds_of};
 ghost use Rattle.dg_model.specs.Library.{row_of};
+ghost use Rattle.dg_model.specs.Limits.{most_blocks};
 ghost use Rattle.dg_model.specs.Periods.{are_unchanging, is_unchanging, least_finite as least_finite_of, least_of, next_periods, or_one};
 ghost use Rattle.dg_model.specs.Wired.{IsWired};
 ghost use Rattle.dg_rates.specs.inner.Links.{AreSources};
@@ -180,7 +181,7 @@ impl PeriodRound {
         diagram: &Diagram,
         first: Vec<Known>,
     ) -> Result<Periods, OutOfMemory>
-        requires few { length diagram.now.blocks ≤ 20000 }
+        requires few { length diagram.now.blocks ≤ most_blocks }
         requires size { length self.now.links.sources ≡ length diagram.now.blocks }
         requires first_size { length first.items ≡ length diagram.now.blocks }
         requires rests { self.now.rests ≡ all_rests diagram.now.blocks }

@@ -1,4 +1,5 @@
 ghost use Rattle.std.specs.Prelude.{◌≡◌, ◌-◌, ◌<◌, ◌≤◌, ◌++◌, [], All, IfOk, OnOk, Some, length, slice_get};
+ghost use Rattle.dg_model.specs.Limits.{most_blocks};
 ghost use Rattle.dg_sort.specs.Rows.{AreKnown};
 ghost use Rattle.dg_sort.specs.inner.Search.{CanJoin, IsJoined, KeepsAllButGroups};
 ghost use Rattle.dg_sort.specs.inner.Search.{begun, least_of, lowered, met, placed, placed_marks, seen};
@@ -206,7 +207,7 @@ pub struct Found {
 /// reads.
 pub fn search_all(alloc: Global, rows: &[Sizes]) -> Result<Found, OutOfMemory>
     requires known { AreKnown rows.now }
-    requires few { length rows.now ≤ 20000 }
+    requires few { length rows.now ≤ most_blocks }
     ensures { IfOk result (λ found. IsFound rows.now found.order.items found.first) }
 {
     let mut search = Search::begin(alloc, rows.len())?;

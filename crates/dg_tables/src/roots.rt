@@ -4,6 +4,7 @@ ghost use Rattle.dg_waves.specs.Rounds.{numbers_from};
 ghost use Rattle.dg_model.specs.Attributes.{attributes_of};
 ghost use Rattle.dg_model.specs.Library.{row_of};
 ghost use Rattle.dg_model.specs.declared.diagram.Block.{Block};
+ghost use Rattle.dg_model.specs.Limits.{most_blocks};
 ghost use Rattle.dg_model.specs.Wired.{AreNumbered, root_output};
 ghost use Rattle.dg_model.specs.RootElements.{number_in, has_number, elements_of_port, root_elements, root_inputs, root_outputs};
 ghost use Rattle.dg_tables.specs.inner.Ports.{ArePortsTo, FindsWidths, IsNumberOf, IsPortNumber, port_put, root_on, width_on};
@@ -76,7 +77,7 @@ fn put_number(ports: &mut Vec<u32>, number: Option<u32>, block: u32)
 /// The blocks of the root ports of a side by their numbers, from 1.
 fn ports_on<'a>(alloc: Global, side: Side<'a>, blocks: &[Block]) -> Result<Vec<u32>, OutOfMemory>
     requires ports { AreNumbered (filter_map (number_in (root_on side)) blocks.now) }
-    requires few { length blocks.now ≤ 20000 }
+    requires few { length blocks.now ≤ most_blocks }
     ensures { IfOk result (λ ports.
         ArePortsTo (root_on side.entry) blocks.now (length blocks.now) ports.items) }
 {

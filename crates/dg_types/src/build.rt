@@ -2,6 +2,7 @@ ghost use Rattle.std.specs.Prelude.{◌≡◌, ◌^◌, ◌<◌, ◌≤◌, [], 
 ghost use Rattle.dg_model.specs.declared.diagram.Block.{Block};
 ghost use Rattle.dg_types.specs.inner.Build.{AreAlike, CanLink, Gathered, Known, IsPortOf, all_forms as all_forms_of};
 ghost use Rattle.dg_types.specs.inner.Shown.{shape_of, form_of as form_of_shape, share_at as share_at_shape, part_of, source_of as source_of_edge, Mirrors};
+ghost use Rattle.dg_model.specs.Limits.{longest_list};
 ghost use Rattle.dg_model.specs.Widths.{are_open as are_open_of, list_length as list_length_of};
 
 use crate::kinds::list_length;
@@ -22,7 +23,7 @@ fn are_all_open(sizes: &[u32]) -> bool
 
 /// How a block of this kind takes its width.
 fn form_of(kind: &Kind) -> Form
-    requires { list_length_of kind.now ≤ 1024 }
+    requires { list_length_of kind.now ≤ longest_list }
     ensures { result ≡ form_of_shape (shape_of kind.now) (list_length_of kind.now) }
 {
     match kind.shape() {
@@ -68,7 +69,7 @@ fn part_at(sizes: &[u32], place: u32) -> Share
 
 /// The forms of the blocks.
 fn all_forms(alloc: Global, blocks: &[Block]) -> Result<Sequence<Form>, OutOfMemory>
-    requires { All (λ block. list_length_of block.kind ≤ 1024) blocks.now }
+    requires { All (λ block. list_length_of block.kind ≤ longest_list) blocks.now }
     ensures { IfOk result (λ forms. forms ≡ all_forms_of blocks.now) }
 {
     let mut forms = Sequence::new(alloc);

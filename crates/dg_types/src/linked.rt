@@ -52,7 +52,7 @@ pub struct WidthRound {
 /// One of so many parts of a width, as even as can be.
 pub fn part(width: u32, parts: u32, place: u32) -> u32
     requires some { 0 < parts }
-    requires small { width ≤ 1025 }
+    requires small { width ≤ most_width }
     ensures { result ≡ share_of width parts place }
 {
     let whole = width / parts;

@@ -1,7 +1,8 @@
 ghost use Rattle.std.specs.Prelude.{◌≡◌, ℕ, ◌<◌, ◌≤◌, ◌∷◌, [], All, length, map, IfOk};
 ghost use Rattle.dg_waves.specs.Rounds.{numbers_from};
 ghost use Rattle.dg_model.specs.KindRow.{Shape as ShapeOf};
-ghost use Rattle.dg_model.specs.Widths.{share};
+ghost use Rattle.dg_model.specs.Limits.{longest_list};
+ghost use Rattle.dg_model.specs.Widths.{share, most_width};
 ghost use Rattle.dg_types.specs.inner.Build.{Gathered};
 ghost use Rattle.dg_types.specs.inner.Shown.{shape_of, outputs_of, shown};
 ghost use Rattle.dg_types.specs.inner.Rows.{HasRow, width_of_edge};
@@ -21,7 +22,7 @@ fn ones(alloc: Global, sizes: &[u32]) -> Result<Sizes, OutOfMemory>
 
 /// The parts of a width, as even as can be.
 fn shares(alloc: Global, width: u32, parts: u32) -> Result<Sizes, OutOfMemory>
-    requires { width ≤ 1025 }
+    requires { width ≤ most_width }
     ensures { IfOk result (λ row. row ≡ map (share width parts) (numbers_from 0 parts)) }
 {
     let mut row = Sizes::new(alloc);
@@ -33,7 +34,7 @@ fn shares(alloc: Global, width: u32, parts: u32) -> Result<Sizes, OutOfMemory>
 
 /// The widths at the outputs of a Demux of these sizes that holds this.
 fn parts_of(alloc: Global, sizes: &[u32], held: u32) -> Result<Sizes, OutOfMemory>
-    requires few { length sizes.now ≤ 1024 }
+    requires few { length sizes.now ≤ longest_list }
     requires small { held ≤ 1026 }
     ensures { IfOk result (λ row. row ≡ outputs_of (ShapeOf.Parted sizes.now) held) }
 {

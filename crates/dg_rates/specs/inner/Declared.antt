@@ -6,6 +6,7 @@ use Rattle.dg_model.specs.declared.diagram.PeriodSpec.{PeriodSpec}
 use Rattle.dg_model.specs.declared.diagram.PeriodSpec.TheVariants.{Inherit, Constant as NeverChanges, Every}
 use Rattle.dg_model.specs.declared.kind.Kind.{Kind}
 use Rattle.dg_model.specs.Library.{row_of}
+use Rattle.dg_model.specs.Limits.{most_times}
 use Rattle.dg_model.specs.Periods.{Period, declared_period, first_inherited, least, units_of}
 
 -- a declared period is above 0
@@ -18,7 +19,7 @@ least_units blocks = least (map units_of (filter_map (λ block. declared_period 
 
 -- a declared period is a whole multiple of a base period of so many units, at most 4096 times
 abbrev pub KeepsIn : ℕ → Block → Type 0
-KeepsIn base block = MatchOption (declared_period block.period) ⊤ (λ decimal. (times : ℕ) × (times ≤ 4096) × (units_of decimal ≡ times * base))
+KeepsIn base block = MatchOption (declared_period block.period) ⊤ (λ decimal. (times : ℕ) × (times ≤ most_times) × (units_of decimal ≡ times * base))
 
 -- the period that a block has before the first round, with a base period of so many units
 abbrev pub first_in : ℕ → Kind → PeriodSpec → Option Period

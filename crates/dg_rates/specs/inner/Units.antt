@@ -1,10 +1,11 @@
 -- Declared periods in one unit, and as whole multiples of the base period (own).
 use Rattle.std.specs.Prelude.{◌≡◌, ℕ, ◌*◌, ◌^◌, ◌<◌, ◌≤◌, ◌⊎◌, Option, Some, None}
+use Rattle.dg_model.specs.Limits.{most_times}
 use Rattle.dg_rates.specs.declared.units.Aligned.{Aligned}
 
 -- so many times the second, at most 4096 times
 pub record IsTimes (units base times : ℕ) : Type 0 where
-  pub few : times ≤ 4096
+  pub few : times ≤ most_times
   pub whole : units ≡ times * base
 
 -- the number, or none where it has no room in 128 bits

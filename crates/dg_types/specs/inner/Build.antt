@@ -5,6 +5,7 @@ use Rattle.dg_model.specs.declared.diagram.Edge.{Edge}
 use Rattle.dg_types.specs.declared.linked.Form.{Form}
 use Rattle.dg_types.specs.inner.Linked.{is_shared_out}
 use Rattle.dg_model.specs.KindRow.{IsBetween, Only, Shape}
+use Rattle.dg_model.specs.Limits.{widest_signal, longest_list}
 use Rattle.dg_model.specs.Widths.{list_length}
 use Rattle.dg_types.specs.inner.Shown.{form_of, shape_of, source_of}
 use Rattle.dg_waves.specs.inner.Waves.{is_in}
@@ -14,7 +15,7 @@ all_forms blocks = map (λ block. form_of (shape_of block.kind) (list_length blo
 
 -- each size is fixed, or none
 abbrev pub AreAlike : List ℕ → Type 0
-AreAlike sizes = All (IsBetween 1 1024) sizes ⊎ All (Only 0) sizes
+AreAlike sizes = All (IsBetween 1 widest_signal) sizes ⊎ All (Only 0) sizes
 
 -- a Demux has the port, and sizes that are alike
 abbrev pub IsPortOf : Shape → ℕ → Type 0
@@ -25,7 +26,7 @@ IsPortOf Shape.Single port = ⊤
 
 -- what building asks of a diagram; a wired one has it
 pub record CanLink (blocks : List Block) (edges : List Edge) : Type 0 where
-  pub lists : All (λ block. list_length block.kind ≤ 1024) blocks
+  pub lists : All (λ block. list_length block.kind ≤ longest_list) blocks
   pub ends : (k : ℕ) (edge : Edge) → slice_get edges k ≡ Some edge → (edge.from < length blocks) × (edge.to < length blocks)
   pub ports : (k : ℕ) (edge : Edge) → slice_get edges k ≡ Some edge → (block : Block) → slice_get blocks edge.from ≡ Some block → IsPortOf (shape_of block.kind) edge.from_port
   pub first_port : All (λ edge. 1 ≤ edge.from_port) edges

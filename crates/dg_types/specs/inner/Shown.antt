@@ -12,7 +12,7 @@ use Rattle.dg_types.specs.declared.linked.Form.TheVariants.{Elementwise, Joined,
 use Rattle.dg_model.specs.declared.kind.Kind.{Kind}
 use Rattle.dg_model.specs.KindRow.{Shape}
 use Rattle.dg_model.specs.Library.{row_of}
-use Rattle.dg_model.specs.Widths.{Widths, are_open, share, list_length}
+use Rattle.dg_model.specs.Widths.{Widths, are_open, share, list_length, most_width}
 use Rattle.dg_model.specs.Wires.{edges_into}
 
 -- how a block takes its widths, and the width that it declares
@@ -78,14 +78,14 @@ IsPort Shape.Single port = port ≡ 1
 abbrev pub HasParts : Shape → Type 0
 HasParts Shape.Elementwise = ⊤
 HasParts (Shape.Joined sizes) = ⊤
-HasParts (Shape.Parted sizes) = (1 ≤ length sizes) × ((k : ℕ) → slice_index_or sizes k 0 ≤ 1025)
+HasParts (Shape.Parted sizes) = (1 ≤ length sizes) × ((k : ℕ) → slice_index_or sizes k 0 ≤ most_width)
 HasParts Shape.Single = ⊤
 
 -- what these lemmas ask of a diagram; a wired one has it
 pub record IsLaid (diagram : Diagram) : Type 0 where
   pub ports : (k : ℕ) (edge : Edge) → slice_get diagram.edges k ≡ Some edge → (block : Block) × (slice_get diagram.blocks edge.from ≡ Some block) × IsPort (shape_of block.kind) edge.from_port
   pub parts : (k : ℕ) (block : Block) → slice_get diagram.blocks k ≡ Some block → HasParts (shape_of block.kind)
-  pub declared : (k : ℕ) (block : Block) → slice_get diagram.blocks k ≡ Some block → declared_width block.kind ≤ 1025
+  pub declared : (k : ℕ) (block : Block) → slice_get diagram.blocks k ≡ Some block → declared_width block.kind ≤ most_width
 
 -- forms and sources are those of the diagram
 pub record Mirrors (diagram : Diagram) (forms : List Form) (sources : List (List Source)) : Type 0 where

@@ -6,6 +6,7 @@ use Rattle.dg_model.specs.declared.diagram.Block.{Block}
 use Rattle.dg_model.specs.declared.kind.Kind.{Kind}
 use Rattle.dg_model.specs.KindRow.{Shape}
 use Rattle.dg_model.specs.Library.{row_of}
+use Rattle.dg_model.specs.Limits.{widest_signal}
 use Rattle.dg_model.specs.Widths.{are_open}
 use Rattle.dg_types.specs.inner.Shown.{shape_of, declared_width}
 
@@ -39,9 +40,9 @@ lists_fit own lists = list_all (λ list. is_repeated own (length list)) lists
 abbrev pub is_declared : ℕ → ℕ → Bool
 is_declared declared own = (declared == 0) || (own == declared)
 
--- no width is above 1024
+-- no signal is too wide
 abbrev pub are_small : List ℕ → Bool
-are_small widths = list_all (λ width. nat_le width 1024) widths
+are_small widths = list_all (λ width. nat_le width widest_signal) widths
 
 -- the outputs, if there are any, are not too wide
 abbrev pub is_within : ℕ → List ℕ → Bool
