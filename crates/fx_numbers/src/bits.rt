@@ -5,7 +5,7 @@ ghost use Rattle.fx_num.specs.Word.{IsWord};
 use anyhow::{Error, Result};
 use fx_num::{fits, from_bits, is_word, shift_up, to_bits, wrap};
 use std::io::Write;
-use tests_rows::{Row, written};
+use tests_rows::{Row, write_result};
 
 /// A width, and whether there is a sign.
 #[derive(Clone, Copy)]
@@ -40,8 +40,8 @@ pub fn in_word<W: Write>(asked: Asked, words: &mut Row<'_>, out: &mut W) -> Resu
     let v = words.integer()?;
     let Word { width, signed } = word_of(words)?;
     match asked {
-        Asked::Wrap => written(writeln!(out, "{}", wrap(v, width, signed))),
-        Asked::Fits => written(writeln!(out, "{}", fits(v, width, signed))),
+        Asked::Wrap => write_result(writeln!(out, "{}", wrap(v, width, signed))),
+        Asked::Fits => write_result(writeln!(out, "{}", fits(v, width, signed))),
         Asked::ToBits => put_bits(v, width, signed, out),
         Asked::FromBits => put_number(v, width, signed, out),
     }
@@ -51,7 +51,7 @@ fn put_bits<W: Write>(v: i128, width: u8, signed: bool, out: &mut W) -> Result<(
     requires { IsWord width signed }
 {
     if fits(v, width, signed) {
-        written(writeln!(out, "{}", to_bits(v, width, signed)))
+        write_result(writeln!(out, "{}", to_bits(v, width, signed)))
     } else {
         Err(Error::msg("the number leaves its word"))
     }
@@ -67,7 +67,7 @@ fn put_number<W: Write>(bits: i128, width: u8, signed: bool, out: &mut W) -> Res
     if width < 8 {
         return Err(Error::msg("the bits may leave their word"));
     }
-    written(writeln!(out, "{}", of_byte(bits, width, signed)))
+    write_result(writeln!(out, "{}", of_byte(bits, width, signed)))
 }
 
 /// The number of a word of a byte or more that has these bits.
@@ -78,11 +78,11 @@ fn of_byte(bits: u8, width: u8, signed: bool) -> i128
     from_bits(u128::from(bits), width, signed)
 }
 
-pub fn shifted<W: Write>(words: &mut Row<'_>, out: &mut W) -> Result<()> {
+pub fn put_shift<W: Write>(words: &mut Row<'_>, out: &mut W) -> Result<()> {
     let v = words.integer()?;
     let by = words.number()?;
     match shift_up(v, by) {
-        Some(r) => written(writeln!(out, "{r}")),
-        None => written(out.write_all(b"None\n")),
+        Some(r) => write_result(writeln!(out, "{r}")),
+        None => write_result(out.write_all(b"None\n")),
     }
 }

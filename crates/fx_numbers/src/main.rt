@@ -38,7 +38,7 @@ use anyhow::{Error, Result};
 use std::alloc::Global;
 use std::io::Write;
 use std::thread::Threads;
-use tests_rows::{Answers, Line, Row, answer_lines, written};
+use tests_rows::{Answers, Line, Row, answer_lines, write_result};
 
 /// Nothing stands between cases.
 #[derive(Drop)]
@@ -101,7 +101,7 @@ const COMMANDS: &[(&str, Command)] = &[
 fn answer<W: Write>(alloc: Global, words: &mut Row<'_>, text: &str, out: &mut W) -> Result<()> {
     match words.one_of(COMMANDS)? {
         Command::InWord(asked) => bits::in_word(asked, words, out),
-        Command::ShiftUp => bits::shifted(words, out),
+        Command::ShiftUp => bits::put_shift(words, out),
         Command::Range => types::range(words, out),
         Command::Conversion => types::conversion(words, out),
         Command::Decimal => types::decimal(words, text, out),
@@ -138,8 +138,8 @@ fn put_operation<W: Write>(
         nets,
     } = answer;
     if whole {
-        written(writeln!(out, "{value} {prepared} {shown} {nets}"))
+        write_result(writeln!(out, "{value} {prepared} {shown} {nets}"))
     } else {
-        written(writeln!(out, "{value} {prepared}"))
+        write_result(writeln!(out, "{value} {prepared}"))
     }
 }

@@ -26,7 +26,7 @@ pub struct Answer {
 }
 
 /// What an operation gives of these inputs, as a number and as nets.
-pub fn answered(alloc: Global, call: &OpCall, inputs: &[i128]) -> Result<Answer>
+pub fn operation_answer(alloc: Global, call: &OpCall, inputs: &[i128]) -> Result<Answer>
     requires { CanCarryOut (operation_of call.now) inputs.now }
 {
     let value = output(call, inputs);
@@ -49,7 +49,7 @@ fn shown_in(alloc: Global, net: &mut Netlist, call: &OpCall, inputs: &[i128]) ->
 {
     let mut args = Vec::new(alloc);
     put_inputs(alloc, net, call.types, &mut args)?;
-    lowered(alloc, net, call, args.as_slice(), inputs)
+    lowered_value(alloc, net, call, args.as_slice(), inputs)
 }
 
 /// Puts an input of each type into the netlist, and gives the numbers of their nets.
@@ -82,7 +82,7 @@ fn put_input(alloc: Global, net: &mut Netlist, kind: FxType, args: &mut Vec<u32>
 }
 
 /// What the nets of an operation show, where their arguments have these numbers.
-fn lowered(
+fn lowered_value(
     alloc: Global,
     net: &mut Netlist,
     call: &OpCall,
@@ -95,7 +95,7 @@ fn lowered(
         return Err(Error::msg("an input lacks its net"));
     }
     let number = lower(alloc, net, call, args)?;
-    shown(alloc, net, number, inputs)
+    shown_value(alloc, net, number, inputs)
 }
 
 /// The net of an input.
@@ -155,7 +155,7 @@ fn are_args(net: &Netlist, types: &[FxType], args: &[u32]) -> bool
 }
 
 /// What a net shows of these inputs in the first clock.
-fn shown(alloc: Global, net: &Netlist, number: u32, inputs: &[i128]) -> Result<i128> {
+fn shown_value(alloc: Global, net: &Netlist, number: u32, inputs: &[i128]) -> Result<i128> {
     let sound = is_netlist(alloc, net)?;
     if !sound {
         return Err(Error::msg("the netlist can't be run"));

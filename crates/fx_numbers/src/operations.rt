@@ -3,8 +3,8 @@ ghost use Rattle.std.specs.Prelude.{[], ◌∷◌, IfOk};
 ghost use Rattle.fx_type.specs.FxType.{IsType, InRange};
 ghost use Rattle.dg_model.specs.Operation.{HasArity, HasSigns, HasParameters, HasResultType, HasFullType};
 
-use crate::nets::{Answer, answered};
-use crate::words::{End, Operand, known, read_end, read_operand, read_term};
+use crate::nets::{Answer, operation_answer};
+use crate::words::{End, Operand, read_end, read_operand, read_term, word_value};
 use anyhow::{Error, Result};
 use dg_model::{Criterion, Gate, Op, OpCall};
 use fx_type::{FxType, Rounding, TooWide, full_product, full_sum, union};
@@ -59,7 +59,7 @@ fn of_one(alloc: Global, op: Op, signs: &[bool], a: Operand, end: End) -> Result
         rounding: end.rounding,
         saturate: end.saturate,
     };
-    answered(alloc, &call, &[a.value])
+    operation_answer(alloc, &call, &[a.value])
 }
 
 /// An operation of two inputs.
@@ -81,7 +81,7 @@ fn of_two(alloc: Global, op: Op, signs: &[bool], a: Operand, b: Operand, end: En
         rounding: end.rounding,
         saturate: end.saturate,
     };
-    answered(alloc, &call, &[a.value, b.value])
+    operation_answer(alloc, &call, &[a.value, b.value])
 }
 
 /// An operation of three inputs.
@@ -112,7 +112,7 @@ fn of_three(
         rounding: end.rounding,
         saturate: end.saturate,
     };
-    answered(alloc, &call, &[a.value, b.value, c.value])
+    operation_answer(alloc, &call, &[a.value, b.value, c.value])
 }
 
 /// How a truth is stored.
@@ -217,7 +217,7 @@ fn threshold(words: &mut Row<'_>, kind: FxType) -> Result<i128>
 
 fn relational(alloc: Global, words: &mut Row<'_>) -> Result<Answer> {
     let a = read_operand(words)?;
-    let operator = known(read_relation(words.next()?.as_bytes()))?;
+    let operator = word_value(read_relation(words.next()?.as_bytes()))?;
     let b = read_operand(words)?;
     match union(a.kind, b.kind) {
         Ok(_union) => of_two(alloc, Op::Relational { operator }, &[], a, b, TRUTH),
@@ -226,9 +226,9 @@ fn relational(alloc: Global, words: &mut Row<'_>) -> Result<Answer> {
 }
 
 fn logic(alloc: Global, words: &mut Row<'_>) -> Result<Answer> {
-    let operator = known(read_gate(words.next()?.as_bytes()))?;
+    let operator = word_value(read_gate(words.next()?.as_bytes()))?;
     match words.byte()? {
-        1 => inverted(alloc, words, operator),
+        1 => logic_of_one(alloc, words, operator),
         2 => logic_of_two(alloc, words, operator),
         3 => logic_of_three(alloc, words, operator),
         _ => Err(Error::msg("one to three inputs")),
@@ -236,7 +236,7 @@ fn logic(alloc: Global, words: &mut Row<'_>) -> Result<Answer> {
 }
 
 /// A gate of one input, which is a Not.
-fn inverted(alloc: Global, words: &mut Row<'_>, operator: Gate) -> Result<Answer> {
+fn logic_of_one(alloc: Global, words: &mut Row<'_>, operator: Gate) -> Result<Answer> {
     let a = read_operand(words)?;
     match operator {
         Gate::Not => of_one(

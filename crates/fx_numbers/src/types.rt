@@ -5,13 +5,13 @@ use fx_round::{DecimalFault, convert, read_decimal, to_stored};
 use fx_type::{FxType, TooWide, full_product, full_sum, union};
 use std::alloc::Global;
 use std::io::Write;
-use tests_rows::{Row, written};
+use tests_rows::{Row, write_result};
 
 pub fn range<W: Write>(words: &mut Row<'_>, out: &mut W) -> Result<()> {
     let kind = valid_type(words)?;
     let lowest = kind.lowest();
     let highest = kind.highest();
-    written(writeln!(out, "{lowest} {highest}"))
+    write_result(writeln!(out, "{lowest} {highest}"))
 }
 
 pub fn conversion<W: Write>(words: &mut Row<'_>, out: &mut W) -> Result<()> {
@@ -20,7 +20,7 @@ pub fn conversion<W: Write>(words: &mut Row<'_>, out: &mut W) -> Result<()> {
     let Operand { kind, value } = in_type(from, v)?;
     let end = read_end(words)?;
     let r = convert(value, kind, end.kind, end.rounding, end.saturate);
-    written(writeln!(out, "{r}"))
+    write_result(writeln!(out, "{r}"))
 }
 
 pub fn decimal<W: Write>(words: &mut Row<'_>, text: &str, out: &mut W) -> Result<()> {
@@ -31,10 +31,10 @@ pub fn decimal<W: Write>(words: &mut Row<'_>, text: &str, out: &mut W) -> Result
             let sign = if decimal.negative { "-" } else { "+" };
             let digits = decimal.digits;
             let exponent = decimal.exponent;
-            written(writeln!(out, "{sign} {digits} {exponent} {stored}"))
+            write_result(writeln!(out, "{sign} {digits} {exponent} {stored}"))
         }
-        Err(DecimalFault::NotANumber) => written(out.write_all(b"NotANumber\n")),
-        Err(DecimalFault::TooLong) => written(out.write_all(b"TooLong\n")),
+        Err(DecimalFault::NotANumber) => write_result(out.write_all(b"NotANumber\n")),
+        Err(DecimalFault::TooLong) => write_result(out.write_all(b"TooLong\n")),
     }
 }
 
@@ -74,7 +74,7 @@ pub fn pair_type<W: Write>(product: bool, words: &mut Row<'_>, out: &mut W) -> R
 
 fn print_type<W: Write>(out: &mut W, kind: Result<FxType, TooWide>) -> Result<()> {
     match kind {
-        Ok(FxType::Logical) => written(out.write_all(b"L\n")),
+        Ok(FxType::Logical) => write_result(out.write_all(b"L\n")),
         Ok(
             FxType::Num {
                 signed,
@@ -83,8 +83,8 @@ fn print_type<W: Write>(out: &mut W, kind: Result<FxType, TooWide>) -> Result<()
             },
         ) => {
             let sign = if signed { 's' } else { 'u' };
-            written(writeln!(out, "{sign} {width} {frac}"))
+            write_result(writeln!(out, "{sign} {width} {frac}"))
         }
-        Err(TooWide) => written(out.write_all(b"TooWide\n")),
+        Err(TooWide) => write_result(out.write_all(b"TooWide\n")),
     }
 }

@@ -77,7 +77,7 @@ pub fn read_end(words: &mut Row<'_>) -> Result<End>
     ensures { IfOk result (λ end. IsType end.kind) }
 {
     let kind = valid_type(words)?;
-    let rounding = known(read_rounding(words.next()?.as_bytes()))?;
+    let rounding = word_value(read_rounding(words.next()?.as_bytes()))?;
     let saturate = words.one_of(&[("on", true), ("off", false)])?;
     Ok(End {
         kind,
@@ -87,7 +87,7 @@ pub fn read_end(words: &mut Row<'_>) -> Result<End>
 }
 
 /// What a word stands for, where it stands for anything.
-pub fn known<T: Copy>(read: Option<T>) -> Result<T> {
+pub fn word_value<T: Copy>(read: Option<T>) -> Result<T> {
     match read {
         Some(value) => Ok(value),
         None => Err(Error::msg("no such word")),

@@ -15,7 +15,7 @@ use hw_latency::{Latencies, latencies_of};
 use hw_sched::{Sizing, depths, slots_of};
 use std::alloc::Global;
 use std::io::Write;
-use tests_rows::written;
+use tests_rows::write_result;
 
 /// Tells the schedule as far as there is one, and then its size, or what the model and the plan lack.
 pub fn answer<W: Write>(alloc: Global, model: &[u8], plan: &[u8], out: &mut W) -> Result<()> {
@@ -24,7 +24,7 @@ pub fn answer<W: Write>(alloc: Global, model: &[u8], plan: &[u8], out: &mut W) -
         Ok(designed) => {
             let Sizing { storage, latency } = designed.planned.times.sizing;
             drop(designed);
-            written(writeln!(out, "storage {storage} latency {latency}"))
+            write_result(writeln!(out, "storage {storage} latency {latency}"))
         }
         Err(fault) => put_fault(fault, out),
     }
@@ -132,5 +132,5 @@ fn list<W: Write>(
 
 fn write_numbers<W: Write>(lat: u64, depth: u64, fed: bool, out: &mut W) -> Result<()> {
     let mark = if fed { " fed" } else { "" };
-    written(writeln!(out, " latency {lat} depth {depth}{mark}"))
+    write_result(writeln!(out, " latency {lat} depth {depth}{mark}"))
 }

@@ -6,7 +6,7 @@ use anyhow::{Error, Result};
 use std::alloc::Global;
 use std::io::Write;
 use std::thread::Threads;
-use tests_rows::{Answers, Line, Row, written};
+use tests_rows::{Answers, Line, Row, write_result};
 
 /// The plan and the stimulus that stand now.
 #[derive(Drop)]
@@ -66,5 +66,5 @@ fn put_words<W: Write>(words: &[&str], out: &mut W) -> Result<()> {
         }
         out.write_all(word.as_bytes())?;
     }
-    written(out.write_all(b"\n"))
+    write_result(out.write_all(b"\n"))
 }

@@ -13,7 +13,7 @@ use hw_net::{Net, NetKind, Netlist};
 use hw_run::is_netlist;
 use std::alloc::Global;
 use std::io::Write;
-use tests_rows::written;
+use tests_rows::write_result;
 
 /// Prints the rule that a model by a plan breaks, or what its netlist shows under a stimulus;
 /// without one, how many registers and Counters it has.
@@ -111,7 +111,7 @@ fn put_simulated<W: Write>(
 /// Prints how many registers and Counters a netlist has.
 fn put_held<W: Write>(netlist: &Netlist, out: &mut W) -> Result<()> {
     let held = held_of(netlist.nets());
-    written(writeln!(out, "held {held}"))
+    write_result(writeln!(out, "held {held}"))
 }
 
 fn held_of(nets: &[Net]) -> usize {
@@ -131,14 +131,14 @@ fn held_of(nets: &[Net]) -> usize {
 /// Prints the line of what a model and a plan lack.
 pub fn put_fault<W: Write>(fault: DesignFault, out: &mut W) -> Result<()> {
     match fault {
-        DesignFault::NotMdl { line } => written(writeln!(out, "line {line}")),
+        DesignFault::NotMdl { line } => write_result(writeln!(out, "line {line}")),
         DesignFault::BreaksRule { line } => {
             let put = out.write_all(line.bytes());
             drop(line);
-            written(put)
+            write_result(put)
         }
         DesignFault::BadPlan { line, cause } => {
-            written(writeln!(out, "plan line {line}: {cause}"))
+            write_result(writeln!(out, "plan line {line}: {cause}"))
         }
         DesignFault::OutOfMemory => Err(Error::msg("out of memory")),
     }

@@ -31,13 +31,13 @@ impl Simulated {
     pub fn inputs_at(&self, alloc: Global, cycles: u32, clock: u64) -> Result<Vec<i128>> {
         let mut numbers = Vec::new(alloc);
         for (place, column) in self.columns.inputs.as_slice().iter().enumerate() {
-            numbers.push(self.driven(cycles, place, *column, clock))?;
+            numbers.push(self.input_number(cycles, place, *column, clock))?;
         }
         Ok(numbers)
     }
 
     /// The number of an input at a clock. Behind the last sample it is the greatest.
-    fn driven(&self, cycles: u32, place: usize, column: Column, clock: u64) -> i128 {
+    fn input_number(&self, cycles: u32, place: usize, column: Column, clock: u64) -> i128 {
         let Some(sample) = sample_at(cycles, column.period, 0, 0, clock) else {
             return column.high;
         };

@@ -8,7 +8,7 @@ use hw_latency::is_shared;
 use hw_sched::{Slots, own_width};
 use std::alloc::Global;
 use std::io::Write;
-use tests_rows::written;
+use tests_rows::write_result;
 
 /// Tells of each shared operation its slot and its multiplier, and of each root output when it is
 /// ready.
@@ -76,7 +76,7 @@ fn put_element<W: Write>(
         return Err(Error::msg("an operation has no multiplier"));
     };
     out.write_all(path)?;
-    written(writeln!(out, " element {element} slot {slot} multiplier {unit}"))
+    write_result(writeln!(out, " element {element} slot {slot} multiplier {unit}"))
 }
 
 /// Tells of each root output when it is ready in its period, and the latency that is declared of it.
@@ -94,7 +94,7 @@ fn put_outputs<W: Write>(
     for place in 0..blocks.len() {
         if is_output(&blocks[place].kind) {
             let ready = readys[place];
-            let declared = declared(lats[place], cycles, ready)?;
+            let declared = latency_in_clocks(lats[place], cycles, ready)?;
             put_path(alloc, &blocks[place].path, out)?;
             writeln!(out, " ready {ready} declared {declared}")?;
         }
@@ -108,7 +108,7 @@ fn is_output(kind: &Kind) -> bool {
 }
 
 /// A latency in clocks.
-fn declared(lat: u64, cycles: u32, ready: u64) -> Result<u64> {
+fn latency_in_clocks(lat: u64, cycles: u32, ready: u64) -> Result<u64> {
     let Some(clocks) = lat.checked_mul(u64::from(cycles)) else {
         return Err(Error::msg("a latency of 2^64 or more"));
     };
@@ -121,5 +121,5 @@ fn declared(lat: u64, cycles: u32, ready: u64) -> Result<u64> {
 /// Writes the path of a block.
 pub fn put_path<W: Write>(alloc: Global, path: &Path, out: &mut W) -> Result<()> {
     let text = path.text(alloc)?;
-    written(out.write_all(text.bytes()))
+    write_result(out.write_all(text.bytes()))
 }

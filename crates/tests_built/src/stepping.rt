@@ -34,7 +34,7 @@ impl Tally {
 }
 
 /// The number that an output is to show at a clock, where this is in the window of a hit.
-fn expected(
+fn expected_number(
     simulated: &Simulated,
     cycles: u32,
     place: usize,
@@ -73,7 +73,7 @@ fn tally_of(
             return Err(Error::msg("an input lacks a port"));
         }
         state.step(netlist, numbers.as_slice());
-        let expected = expected(simulated, netlist.cycles(), place, window, clock);
+        let expected = expected_number(simulated, netlist.cycles(), place, window, clock);
         tally = tally.with(state.value(window.net), expected);
     }
     Ok(tally)

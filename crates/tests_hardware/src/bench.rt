@@ -15,7 +15,7 @@ use hw_run::is_netlist;
 use std::alloc::Global;
 use std::io::Write;
 use std::thread::Threads;
-use tests_rows::{Answers, Line, Row, found, put_cuts, written};
+use tests_rows::{Answers, Line, Row, put_cuts, table_value, write_result};
 
 /// What a row says.
 #[derive(Clone, Copy)]
@@ -47,7 +47,7 @@ enum Command {
 }
 
 fn command_of(row: &Row<'_>) -> Result<Command> {
-    found(
+    table_value(
         row.command,
         &[
             ("fault", Command::Fault),
@@ -200,7 +200,7 @@ impl Bench {
 
     fn find<W: Write>(&self, row: &mut Row<'_>, out: &mut W) -> Result<()> {
         let found = self.index.find(frame_of(row)?);
-        written(writeln!(out, "{found:?}"))
+        write_result(writeln!(out, "{found:?}"))
     }
 }
 
@@ -212,7 +212,7 @@ impl Answers for Bench {
 
 fn put_sound<W: Write>(alloc: Global, netlist: &Netlist, out: &mut W) -> Result<()> {
     let sound = is_netlist(alloc, netlist)?;
-    written(writeln!(out, "{sound}"))
+    write_result(writeln!(out, "{sound}"))
 }
 
 /// Prints the number of the Counter of a frame, and its width.
@@ -227,7 +227,7 @@ fn put_counter<W: Write>(netlist: &mut Netlist, row: &mut Row<'_>, out: &mut W) 
         Some(net) => net.width,
         None => return Err(Error::msg("no Counter")),
     };
-    written(writeln!(out, "{number} {found:?} width {width}"))
+    write_result(writeln!(out, "{number} {found:?} width {width}"))
 }
 
 /// Prints how many of everything there are.

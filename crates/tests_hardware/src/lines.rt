@@ -61,7 +61,7 @@ fn source_of(row: &mut Row<'_>) -> Result<Source> {
 fn uses_of(alloc: Global, text: &[u8]) -> Result<Vec<Use>> {
     let mut table = Row::of(alloc, str::from_utf8(text)?)?;
     let mut uses = Vec::new(alloc);
-    for _ in 0..table.left() / 3 {
+    for _ in 0..table.words_left() / 3 {
         put_uses(&mut table, &mut uses)?;
     }
     Ok(uses)

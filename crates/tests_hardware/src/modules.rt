@@ -10,7 +10,7 @@ use hw_run::is_netlist;
 use std::alloc::Global;
 use std::io::Write;
 use std::thread::Threads;
-use tests_rows::{Row, written};
+use tests_rows::{Row, write_result};
 use vl_ast::Module;
 use vl_emit::emit;
 use vl_write::write;
@@ -61,7 +61,7 @@ pub fn put_items<W: Write>(alloc: Global, netlist: &Netlist, out: &mut W) -> Res
     let module = module_of(alloc, netlist)?;
     let count = module.items.as_slice().len();
     drop(module);
-    written(writeln!(out, "{count} items"))
+    write_result(writeln!(out, "{count} items"))
 }
 
 fn text_of<R: Threads + Sync>(rt: &R, alloc: Global, netlist: &Netlist) -> Result<Text> {
@@ -79,7 +79,7 @@ pub fn put_module<R: Threads + Sync, W: Write>(
     out: &mut W,
 ) -> Result<()> {
     let text = text_of(rt, alloc, netlist)?;
-    written(out.write_all(text.bytes()))
+    write_result(out.write_all(text.bytes()))
 }
 
 /// Prints the lines of a netlist's module that give a net its value.

@@ -13,7 +13,7 @@ use fx_io::{Sizes, Text};
 use hw_net::{Frame, Net, NetKind, NetLabel, NetOp, NetPort, Netlist};
 use hw_run::is_resize;
 use std::alloc::Global;
-use tests_rows::{Row, found};
+use tests_rows::{Row, table_value};
 
 /// The net that the words tell.
 fn net_of(alloc: Global, row: &mut Row<'_>) -> Result<Net> {
@@ -34,8 +34,8 @@ fn kind_of(alloc: Global, row: &mut Row<'_>) -> Result<NetKind> {
     let name = row.next()?;
     match name {
         "reg" => register(row),
-        "keep" => enabled(row, false),
-        "reset" => enabled(row, true),
+        "keep" => enabled_register(row, false),
+        "reset" => enabled_register(row, true),
         "bridge" => bridge(row),
         "counter" => Ok(NetKind::Counter {
             frame: frame_of(row)?,
@@ -54,7 +54,7 @@ fn register(row: &mut Row<'_>) -> Result<NetKind> {
     })
 }
 
-fn enabled(row: &mut Row<'_>, reset: bool) -> Result<NetKind> {
+fn enabled_register(row: &mut Row<'_>, reset: bool) -> Result<NetKind> {
     Ok(NetKind::EnReg {
         frame: frame_of(row)?,
         enable: row.number()?,
@@ -81,7 +81,7 @@ fn unit(row: &mut Row<'_>) -> Result<NetKind> {
 fn operation(alloc: Global, name: &str, row: &mut Row<'_>) -> Result<NetKind> {
     let op = op_of(name, row)?;
     let mut args = Sizes::new(alloc);
-    for _ in 0..row.left() {
+    for _ in 0..row.words_left() {
         args.push(row.number()?)?;
     }
     Ok(NetKind::Comb { op, args })
@@ -98,7 +98,7 @@ fn op_of(name: &str, row: &mut Row<'_>) -> Result<NetOp> {
             let low = row.byte()?;
             Ok(NetOp::Slice { high, low })
         }
-        _ => found(
+        _ => table_value(
             name,
             &[
                 ("resize", NetOp::Resize),

@@ -7,7 +7,7 @@ use tests_rows::Row;
 
 /// A value that words tell.
 pub trait Told: Copy {
-    fn told(row: &mut Row<'_>) -> Result<Self>;
+    fn from_row(row: &mut Row<'_>) -> Result<Self>;
 }
 
 /// The values of the words that are left, of which each takes so many.
@@ -15,8 +15,8 @@ pub fn all_told<T: Told>(alloc: Global, row: &mut Row<'_>, words: usize) -> Resu
     requires { 0 < words }
 {
     let mut all = Vec::new(alloc);
-    for _ in 0..row.left() / words {
-        all.push(T::told(row)?)?;
+    for _ in 0..row.words_left() / words {
+        all.push(T::from_row(row)?)?;
     }
     Ok(all)
 }
@@ -30,7 +30,7 @@ pub fn told_in<T: Told>(alloc: Global, text: &[u8], words: usize) -> Result<Vec<
 }
 
 impl Told for i128 {
-    fn told(row: &mut Row<'_>) -> Result<i128> {
+    fn from_row(row: &mut Row<'_>) -> Result<i128> {
         row.integer()
     }
 }

@@ -131,7 +131,7 @@ fn can_share(net: &Netlist, operations: &[Operation]) -> Result<bool, OutOfMemor
 }
 
 impl Told for Operation {
-    fn told(row: &mut Row<'_>) -> Result<Operation> {
+    fn from_row(row: &mut Row<'_>) -> Result<Operation> {
         Ok(Operation {
             frame: frame_of(row)?,
             slot: row.long()?,

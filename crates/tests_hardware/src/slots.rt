@@ -5,10 +5,10 @@ use anyhow::{Error, Result};
 use hw_slots::{Operation, SlotFault, Slots, Span, slots_of};
 use std::alloc::Global;
 use std::io::Write;
-use tests_rows::{Row, written};
+use tests_rows::{Row, write_result};
 
 impl Told for Operation {
-    fn told(row: &mut Row<'_>) -> Result<Operation> {
+    fn from_row(row: &mut Row<'_>) -> Result<Operation> {
         Ok(Operation {
             kind: row.long()?,
             period: row.long()?,
@@ -18,7 +18,7 @@ impl Told for Operation {
 }
 
 impl Told for Span {
-    fn told(row: &mut Row<'_>) -> Result<Span> {
+    fn from_row(row: &mut Row<'_>) -> Result<Span> {
         Ok(Span {
             start: row.long()?,
             have: row.long()?,
@@ -79,7 +79,7 @@ fn put_served<W: Write>(slots: &Slots, asked: Asked, out: &mut W) -> Result<()> 
         let base = slots.bases.at(asked.period, level);
         write!(out, "{base} ")?;
     }
-    written(out.write_all(b"\n"))
+    write_result(out.write_all(b"\n"))
 }
 
 fn put_numbers<W: Write>(numbers: &[u64], out: &mut W) -> Result<()> {

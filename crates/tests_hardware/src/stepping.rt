@@ -8,7 +8,7 @@ use hw_net::Netlist;
 use hw_run::{NetState, is_netlist};
 use std::alloc::Global;
 use std::io::Write;
-use tests_rows::{Row, written};
+use tests_rows::{Row, write_result};
 
 /// Prints what a net shows in the clocks that a row tells, where the inputs are these one behind
 /// another.
@@ -27,7 +27,7 @@ pub fn put_shown<W: Write>(
     for value in values.iter().skip(first).step_by(step) {
         write!(out, "{value} ")?;
     }
-    written(out.write_all(b"\n"))
+    write_result(out.write_all(b"\n"))
 }
 
 /// What a net shows in the first clocks.

@@ -6,7 +6,7 @@ use fx_io::OpenGate;
 use std::alloc::Global;
 use std::io::Write;
 use std::thread::Threads;
-use tests_rows::{Reads, put_bad_line, written};
+use tests_rows::{Reads, put_bad_line, write_result};
 use vl_ast::Module;
 use vl_read::{VlSyntax, read};
 use vl_write::write;
@@ -42,7 +42,7 @@ pub fn put_read<W: Write>(alloc: Global, text: &[u8], out: &mut W) -> Result<()>
 fn put_module<W: Write>(alloc: Global, module: &Module, out: &mut W) -> Result<()> {
     let mut shown = String::new(alloc);
     put_shown(&mut shown, module)?;
-    written(out.write_all(shown.as_bytes()))
+    write_result(out.write_all(shown.as_bytes()))
 }
 
 /// Prints the written text of a text's module, or that line.
@@ -56,7 +56,7 @@ pub fn put_written<R: Threads + Sync, W: Write>(
         Ok(module) => {
             let text = write(rt, alloc, &module, &OpenGate);
             drop(module);
-            written(out.write_all(text?.bytes()))
+            write_result(out.write_all(text?.bytes()))
         }
         Err(_fault) => put_bad_line::<Verilog, W>(alloc, text, out),
     }

@@ -19,7 +19,7 @@ use mdl_build::build;
 use mdl_text::{Tree, read};
 use std::alloc::Global;
 use std::io::Write;
-use tests_rows::{Row, put_debug, written};
+use tests_rows::{Row, put_debug, write_result};
 
 /// What is asked of a model.
 #[derive(Clone, Copy)]
@@ -63,7 +63,7 @@ fn put_built<W: Write>(alloc: Global, asked: Asked, tree: &Tree, out: &mut W) ->
     match build(alloc, tree) {
         Ok(nested) => {
             let put = match asked {
-                Asked::Build => written(out.write_all(b"kept\n")),
+                Asked::Build => write_result(out.write_all(b"kept\n")),
                 Asked::Nested => put_nested(&nested, out),
                 _ => put_flattened(alloc, asked, &nested, out),
             };
@@ -109,7 +109,7 @@ fn put_flat<W: Write>(alloc: Global, diagram: &Diagram, out: &mut W) -> Result<(
 
 fn put_path<W: Write>(alloc: Global, path: &Path, out: &mut W) -> Result<()> {
     let path = path.text(alloc)?;
-    written(out.write_all(path.bytes()))
+    write_result(out.write_all(path.bytes()))
 }
 
 fn put_widths<W: Write>(alloc: Global, diagram: &Diagram, out: &mut W) -> Result<()>
@@ -140,7 +140,7 @@ fn put_outputs<W: Write>(widths: &PortWidths, block: u32, outputs: u32, out: &mu
     for port in 0..outputs {
         write!(out, "{} ", widths.at(block, port + 1))?;
     }
-    written(out.write_all(b"\n"))
+    write_result(out.write_all(b"\n"))
 }
 
 /// Tells of each block the type of its outputs and that of its coefficients.
@@ -179,14 +179,14 @@ fn put_pairs<W: Write>(results: &[FxType], params: &[FxType], out: &mut W) -> Re
 
 fn put_type<W: Write>(kind: FxType, out: &mut W) -> Result<()> {
     match kind {
-        FxType::Logical => written(out.write_all(b"L")),
+        FxType::Logical => write_result(out.write_all(b"L")),
         FxType::Num {
             signed,
             width,
             frac,
         } => {
             let sign = if signed { 's' } else { 'u' };
-            written(write!(out, "{sign} {width} {frac}"))
+            write_result(write!(out, "{sign} {width} {frac}"))
         }
     }
 }
@@ -208,7 +208,7 @@ fn put_periods<W: Write>(periods: &[Option<u32>], out: &mut W) -> Result<()> {
             None => out.write_all(b"inf ")?,
         }
     }
-    written(out.write_all(b"\n"))
+    write_result(out.write_all(b"\n"))
 }
 
 /// Tells how many blocks stand in order.
@@ -237,5 +237,5 @@ fn put_ordered<W: Write>(
 }
 
 fn put_count<W: Write>(count: usize, out: &mut W) -> Result<()> {
-    written(writeln!(out, "{count} in order"))
+    write_result(writeln!(out, "{count} in order"))
 }

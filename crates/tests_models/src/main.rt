@@ -36,7 +36,7 @@ use anyhow::Result;
 use std::alloc::Global;
 use std::io::Write;
 use std::thread::Threads;
-use tests_rows::{Answers, Line, Row, answer_lines, found, put_cuts};
+use tests_rows::{Answers, Line, Row, answer_lines, put_cuts, table_value};
 
 /// The last plan.
 #[derive(Drop)]
@@ -99,7 +99,7 @@ fn answer<W: Write>(
     out: &mut W,
 ) -> Result<()> {
     let text = row.text.as_slice();
-    match found(row.command, COMMANDS)? {
+    match table_value(row.command, COMMANDS)? {
         Command::Tree => trees::tree(alloc, text, out),
         Command::Syntax => put_cuts::<Mdl, W>(alloc, text, text.len(), out),
         Command::Cuts => put_cuts::<Mdl, W>(alloc, text, 0, out),
@@ -108,7 +108,7 @@ fn answer<W: Write>(
         Command::Plan => tables::plan(alloc, text, plan, out),
         Command::Stages => tables::stages(alloc, text, plan.as_slice(), out),
         Command::Rows => tables::rows(alloc, row, out),
-        Command::Accept => tables::accepted(alloc, text, out),
+        Command::Accept => tables::put_verdict(alloc, text, out),
         Command::Value => values::value(alloc, row, out),
     }
 }

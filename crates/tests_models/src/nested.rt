@@ -3,7 +3,7 @@
 use anyhow::Result;
 use dg_model::{Block, Kind, Nested, NestedBlock, Part};
 use std::io::Write;
-use tests_rows::{put_debug, written};
+use tests_rows::{put_debug, write_result};
 
 /// Tells the blocks and lines of a model.
 pub fn put_nested<W: Write>(nested: &Nested, out: &mut W) -> Result<()> {
@@ -21,12 +21,12 @@ fn put_block<W: Write>(block: &NestedBlock, out: &mut W) -> Result<()> {
     out.write_all(block.name.bytes())?;
     match &block.part {
         Part::Plain(block) => put_plain(block, out),
-        Part::In(_block, number) => written(write!(out, " in {number}")),
-        Part::Out(_block, number) => written(write!(out, " out {number}")),
-        Part::SubSystem => written(out.write_all(b" subsystem")),
-        Part::Enable { reset } => written(write!(out, " enable {reset}")),
+        Part::In(_block, number) => write_result(write!(out, " in {number}")),
+        Part::Out(_block, number) => write_result(write!(out, " out {number}")),
+        Part::SubSystem => write_result(out.write_all(b" subsystem")),
+        Part::Enable { reset } => write_result(write!(out, " enable {reset}")),
     }?;
-    written(out.write_all(b"\n"))
+    write_result(out.write_all(b"\n"))
 }
 
 /// Tells the period of a block, and of a Delay its length and how many initial values it has.

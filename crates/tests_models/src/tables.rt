@@ -10,7 +10,7 @@ use fx_model::{ModelFault, accept};
 use fx_tables::{Column, Rows, TableCause, TableFault, read_plan, read_rows};
 use std::alloc::Global;
 use std::io::Write;
-use tests_rows::{Row, put_escaped, written};
+use tests_rows::{Row, put_escaped, write_result};
 
 const BYTE: Column = Column {
     low: -128,
@@ -31,12 +31,12 @@ const WIDE: Column = Column {
 };
 
 /// What is said of a model.
-pub fn accepted<W: Write>(alloc: Global, text: &[u8], out: &mut W) -> Result<()> {
+pub fn put_verdict<W: Write>(alloc: Global, text: &[u8], out: &mut W) -> Result<()> {
     match accept(alloc, text) {
         Ok(checked) => {
             let count = checked.order().len();
             drop(checked);
-            written(writeln!(out, "{count} blocks"))
+            write_result(writeln!(out, "{count} blocks"))
         }
         Err(fault) => {
             let put = put_model_fault(alloc, &fault, out);
@@ -48,7 +48,7 @@ pub fn accepted<W: Write>(alloc: Global, text: &[u8], out: &mut W) -> Result<()>
 
 fn put_model_fault<W: Write>(alloc: Global, fault: &ModelFault, out: &mut W) -> Result<()> {
     match fault {
-        ModelFault::NotMdl { line } => written(writeln!(out, "line {line}")),
+        ModelFault::NotMdl { line } => write_result(writeln!(out, "line {line}")),
         ModelFault::Broken { fault, blocks } => put_rule(alloc, fault, blocks.as_slice(), out),
         ModelFault::OutOfMemory => Err(Error::msg("out of memory")),
     }
@@ -74,7 +74,7 @@ fn put_plan<W: Write>(plan: &Plan, out: &mut W) -> Result<()> {
         let count = pipeline.count;
         write!(out, " {count}")?;
     }
-    written(out.write_all(b"\n"))
+    write_result(out.write_all(b"\n"))
 }
 
 fn put_table_fault<W: Write>(fault: TableFault, out: &mut W) -> Result<()> {
@@ -85,7 +85,7 @@ fn put_table_fault<W: Write>(fault: TableFault, out: &mut W) -> Result<()> {
 }
 
 fn put_cause<W: Write>(line: u64, cause: TableCause, out: &mut W) -> Result<()> {
-    written(writeln!(out, "line {line}: {cause}"))
+    write_result(writeln!(out, "line {line}: {cause}"))
 }
 
 /// What a plan sets behind each block of a model, or the rule that it breaks.
@@ -123,7 +123,7 @@ fn put_stages<W: Write>(stages: &[u32], out: &mut W) -> Result<()> {
     for count in stages {
         write!(out, "{count} ")?;
     }
-    written(out.write_all(b"\n"))
+    write_result(out.write_all(b"\n"))
 }
 
 /// What is read of a stimulus of columns that a word names.
@@ -164,5 +164,5 @@ fn put_cells<W: Write>(rows: &Rows, out: &mut W) -> Result<()> {
     for cell in rows.cells.as_slice() {
         write!(out, " {cell}")?;
     }
-    written(out.write_all(b"\n"))
+    write_result(out.write_all(b"\n"))
 }

@@ -5,7 +5,7 @@ use dg_model::{Block, CheckFault, RuleFault};
 use fx_model::rule_text;
 use std::alloc::Global;
 use std::io::Write;
-use tests_rows::written;
+use tests_rows::write_result;
 
 /// Tells a broken rule; the blocks are those whose numbers it may show.
 pub fn put_fault<W: Write>(
@@ -39,5 +39,5 @@ pub fn put_rule<W: Write>(
     out: &mut W,
 ) -> Result<()> {
     let line = rule_text(alloc, fault, blocks)?;
-    written(out.write_all(line.bytes()))
+    write_result(out.write_all(line.bytes()))
 }

@@ -4,7 +4,7 @@ use anyhow::{Error, Result};
 use mdl_text::{Item, MdlFault, Value, read};
 use std::alloc::Global;
 use std::io::Write;
-use tests_rows::{Reads, put_bad_line, put_escaped, written};
+use tests_rows::{Reads, put_bad_line, put_escaped, write_result};
 
 /// The reader of MDL texts.
 pub struct Mdl;
@@ -47,5 +47,5 @@ fn put_item<W: Write>(item: &Item, out: &mut W) -> Result<()> {
     };
     out.write_all(&[sign])?;
     put_escaped(out, content)?;
-    written(out.write_all(b"|\n"))
+    write_result(out.write_all(b"|\n"))
 }

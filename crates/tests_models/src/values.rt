@@ -9,7 +9,7 @@ use mdl_values::{
 };
 use std::alloc::Global;
 use std::io::Write;
-use tests_rows::{Row, put_debug, written};
+use tests_rows::{Row, put_debug, write_result};
 
 /// A kind of value.
 #[derive(Clone, Copy)]
@@ -80,14 +80,14 @@ fn number<W: Write>(row: &mut Row<'_>, out: &mut W) -> Result<()> {
 fn put_decimal<W: Write>(decimal: Option<Decimal>, out: &mut W) -> Result<()> {
     match decimal {
         Some(decimal) => put_debug(&decimal, out),
-        None => written(out.write_all(b"None\n")),
+        None => write_result(out.write_all(b"None\n")),
     }
 }
 
 fn list<W: Write>(alloc: Global, text: &[u8], out: &mut W) -> Result<()> {
     match read_list(alloc, text)? {
         Some(list) => put_list(list.as_slice(), out),
-        None => written(out.write_all(b"None\n")),
+        None => write_result(out.write_all(b"None\n")),
     }
 }
 
@@ -98,19 +98,19 @@ fn put_list<W: Write>(list: &[Decimal], out: &mut W) -> Result<()> {
         let exponent = decimal.exponent;
         write!(out, "{sign}{digits}e{exponent} ")?;
     }
-    written(out.write_all(b"\n"))
+    write_result(out.write_all(b"\n"))
 }
 
 fn sizes<W: Write>(alloc: Global, text: &[u8], out: &mut W) -> Result<()> {
     match read_sizes(alloc, text)? {
         Some(sizes) => put_debug(&sizes.as_slice(), out),
-        None => written(out.write_all(b"None\n")),
+        None => write_result(out.write_all(b"None\n")),
     }
 }
 
 fn signs<W: Write>(alloc: Global, text: &[u8], out: &mut W) -> Result<()> {
     match read_signs(alloc, text)? {
         Some(signs) => put_debug(&signs.as_slice(), out),
-        None => written(out.write_all(b"None\n")),
+        None => write_result(out.write_all(b"None\n")),
     }
 }

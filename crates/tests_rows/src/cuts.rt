@@ -1,6 +1,6 @@
 //! Texts that are cut off, or are none.
 
-use crate::lines::written;
+use crate::lines::write_result;
 use anyhow::Result;
 use std::alloc::Global;
 use std::io::Write;
@@ -14,7 +14,7 @@ pub trait Reads {
 /// Writes that line of a text.
 pub fn put_bad_line<T: Reads, W: Write>(alloc: Global, text: &[u8], out: &mut W) -> Result<()> {
     let line = T::bad_line(alloc, text)?;
-    written(writeln!(out, "line {line}"))
+    write_result(writeln!(out, "line {line}"))
 }
 
 /// Writes that of each beginning of a text, from one of so many bytes up to the whole.
@@ -29,5 +29,5 @@ pub fn put_cuts<T: Reads, W: Write>(
         write!(out, "{line} ")?;
     }
     let line = T::bad_line(alloc, text)?;
-    written(writeln!(out, "{line}"))
+    write_result(writeln!(out, "{line}"))
 }

@@ -1,6 +1,6 @@
 //! Bytes that are written by a backslash.
 
-use crate::lines::written;
+use crate::lines::write_result;
 use anyhow::{Error, Result};
 use std::alloc::Global;
 use std::io::Write;
@@ -15,7 +15,7 @@ enum Begun {
 }
 
 /// The bytes that a part stands for.
-pub fn unescaped(alloc: Global, part: &str) -> Result<Vec<u8>> {
+pub fn part_bytes(alloc: Global, part: &str) -> Result<Vec<u8>> {
     let mut bytes = Vec::new(alloc);
     let mut begun = Begun::Nothing;
     for letter in part.as_bytes() {
@@ -66,8 +66,8 @@ fn put_byte<W: Write>(out: &mut W, byte: u8) -> Result<()> {
         b'\t' => b't',
         b'\r' => b'r',
         b'\\' => b'\\',
-        b' '..=b'~' => return written(out.write_all(&[byte])),
-        _ => return written(write!(out, "\\x{byte:02x}")),
+        b' '..=b'~' => return write_result(out.write_all(&[byte])),
+        _ => return write_result(write!(out, "\\x{byte:02x}")),
     };
-    written(out.write_all(&[b'\\', letter]))
+    write_result(out.write_all(&[b'\\', letter]))
 }

@@ -14,7 +14,7 @@ mod row;
 mod texts;
 
 pub use cuts::{Reads, put_bad_line, put_cuts};
-pub use escapes::{put_escaped, unescaped};
-pub use lines::{Answers, Line, answer_lines, put_debug, written};
-pub use row::{Row, found};
+pub use escapes::{part_bytes, put_escaped};
+pub use lines::{Answers, Line, answer_lines, put_debug, write_result};
+pub use row::{Row, table_value};
 pub use texts::Texts;

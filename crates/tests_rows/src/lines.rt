@@ -55,7 +55,7 @@ fn answer_each<R: Input + Threads + Sync, A: Answers, W: Write>(
         let line = line?;
         answer(rt, alloc, answers, texts, line.as_str(), out)?;
     }
-    written(out.flush())
+    write_result(out.flush())
 }
 
 fn answer<R: Threads + Sync, A: Answers, W: Write>(
@@ -79,11 +79,11 @@ fn answer<R: Threads + Sync, A: Answers, W: Write>(
 }
 
 /// What writing came to.
-pub fn written(put: io::Result<()>) -> Result<()> {
+pub fn write_result(put: io::Result<()>) -> Result<()> {
     Ok(put?)
 }
 
 /// Writes a value on a line, as `Debug` tells it.
 pub fn put_debug<T: Debug, W: Write>(value: &T, out: &mut W) -> Result<()> {
-    written(writeln!(out, "{value:?}"))
+    write_result(writeln!(out, "{value:?}"))
 }

@@ -24,7 +24,7 @@ impl<'a> Row<'a> {
     }
 
     /// How many words are left.
-    pub fn left(&self) -> usize {
+    pub fn words_left(&self) -> usize {
         self.words.len().saturating_sub(self.at)
     }
 
@@ -55,12 +55,12 @@ impl<'a> Row<'a> {
 
     /// What the next word stands for in a table.
     pub fn one_of<T: Copy>(&mut self, table: &[(&str, T)]) -> Result<T> {
-        found(self.next()?, table)
+        table_value(self.next()?, table)
     }
 }
 
 /// What a word stands for in a table.
-pub fn found<T: Copy>(word: &str, table: &[(&str, T)]) -> Result<T> {
+pub fn table_value<T: Copy>(word: &str, table: &[(&str, T)]) -> Result<T> {
     for entry in table {
         let (name, value) = *entry;
         if name == word {

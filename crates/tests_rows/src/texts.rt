@@ -1,6 +1,6 @@
 //! Named texts, and rows over them.
 
-use crate::escapes::unescaped;
+use crate::escapes::part_bytes;
 use crate::row::Row;
 use anyhow::{Error, Result};
 use std::alloc::Global;
@@ -62,7 +62,7 @@ impl Texts {
     }
 
     /// The text of a name.
-    pub fn named(&self, name: &str) -> Result<&str> {
+    pub fn named_text(&self, name: &str) -> Result<&str> {
         for one in self.texts.iter() {
             if one.name.as_str() == name {
                 return Ok(one.text.as_str());
@@ -97,12 +97,12 @@ impl Texts {
     /// The text of a name with these parts.
     fn text_of(&self, alloc: Global, name: &str, parts: &[&str]) -> Result<Vec<u8>> {
         if name != "=" {
-            let mut text = String::from_str(alloc, self.named(name)?)?;
+            let mut text = String::from_str(alloc, self.named_text(name)?)?;
             exchange(alloc, &mut text, parts)?;
             return Ok(text.into_bytes());
         }
         match parts.first() {
-            Some(part) => unescaped(alloc, part),
+            Some(part) => part_bytes(alloc, part),
             None => Ok(Vec::new(alloc)),
         }
     }
@@ -114,23 +114,23 @@ fn exchange(alloc: Global, text: &mut String, parts: &[&str]) -> Result<()> {
         return Err(Error::msg("a part lacks its other"));
     }
     for pair in 0..parts.len() / 2 {
-        *text = exchanged(alloc, text.as_str(), parts[2 * pair], parts[2 * pair + 1])?;
+        *text = text_with_part(alloc, text.as_str(), parts[2 * pair], parts[2 * pair + 1])?;
     }
     Ok(())
 }
 
 /// The text with the first of one part as another.
-fn exchanged(alloc: Global, text: &str, old: &str, new: &str) -> Result<String> {
+fn text_with_part(alloc: Global, text: &str, old: &str, new: &str) -> Result<String> {
     let old = part_of(alloc, old)?;
     let new = part_of(alloc, new)?;
-    joined(alloc, text, old.as_str(), new.as_str())
+    replacement_text(alloc, text, old.as_str(), new.as_str())
 }
 
 fn part_of(alloc: Global, part: &str) -> Result<String> {
-    Ok(String::from_utf8(unescaped(alloc, part)?)?)
+    Ok(String::from_utf8(part_bytes(alloc, part)?)?)
 }
 
-fn joined(alloc: Global, text: &str, old: &str, new: &str) -> Result<String> {
+fn replacement_text(alloc: Global, text: &str, old: &str, new: &str) -> Result<String> {
     match text.split_once(old) {
         Some((before, after)) => Ok(format!(in alloc; "{before}{new}{after}")?),
         None => Err(Error::msg("the text lacks a part")),

@@ -10,7 +10,7 @@ use fx_sample::plan_text;
 use std::alloc::Global;
 use std::io::Write;
 use std::thread::Threads;
-use tests_rows::{Answers, Line, Row, found, written};
+use tests_rows::{Answers, Line, Row, table_value, write_result};
 
 /// The files, and what fails at the next call.
 #[derive(Drop)]
@@ -184,12 +184,12 @@ fn put_row<R: Threads + Sync, W: Write>(
     row: &mut Row<'_>,
     out: &mut W,
 ) -> Result<()> {
-    match found(row.command, COMMANDS)? {
+    match table_value(row.command, COMMANDS)? {
         Command::Explored => put_explored(rt, alloc, row.text.as_slice(), WHOLE, out),
         Command::ExploredFew => put_explored(rt, alloc, row.text.as_slice(), FEW, out),
         Command::Wires { meets } => put_wires(rt, alloc, row, meets, out),
         Command::Sample => put_sample(alloc, row, out),
-        Command::SamplePlan => written(out.write_all(plan_text())),
+        Command::SamplePlan => write_result(out.write_all(plan_text())),
         Command::Summary => put_summary(alloc, row.text.as_slice(), out),
         Command::File { zeros } => case.put(alloc, row, zeros),
         Command::Stuck => case.stop(),

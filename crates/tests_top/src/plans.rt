@@ -8,7 +8,7 @@ use hw_explore::{Range, explore};
 use std::alloc::Global;
 use std::io::Write;
 use std::thread::Threads;
-use tests_rows::written;
+use tests_rows::write_result;
 
 /// 64 clocks by 64 multipliers.
 pub const WHOLE: Range = Range {
@@ -65,5 +65,5 @@ pub fn put_explored<R: Threads + Sync, W: Write>(
     let meeting = Meeting::new(u64::from(range.pairs()).saturating_sub(1));
     let explored = plan_count(rt, alloc, model, range, &meeting)?;
     let met = meeting.met_count();
-    written(writeln!(out, "{explored} plans, {met} workers met"))
+    write_result(writeln!(out, "{explored} plans, {met} workers met"))
 }

@@ -5,7 +5,7 @@ use anyhow::{Error, Result};
 use fx_sample::{Made, model_text, plan_text, stimulus_text, summary};
 use std::alloc::Global;
 use std::io::Write;
-use tests_rows::{Row, written};
+use tests_rows::{Row, write_result};
 
 /// What the module of a sample might say of itself.
 const MADE: Made = Made {
@@ -26,12 +26,12 @@ pub fn put_sample<W: Write>(alloc: Global, row: &mut Row<'_>, out: &mut W) -> Re
         return Err(Error::msg("too many blocks"));
     }
     out.write_all(model_text(alloc, count)?.bytes())?;
-    written(out.write_all(stimulus_text(alloc, count)?.bytes()))
+    write_result(out.write_all(stimulus_text(alloc, count)?.bytes()))
 }
 
 /// Writes the summary where a bench tells these bytes.
 pub fn put_summary<W: Write>(alloc: Global, tells: &[u8], out: &mut W) -> Result<()> {
     let mut bench = Fixed { tells };
     let text = summary(alloc, 1, MADE, b"", RESPONSE, &mut bench)?;
-    written(out.write_all(text.bytes()))
+    write_result(out.write_all(text.bytes()))
 }

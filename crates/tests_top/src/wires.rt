@@ -7,7 +7,7 @@ use std::alloc::Global;
 use std::fmt::Write;
 use std::io;
 use std::thread::Threads;
-use tests_rows::{Row, written};
+use tests_rows::{Row, write_result};
 use vl_ast::{Attrs, ModItem, ModItems, Module, Ports};
 use vl_write::{spelling_parts, write};
 
@@ -103,8 +103,8 @@ pub fn put_wires<R: Threads + Sync, W: io::Write>(
     let count = row.number()?;
     if meets {
         let met = meet(rt, alloc, count)?;
-        return written(writeln!(out, "{count} wires, {met} workers met"));
+        return write_result(writeln!(out, "{count} wires, {met} workers met"));
     }
     let texts = texts_as_expected(rt, alloc, count)?;
-    written(writeln!(out, "{count} wires, {texts} texts as expected"))
+    write_result(writeln!(out, "{count} wires, {texts} texts as expected"))
 }

@@ -18,8 +18,8 @@ three_in_range p q r x y z a b c (suc zero) below = b
 three_in_range p q r x y z a b c (suc (suc zero)) below = c
 three_in_range p q r x y z a b c (suc (suc (suc k))) below = absurd (omega arith)
 
-pub answered-requires : goal.answered-requires
-answered-requires c =
+pub operation_answer-requires : goal.operation_answer-requires
+operation_answer-requires c =
     let need = c.requires in
     let x : to_z w128 (of_z w128 c.args.a.value) ≡ c.args.a.value = to_z-of_z w128 c.args.a.value (search rules) in
     let y : to_z w128 (of_z w128 c.args.b.value) ≡ c.args.b.value = to_z-of_z w128 c.args.b.value (search rules) in
