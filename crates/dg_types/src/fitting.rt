@@ -6,6 +6,9 @@ ghost use Rattle.dg_types.specs.inner.Tests as test;
 use crate::kinds::are_open;
 use dg_model::{Block, Kind, Shape};
 
+/// The most elements of a signal.
+const WIDEST: u32 = 1024;
+
 /// Whether something so wide or so long serves each of so many elements: one is repeated.
 fn is_repeated(own: u32, width: usize) -> bool
     ensures { result ≡ test.is_repeated own width }
@@ -84,11 +87,11 @@ fn is_declared(declared: usize, own: u32) -> bool
     declared == 0 || own as usize == declared
 }
 
-/// Whether no width is above 1,024.
+/// Whether no signal is too wide.
 fn are_small(widths: &[u32]) -> bool
     ensures { result ≡ test.are_small widths.now }
 {
-    widths.iter().all(|width| *width <= 1024)
+    widths.iter().all(|width| *width <= WIDEST)
 }
 
 /// Whether the outputs of a block, if it has any, are not too wide.
