@@ -1,5 +1,5 @@
+pub mod Checks
 pub mod Commands
-pub mod Found
 pub mod Planning
 pub mod Refusals
 pub mod Running

@@ -29,9 +29,8 @@ mod explore;
 mod fault;
 mod fetch;
 mod parts;
-mod replay;
+mod response;
 mod sample;
-mod simulate;
 mod task;
 mod top;
 

@@ -4,7 +4,7 @@ use Rattle.fx_tables.specs.RowText.{periods_of}
 use Rattle.fx_top.specs.Call.{stream_in}
 use Rattle.fx_replayed.specs.Replayed.{IsReplayOf}
 use Rattle.fx_top.proofs.Tasks.{put-text}
-use Rattle.fx_top.proofs.replay.replay.Goals as goal
+use Rattle.fx_top.proofs.response.replay.Goals as goal
 
 pub returns-in-Ok : goal.returns-in-Ok
 returns-in-Ok g c =

@@ -1,12 +1,15 @@
+//! The responses of a model's diagram and of a Verilog text to a stimulus.
+ghost use Rattle.fx_replayed.specs.Replayed.{IsReplayOf};
 ghost use Rattle.fx_top.specs.Call.{stream_in};
 ghost use Rattle.fx_top.specs.Simulated.{IsSimulationOf};
-ghost use Rattle.fx_top.specs.inner.Refusing.{IsSimulationFault};
+ghost use Rattle.fx_top.specs.inner.Refusing.{IsReplayFault, IsSimulationFault};
 ghost use Rattle.fx_top.specs.inner.Tasks.{IsDone};
 
-use crate::fault::{Done, of_model, of_stimulus};
+use crate::fault::{Done, of_model, of_replay, of_stimulus};
 use fx_designed::checked_of;
 use fx_io::Sink;
-use fx_simulated::{put_response, simulation_in};
+use fx_replayed::response_of;
+use fx_simulated::simulation_in;
 use std::alloc::Global;
 
 /// Puts the response of a model's diagram to a stimulus, a line per sample. All memory is taken before
@@ -22,7 +25,7 @@ pub fn simulate<K: Sink>(alloc: Global, model: &[u8], stimulus: &[u8], out: &mut
     };
     match simulation_in(alloc, &checked, stimulus) {
         Ok(simulation) => {
-            let put = put_response(&checked, simulation, out);
+            let put = fx_simulated::put_response(&checked, simulation, out);
             drop(checked);
             Ok(put)
         }
@@ -30,5 +33,17 @@ pub fn simulate<K: Sink>(alloc: Global, model: &[u8], stimulus: &[u8], out: &mut
             drop(checked);
             Err(of_stimulus(fault))
         }
+    }
+}
+
+/// Puts what the module of a Verilog text shows under a stimulus, a line per sample. All memory is
+/// taken before the first line.
+pub fn replay<K: Sink>(alloc: Global, verilog: &[u8], stimulus: &[u8], out: &mut K) -> Done
+    ensures { IsDone (IsReplayOf verilog.now stimulus.now) (IsReplayFault verilog.now stimulus.now)
+        (stream_in K.taken K.faults out.old out.new) result }
+{
+    match response_of(alloc, verilog, stimulus) {
+        Ok(response) => Ok(fx_replayed::put_response(response, out)),
+        Err(fault) => Err(of_replay(fault)),
     }
 }

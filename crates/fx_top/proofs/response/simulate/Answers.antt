@@ -1,7 +1,7 @@
 use Rattle.std.proofs.Common.{refl}
 use Rattle.fx_top.specs.Call.{stream_in}
 use Rattle.fx_top.proofs.Simulations.{simulation-put}
-use Rattle.fx_top.proofs.simulate.simulate.Goals as goal
+use Rattle.fx_top.proofs.response.simulate.Goals as goal
 
 pub returns-in-Err : goal.returns-in-Err
 returns-in-Err g c = (c.of_model.ensures.simulation c.args.model.now c.args.stimulus.now c.in-Err.ensures.refused, refl)
