@@ -2,11 +2,11 @@
 ghost use Rattle.std.specs.Prelude.{◌≡◌, ℕ, List};
 ghost use Rattle.dg_model.specs.declared.diagram.Diagram.{Diagram};
 ghost use Rattle.fx_designed.specs.Refused.{IsRefusedDesign, IsRefusedModel};
+ghost use Rattle.fx_generated.specs.Streaming.{IsRefusedStream};
 ghost use Rattle.fx_model.specs.Model.{IsModelOf};
 ghost use Rattle.fx_replayed.specs.Responding.{IsRefusedReplay};
 ghost use Rattle.fx_simulated.specs.Simulating.{IsStimulusFault};
 ghost use Rattle.fx_top.specs.inner.Refusing.{IsDesignFault, IsModelFault, IsReplayFault, IsSimulationFault, IsStreamFault, answer_to};
-ghost use Rattle.fx_generated.specs.Streaming.{IsRefusedStream};
 
 use crate::answer::Answer;
 use fx_designed::{DesignFault, ModelRefusal};
