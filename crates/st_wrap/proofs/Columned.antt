@@ -1,8 +1,9 @@
 -- What the wrapper has of each column, and which ports of the core are columns. Crates above may cite this file.
-use Rattle.std.proofs.Common.{◌≡◌, ℕ, zero, suc, ◌+◌, ◌<◌, ◌≤◌, max, fold, ⊎_elim, Bool, true, false, not, ◌&&◌, ◌||◌, if◌then◌else◌, List, [], ◌∷◌, map, filter, length, Contains, bytes_eq, codes, Some, refl, sym, ap, subst, ◌∙◌, arith}
+use Rattle.std.proofs.Common.{◌≡◌, ℕ, zero, suc, ◌+◌, ◌-◌, drop, ◌<◌, ◌≤◌, max, fold, ⊎_elim, Bool, true, false, not, ◌&&◌, ◌||◌, if◌then◌else◌, List, [], ◌∷◌, map, filter, length, Contains, bytes_eq, codes, Some, refl, sym, ap, subst, ◌∙◌, arith}
 use Rattle.std.specs.Prelude.{slice_get}
 use Rattle.std.specs.List.{range_with_len, zip}
 use Rattle.std.proofs.lemmas.Bool.{and_parts, not-true, or_parts}
+use Rattle.std.proofs.lemmas.List.{drop_all}
 use Rattle.std.proofs.lemmas.List.Elements.{Contains-append_left, Contains-append_right}
 use Rattle.vl_ast.specs.declared.expressions.Expr.TheVariants.{Name}
 use Rattle.vl_ast.specs.declared.modules.ModItem.TheVariants.{Assign, Wire}
@@ -12,7 +13,8 @@ use Rattle.vl_ast.specs.Control.{is_clock_or_reset, is_control_input, is_control
 use Rattle.vl_ast.proofs.Places.{cons-cases, head-in, map-in, none-in, tail-in}
 use Rattle.st_wrap.specs.declared.columns.Column.{Column}
 use Rattle.st_wrap.specs.declared.pace.Counters.{Counters}
-use Rattle.st_wrap.specs.inner.Columns.{stage_declared, stage_driven, stage_name}
+use Rattle.st_wrap.specs.Pace.{samples_late}
+use Rattle.st_wrap.specs.inner.Columns.{column_of, input_column, output_column, stage_declared, stage_driven, stage_name}
 use Rattle.st_wrap.specs.inner.Names.{inner_name}
 use Rattle.st_wrap.specs.inner.Renamed.{wires_of}
 use Rattle.st_wrap.specs.inner.Wrapped.{made_of}
@@ -113,3 +115,17 @@ module _ (core : Module) where
 
   pub number-output : (port : Port) → is_number_output (is_stallable core) port ≡ true → port.input ≡ false
   number-output port e = (or_parts (is_control_output (is_stallable core) port) port.input (not-true (is_control_output (is_stallable core) port || port.input) e)).1
+
+-- ---- the columns of the ports that have names
+
+none-late : (n : ℕ) → 0 - n ≡ 0
+none-late n = omega arith
+
+pub input-columns : (cycles : ℕ) (named : List (Port × List ℕ)) → map (output_column cycles 0) named ≡ map input_column named
+input-columns cycles named = λ i. map (λ (pair : Port × List ℕ). column_of (none-late (samples_late cycles pair.0) i) pair) named
+
+-- the names behind those of the first ports
+pub others-behind : {A B C : Type 0} (f : A × B → C) (xs : List A) (ys : List B) → drop (length (map f (zip xs ys))) ys ≡ drop (length xs) ys
+others-behind f [] ys = refl
+others-behind f (x ∷ xs) [] = sym (drop_all (length (x ∷ xs)) [] (omega arith))
+others-behind f (x ∷ xs) (y ∷ ys) = others-behind f xs ys

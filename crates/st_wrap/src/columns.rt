@@ -1,12 +1,11 @@
 //! The columns of the core, each with the name of the wrapper's port.
-ghost use Rattle.std.specs.Prelude.{◌≡◌, ◌++◌, ◌∷◌, [], drop, length, map, IfOk, OnOk};
+ghost use Rattle.std.specs.Prelude.{◌≡◌, ◌++◌, ◌∷◌, [], filter, map, IfOk, OnOk};
 ghost use Rattle.std.specs.List.{zip};
-ghost use Rattle.vl_ast.specs.Driven.{output_ports, stimulus_ports};
+ghost use Rattle.vl_ast.specs.Control.{is_stallable};
 ghost use Rattle.vl_ast.specs.Attributes.{clocks_of};
-ghost use Rattle.st_wrap.specs.Pace.{latest_in};
-ghost use Rattle.st_wrap.specs.inner.Columns.{column_of, input_column, output_column};
+ghost use Rattle.st_wrap.specs.inner.Columns.{column_of, is_column, output_column};
 
-use crate::pace::{latest_in, samples_late};
+use crate::pace::samples_late;
 use fx_io::{OutOfMemory, Sequence, Text};
 use std::alloc::Global;
 use vl_ast::{Module, Port, clocks_of};
@@ -49,55 +48,35 @@ fn put_column(
     })
 }
 
-/// The inputs, in order, with the first names.
-pub fn input_columns(alloc: Global, core: &Module, names: &[Text]) -> Result<Columns, OutOfMemory>
-    ensures { IfOk result (λ columns.
-        columns ≡ map input_column (zip (stimulus_ports core.now) names.now)) }
+/// Whether a port is an input that carries numbers, or else such an output.
+fn is_column(port: &Port, input: bool, stalls: bool) -> bool
+    ensures { result ≡ is_column input stalls port.now }
 {
-    let stalls = is_stallable(core);
-    let mut columns = Columns::new(alloc);
-    let mut left = names;
-    for port in core.ports.as_slice() {
-        if is_number_input(port, stalls) {
-            let Some((name, others)) = left.split_first() else {
-                return Ok(columns);
-            };
-            put_column(alloc, port, name, 0, &mut columns)?;
-            left = others;
-        }
+    if input {
+        is_number_input(port, stalls)
+    } else {
+        is_number_output(port, stalls)
     }
-    Ok(columns)
 }
 
-/// The names behind those of the inputs.
-pub fn output_names<'a>(core: &Module, names: &'a [Text]) -> &'a [Text]
-    ensures { result.now ≡ drop (length (stimulus_ports core.now)) names.now }
-{
-    let stalls = is_stallable(core);
-    let mut left = names;
-    for port in core.ports.as_slice() {
-        if is_number_input(port, stalls) {
-            let Some((_name, others)) = left.split_first() else {
-                return left;
-            };
-            left = others;
-        }
-    }
-    left
-}
-
-/// The outputs, in order, with these names.
-pub fn output_columns(alloc: Global, core: &Module, names: &[Text]) -> Result<Columns, OutOfMemory>
-    ensures { IfOk result (λ columns. columns
-        ≡ map (output_column (clocks_of core.now) (latest_in core.now)) (zip (output_ports core.now) names.now)) }
+/// The inputs, or else the outputs, in order, with these names. Each is held back until the one that
+/// comes so many samples late.
+pub fn columns(
+    alloc: Global,
+    core: &Module,
+    input: bool,
+    latest: u64,
+    names: &[Text],
+) -> Result<Columns, OutOfMemory>
+    ensures { IfOk result (λ columns. columns ≡ map (output_column (clocks_of core.now) latest)
+        (zip (filter (is_column input (is_stallable core.now)) core.now.ports) names.now)) }
 {
     let stalls = is_stallable(core);
     let cycles = clocks_of(core);
-    let latest = latest_in(core);
     let mut columns = Columns::new(alloc);
     let mut left = names;
     for port in core.ports.as_slice() {
-        if is_number_output(port, stalls) {
+        if is_column(port, input, stalls) {
             let Some((name, others)) = left.split_first() else {
                 return Ok(columns);
             };

@@ -3,7 +3,7 @@ ghost use Rattle.std.specs.Prelude.{◌≡◌, ◌++◌, ◌∷◌, [], false, I
 ghost use Rattle.vl_ast.specs.declared.expressions.Expr.TheVariants.{Name, Binary};
 ghost use Rattle.vl_ast.specs.declared.modules.ModItem.TheVariants.{Wire, Reg};
 ghost use Rattle.st_wrap.specs.inner.Control.{control_declared, control_driven, handshake_driven, signals_driven};
-ghost use Rattle.st_wrap.specs.inner.Control.{is_due_now, next_phase, next_wait, number, phase_item, unless, wait_item};
+ghost use Rattle.st_wrap.specs.inner.Control.{next_phase, next_wait, number, unless};
 
 use crate::expressions::{binary_of_names, boxed_name, is_zero, moving, name_of, number, plain};
 use crate::items::{assign, put};
@@ -65,13 +65,6 @@ fn with_number(
     binary(op, boxed_name(alloc, name), number(alloc, width, bits))
 }
 
-fn is_due(alloc: Global) -> Result<Expr, OutOfMemory>
-    ensures { IfOk result (λ e. e ≡ is_due_now) }
-{
-    let none = in_box(alloc, is_zero(alloc, b"fx_wait"));
-    binary(BinOp::Both, boxed_name(alloc, b"fx_end"), none)
-}
-
 fn unless(alloc: Global, name: &[u8], signal: &[u8]) -> Result<Expr, OutOfMemory>
     ensures { IfOk result (λ e. e ≡ unless name.now signal.now) }
 {
@@ -113,7 +106,9 @@ fn put_assignments(alloc: Global, phase: Counter, items: &mut ModItems) -> Resul
     assign(alloc, b"fx_begin", is_zero(alloc, b"fx_phase"), items)?;
     let last = with_number(alloc, BinOp::Equal, b"fx_phase", phase.width, phase.most);
     assign(alloc, b"fx_end", last, items)?;
-    assign(alloc, b"fx_due", is_due(alloc), items)?;
+    let waited = in_box(alloc, is_zero(alloc, b"fx_wait"));
+    let due = binary(BinOp::Both, boxed_name(alloc, b"fx_end"), waited);
+    assign(alloc, b"fx_due", due, items)?;
     let fed = unless(alloc, b"fx_begin", b"in_valid");
     assign(alloc, b"fx_fed", fed, items)?;
     let open = unless(alloc, b"fx_due", b"out_ready");
@@ -131,37 +126,24 @@ fn put_handshake(alloc: Global, items: &mut ModItems) -> Result<(), OutOfMemory>
     assign(alloc, b"out_valid", valid, items)
 }
 
-fn put_phase(alloc: Global, phase: Counter, items: &mut ModItems) -> Result<(), OutOfMemory>
-    ensures { OnOk result (items.new ≡ items.old ++ phase_item phase ∷ []) }
-{
-    let moves = name_of(Text::copy(alloc, b"fx_core_clk_enable"));
-    let taken = register(
-        Text::copy(alloc, b"fx_phase"),
-        plain(phase.width, 0),
-        moves,
-        next_phase(alloc, phase),
-    );
-    put(items, taken)
-}
-
-fn put_wait(alloc: Global, wait: Counter, items: &mut ModItems) -> Result<(), OutOfMemory>
-    ensures { OnOk result (items.new ≡ items.old ++ wait_item wait ∷ []) }
-{
-    let taken = register(
-        Text::copy(alloc, b"fx_wait"),
-        plain(wait.width, wait.most),
-        moving(alloc, b"fx_end"),
-        next_wait(alloc, wait),
-    );
-    put(items, taken)
-}
-
 /// Drives the signals and the counters.
 pub fn drive(alloc: Global, counters: Counters, items: &mut ModItems) -> Result<(), OutOfMemory>
     ensures { OnOk result (items.new ≡ items.old ++ control_driven counters) }
 {
     put_assignments(alloc, counters.phase, items)?;
     put_handshake(alloc, items)?;
-    put_phase(alloc, counters.phase, items)?;
-    put_wait(alloc, counters.wait, items)
+    let phase = register(
+        Text::copy(alloc, b"fx_phase"),
+        plain(counters.phase.width, 0),
+        name_of(Text::copy(alloc, b"fx_core_clk_enable")),
+        next_phase(alloc, counters.phase),
+    );
+    put(items, phase)?;
+    let wait = register(
+        Text::copy(alloc, b"fx_wait"),
+        plain(counters.wait.width, counters.wait.most),
+        moving(alloc, b"fx_end"),
+        next_wait(alloc, counters.wait),
+    );
+    put(items, wait)
 }

@@ -10,7 +10,7 @@ use std::alloc::Global;
 pub fn is_shared(name: &[u8]) -> bool
     ensures { result ≡ is_shared name.now }
 {
-    name == b"clk".as_slice() || name == b"reset".as_slice()
+    (name == b"clk".as_slice()) | (name == b"reset".as_slice())
 }
 
 /// What a name of the core is called in the wrapper.

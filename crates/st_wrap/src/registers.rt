@@ -1,17 +1,15 @@
 //! What holds the inputs, and what holds the outputs back.
-ghost use Rattle.std.specs.Prelude.{◌≡◌, ◌+◌, ◌++◌, ◌<◌, ◌^◌, flat_map, IfOk, OnOk};
-ghost use Rattle.vl_ast.specs.declared.expressions.Expr.TheVariants.{Name, Choose};
-ghost use Rattle.st_wrap.specs.inner.Names.{begin_name, held_name};
+ghost use Rattle.std.specs.Prelude.{◌≡◌, ◌++◌, flat_map, IfOk, OnOk};
 ghost use Rattle.st_wrap.specs.inner.Columns.{held_driven, items_for, late_declared, late_driven};
-ghost use Rattle.st_wrap.specs.inner.Columns.{stage_declared, stage_driven, stage_name};
+ghost use Rattle.st_wrap.specs.inner.Columns.{stage_name};
 
 use crate::columns::Column;
 use crate::expressions::{boxed_name, moving, name_of, plain};
 use crate::items::{assign, put};
 use crate::names::{held_name, inner_name, late_name};
-use fx_io::{Boxed, OutOfMemory, Text};
+use fx_io::{OutOfMemory, Text};
 use std::alloc::Global;
-use vl_ast::{Expr, ModItem, ModItems, assignment, choose, reg, register};
+use vl_ast::{ModItems, assignment, choose, in_box, reg, register};
 
 /// What the wrapper has of each column.
 #[derive(Clone, Copy)]
@@ -26,33 +24,27 @@ pub enum Part {
     LateDriven,
 }
 
-/// What the core's input shows: the port's in a sample's first clock, and then what was held of it.
-fn fresh_or_held(alloc: Global, column: &Column) -> Result<Expr, OutOfMemory>
-    ensures { IfOk result (λ e. e ≡ Choose (Name begin_name) (Name column.now.name)
-        (Name (held_name column.now.name))) }
-{
-    let held = Expr::Name(held_name(alloc, column.name.bytes())?);
-    let held = Boxed::new(alloc, held);
-    choose(
-        boxed_name(alloc, b"fx_begin"),
-        boxed_name(alloc, column.name.bytes()),
-        held,
-    )
-}
-
+/// Puts what the core's input shows, the port's in a sample's first clock and then what was held of it,
+/// and what holds it.
 fn drive_input(alloc: Global, column: &Column, items: &mut ModItems) -> Result<(), OutOfMemory>
     ensures { OnOk result (items.new ≡ items.old ++ held_driven column.now) }
 {
-    let name = inner_name(alloc, column.inner.bytes());
-    put(items, assignment(name, fresh_or_held(alloc, column)))?;
-    let fresh = name_of(Text::copy(alloc, column.name.bytes()));
-    let held = register(
-        held_name(alloc, column.name.bytes()),
+    let name = column.name.bytes();
+    let held = in_box(alloc, name_of(held_name(alloc, name)));
+    let shown = choose(
+        boxed_name(alloc, b"fx_begin"),
+        boxed_name(alloc, name),
+        held,
+    );
+    let core = inner_name(alloc, column.inner.bytes());
+    put(items, assignment(core, shown))?;
+    let taken = register(
+        held_name(alloc, name),
         plain(column.width, 0),
         moving(alloc, b"fx_begin"),
-        fresh,
+        name_of(Text::copy(alloc, name)),
     );
-    put(items, held)
+    put(items, taken)
 }
 
 /// The name of an output of so many samples ago.
@@ -65,32 +57,12 @@ fn stage_name(alloc: Global, column: &Column, samples: u64) -> Result<Text, OutO
     late_name(alloc, column.name.bytes(), samples)
 }
 
-fn stage_declared(alloc: Global, column: &Column, place: u64) -> Result<ModItem, OutOfMemory>
-    requires { place + 1 < 2 ^ 64 }
-    ensures { IfOk result (λ item. item ≡ stage_declared column.now place) }
-{
-    let name = late_name(alloc, column.name.bytes(), place + 1);
-    reg(column.signed, column.width, name)
-}
-
-fn stage_driven(alloc: Global, column: &Column, place: u64) -> Result<ModItem, OutOfMemory>
-    requires { place + 1 < 2 ^ 64 }
-    ensures { IfOk result (λ item. item ≡ stage_driven column.now place) }
-{
-    let before = name_of(stage_name(alloc, column, place));
-    register(
-        late_name(alloc, column.name.bytes(), place + 1),
-        plain(column.width, 0),
-        moving(alloc, b"fx_end"),
-        before,
-    )
-}
-
 fn declare_output(alloc: Global, column: &Column, items: &mut ModItems) -> Result<(), OutOfMemory>
     ensures { OnOk result (items.new ≡ items.old ++ late_declared column.now) }
 {
     for place in 0..column.late {
-        put(items, stage_declared(alloc, column, place))?;
+        let name = late_name(alloc, column.name.bytes(), place + 1);
+        put(items, reg(column.signed, column.width, name))?;
     }
     Ok(())
 }
@@ -98,11 +70,18 @@ fn declare_output(alloc: Global, column: &Column, items: &mut ModItems) -> Resul
 fn drive_output(alloc: Global, column: &Column, items: &mut ModItems) -> Result<(), OutOfMemory>
     ensures { OnOk result (items.new ≡ items.old ++ late_driven column.now) }
 {
+    let name = column.name.bytes();
     for place in 0..column.late {
-        put(items, stage_driven(alloc, column, place))?;
+        let taken = register(
+            late_name(alloc, name, place + 1),
+            plain(column.width, 0),
+            moving(alloc, b"fx_end"),
+            name_of(stage_name(alloc, column, place)),
+        );
+        put(items, taken)?;
     }
     let shown = name_of(stage_name(alloc, column, column.late));
-    assign(alloc, column.name.bytes(), shown, items)
+    assign(alloc, name, shown, items)
 }
 
 /// Puts a part of a column.

@@ -1,16 +1,41 @@
 //! The core's items and ports in the wrapper.
 ghost use Rattle.std.specs.Prelude.{◌≡◌, ◌++◌, map, IfOk, OnOk};
+ghost use Rattle.vl_ast.specs.declared.expressions.Expr.TheViews.{out-Expr};
 ghost use Rattle.st_wrap.specs.inner.Names.{inner_name};
-ghost use Rattle.st_wrap.specs.inner.Renamed.{core_items, renamed, renamed_condition, renamed_item, wires_of};
+ghost use Rattle.st_wrap.specs.inner.Renamed.{core_items, renamed, renamed_condition, renamed_item, wires_of, with_name, with_part};
 
 use crate::items::put;
 use crate::names::{inner_name, is_shared};
-use fx_io::{Boxed, OutOfMemory};
+use fx_io::{Boxed, OutOfMemory, Text};
 use std::alloc::Global;
 use vl_ast::{
     Expr, Exprs, ModItem, ModItems, Module, assignment, binary, choose, clocked_item, in_box, reg,
     wire,
 };
+
+/// A bit or a part, as the expression is, of another name; else the name.
+fn over_name(e: &Expr, name: Text) -> Expr
+    ensures { result ≡ with_name (out-Expr e.now) name }
+{
+    match e {
+        Expr::Bit(_, place) => Expr::Bit(name, *place),
+        Expr::Part(_, high, low) => Expr::Part(name, *high, *low),
+        _ => Expr::Name(name),
+    }
+}
+
+/// What the expression makes of one operand, made of another; else a cast without sign.
+fn over_part(e: &Expr, part: Boxed<Expr>) -> Expr
+    ensures { result ≡ with_part (out-Expr e.now) part }
+{
+    match e {
+        Expr::Repeat(count, _) => Expr::Repeat(*count, part),
+        Expr::AsSigned(_) => Expr::AsSigned(part),
+        Expr::Unary(op, _) => Expr::Unary(*op, part),
+        Expr::Shift(op, _, amount) => Expr::Shift(*op, part, *amount),
+        _ => Expr::AsUnsigned(part),
+    }
+}
 
 /// An expression over the names that the core's have in the wrapper. The recursion is as deep as the
 /// expression nests.
@@ -19,24 +44,19 @@ fn renamed_expr(alloc: Global, e: &Expr) -> Result<Expr, OutOfMemory>
     ensures { IfOk result (λ made. made ≡ renamed e.now) }
 {
     match e {
-        Expr::Name(name) => Ok(Expr::Name(inner_name(alloc, name.bytes())?)),
-        Expr::Bit(name, place) => Ok(Expr::Bit(inner_name(alloc, name.bytes())?, *place)),
-        Expr::Part(name, high, low) => {
-            Ok(Expr::Part(inner_name(alloc, name.bytes())?, *high, *low))
+        Expr::Name(name) | Expr::Bit(name, _) | Expr::Part(name, _, _) => {
+            Ok(over_name(e, inner_name(alloc, name.bytes())?))
         }
         Expr::Literal(number) => Ok(Expr::Literal(*number)),
         Expr::Concat(parts) => Ok(Expr::Concat(renamed_parts(alloc, parts.as_slice())?)),
-        Expr::Repeat(count, part) => Ok(Expr::Repeat(*count, renamed_boxed(alloc, part.get())?)),
-        Expr::AsSigned(part) => Ok(Expr::AsSigned(renamed_boxed(alloc, part.get())?)),
-        Expr::AsUnsigned(part) => Ok(Expr::AsUnsigned(renamed_boxed(alloc, part.get())?)),
-        Expr::Unary(op, part) => Ok(Expr::Unary(*op, renamed_boxed(alloc, part.get())?)),
+        Expr::Repeat(_, part)
+        | Expr::AsSigned(part)
+        | Expr::AsUnsigned(part)
+        | Expr::Unary(_, part)
+        | Expr::Shift(_, part, _) => Ok(over_part(e, renamed_boxed(alloc, part.get())?)),
         Expr::Binary(op, left, right) => {
             let left = renamed_boxed(alloc, left.get());
             binary(*op, left, renamed_boxed(alloc, right.get()))
-        }
-        Expr::Shift(op, part, amount) => {
-            let part = renamed_boxed(alloc, part.get())?;
-            Ok(Expr::Shift(*op, part, *amount))
         }
         Expr::Choose(test, chosen, other) => {
             let test = renamed_boxed(alloc, test.get());

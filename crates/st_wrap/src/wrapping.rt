@@ -3,10 +3,10 @@ ghost use Rattle.std.specs.Prelude.{◌≡◌, ◌++◌, [], codes, List, ℕ, t
 ghost use Rattle.st_wrap.specs.Promised.{AreColumnNames, BreaksNone, CarriesTransfers, FollowsCore, HasStreamHeader, KeepsBits, ShakesHands, Spells, is_stallable, multiplications, spelling};
 ghost use Rattle.st_wrap.specs.inner.Wrapped.{items_of, made_of, IsWrapped};
 
-use crate::columns::{Column, input_columns, output_columns, output_names};
+use crate::columns::{Column, columns};
 use crate::control;
 use crate::header::put_ports;
-use crate::pace::{Counters, counters_for};
+use crate::pace::{Counters, counters_for, latest_in};
 use crate::registers::{Part, put_parts};
 use crate::renaming::{put_core, put_wires};
 use fx_io::{OutOfMemory, Text};
@@ -47,8 +47,9 @@ pub fn wrap(alloc: Global, core: &Module, names: &[Text]) -> Result<Module, OutO
 fn module_of(alloc: Global, core: &Module, names: &[Text]) -> Result<Module, OutOfMemory>
     ensures { IfOk result (IsWrapped core.now names.now) }
 {
-    let inputs = input_columns(alloc, core, names)?;
-    let outputs = output_columns(alloc, core, output_names(core, names))?;
+    let inputs = columns(alloc, core, true, 0, names)?;
+    let others = &names[inputs.as_slice().len()..];
+    let outputs = columns(alloc, core, false, latest_in(core), others)?;
     let counters = counters_for(core);
     made_of(alloc, core, counters, inputs.as_slice(), outputs.as_slice())
 }

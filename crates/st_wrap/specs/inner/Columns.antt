@@ -8,6 +8,7 @@ use Rattle.vl_ast.specs.declared.expressions.Expr.TheVariants.{Name, Binary, Cho
 use Rattle.vl_ast.specs.declared.modules.ModItem.{ModItem}
 use Rattle.vl_ast.specs.declared.modules.ModItem.TheVariants.{Reg, Assign, Always}
 use Rattle.vl_ast.specs.declared.modules.Port.{Port}
+use Rattle.vl_ast.specs.Control.{is_number_input, is_number_output}
 use Rattle.vl_ast.specs.Header.{DataPort, input_port, output_port}
 use Rattle.st_wrap.specs.declared.columns.Column.{Column}
 use Rattle.st_wrap.specs.declared.registers.Part.{Part}
@@ -28,6 +29,10 @@ input_column named = column_of 0 named
 -- an output is held back until the latest comes
 abbrev pub output_column : ℕ → ℕ → Port × List ℕ → Column
 output_column cycles latest named = column_of (latest - samples_late cycles named.0) named
+
+-- a port is an input that carries numbers, or else such an output
+abbrev pub is_column : Bool → Bool → Port → Bool
+is_column input stalls port = if input then is_number_input stalls port else is_number_output stalls port
 
 -- the port of a column
 abbrev pub column_port : Column → DataPort

@@ -1,5 +1,5 @@
 -- The core's items and ports in the wrapper (own).
-use Rattle.std.specs.Prelude.{if◌then◌else◌, List, [], ◌∷◌, map, flat_map, Option, Some, None}
+use Rattle.std.specs.Prelude.{ℕ, if◌then◌else◌, List, [], ◌∷◌, map, flat_map, Option, Some, None}
 use Rattle.vl_ast.specs.declared.expressions.Expr.{Expr}
 use Rattle.vl_ast.specs.declared.expressions.Expr.TheOpen.{Expr-F}
 use Rattle.vl_ast.specs.declared.expressions.Expr.TheVariants.{Name, Bit, Part, Literal, Concat, Repeat, AsSigned, AsUnsigned, Unary, Binary, Shift, Choose}
@@ -28,6 +28,20 @@ renamed_step (Expr-F.Choose test chosen other) = Choose test chosen other
 -- an expression over the names that the core's have in the wrapper
 abbrev pub renamed : Expr → Expr
 renamed = fold-Expr Expr renamed_step
+
+-- a bit or a part of another name, by the form of an expression, or else the name
+abbrev pub with_name : Expr-F Expr → List ℕ → Expr
+with_name (Expr-F.Bit old place) name = Bit name place
+with_name (Expr-F.Part old high low) name = Part name high low
+with_name other name = Name name
+
+-- what the form of an expression makes of one operand, or else a cast without sign
+abbrev pub with_part : Expr-F Expr → Expr → Expr
+with_part (Expr-F.Repeat count old) part = Repeat count part
+with_part (Expr-F.AsSigned old) part = AsSigned part
+with_part (Expr-F.Unary op old) part = Unary op part
+with_part (Expr-F.Shift op old amount) part = Shift op part amount
+with_part other part = AsUnsigned part
 
 -- the same of a condition
 abbrev pub renamed_condition : Option Expr → Option Expr
