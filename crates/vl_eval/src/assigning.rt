@@ -48,6 +48,7 @@ fn build_condition(ops: &mut Code, site: &Site<'_, '_>, condition: &Option<Expr>
     ensures { IfOk result (λ slot. Tests site.now.base site.now.scope.now site.now.slots.now
         ops.old ops.new slot condition.now) }
 {
+    meaning_by_layer();
     match condition {
         None => push(ops, site.base, Op::Constant(1)),
         Some(e) => {

@@ -11,7 +11,7 @@ use crate::operators::{binary_op, shift_op, unary_op};
 use crate::ops::Op;
 use crate::site::{Alone, Site, shape_of, unsigned_slot};
 use fx_io::OutOfMemory;
-use vl_ast::{BinOp, Expr, ShiftOp, Sized, UnOp, mask_of, meaning_by_layer};
+use vl_ast::{BinOp, Expr, ShiftOp, Sized, UnOp, mask_of};
 use vl_check::Shape;
 
 #[cycle(build)]
@@ -19,7 +19,6 @@ fn build_unary(ops: &mut Code, site: &Site<'_, '_>, op: UnOp, part: &Expr, conte
     requires { CanBuild site.now ops.old context.length (Unary op part.now) }
     ensures { IfOk result (IsBuilt site.now ops.old ops.new context (Unary op part.now)) }
 {
-    meaning_by_layer();
     let inner = unary_context(site, op, part, context);
     let slot = build(ops, site, part, inner)?;
     push(ops, site.base, unary_op(op, slot, mask_of(context.length)))
@@ -38,7 +37,6 @@ fn build_binary(
     ensures { IfOk result (IsBuilt site.now ops.old ops.new context
         (Binary op left.now right.now)) }
 {
-    meaning_by_layer();
     let on_left = left_context(site, op, left, right, context);
     let on_right = left_context(site, op, right, left, context);
     let first = build(ops, site, left, on_left)?;
@@ -63,7 +61,6 @@ fn build_shift(
     ensures { IfOk result (IsBuilt site.now ops.old ops.new context
         (Shift op part.now amount.now)) }
 {
-    meaning_by_layer();
     let slot = build(ops, site, part, context)?;
     push(
         ops,
@@ -85,7 +82,6 @@ fn build_choice(
     ensures { IfOk result (IsBuilt site.now ops.old ops.new context
         (Choose test.now chosen.now other.now)) }
 {
-    meaning_by_layer();
     let tested = build_alone(ops, site, test)?;
     let first = build(ops, site, chosen, context)?;
     let second = build(ops, site, other, context)?;
@@ -105,7 +101,6 @@ fn build_as_signed(ops: &mut Code, site: &Site<'_, '_>, part: &Expr, context: Sh
     requires { CanBuild site.now ops.old context.length (AsSigned part.now) }
     ensures { IfOk result (IsBuilt site.now ops.old ops.new context (AsSigned part.now)) }
 {
-    meaning_by_layer();
     let own = build_alone(ops, site, part)?;
     if !context.signed {
         return Ok(own.slot);
@@ -118,7 +113,6 @@ fn build_as_unsigned(ops: &mut Code, site: &Site<'_, '_>, part: &Expr, context: 
     requires { CanBuild site.now ops.old context.length (AsUnsigned part.now) }
     ensures { IfOk result (IsBuilt site.now ops.old ops.new context (AsUnsigned part.now)) }
 {
-    meaning_by_layer();
     let own = build_alone(ops, site, part)?;
     Ok(own.slot)
 }
@@ -130,7 +124,6 @@ fn build_parts(ops: &mut Code, site: &Site<'_, '_>, parts: &[Expr]) -> Result<Al
     ensures built { IfOk result (λ alone. (context : Shape) → IsBuilt site.now ops.old
         ops.new context (Concat parts.now) alone.slot) }
 {
-    meaning_by_layer();
     let mut joined = 0;
     let mut length = 0;
     for part in parts {
@@ -157,7 +150,6 @@ fn build_copies(
     ensures built { IfOk result (λ alone. (context : Shape) → IsBuilt site.now ops.old
         ops.new context (Repeat count part.now) alone.slot) }
 {
-    meaning_by_layer();
     let own = build_alone(ops, site, part)?;
     let mut joined = own.slot;
     let mut length = own.shape.length;
@@ -178,16 +170,7 @@ fn build_alone(ops: &mut Code, site: &Site<'_, '_>, e: &Expr) -> Result<Alone, O
     match e {
         Expr::Concat(parts) => build_parts(ops, site, parts.as_slice()),
         Expr::Repeat(count, part) => build_copies(ops, site, *count, part.get()),
-        Expr::Name(_)
-        | Expr::Bit(_, _)
-        | Expr::Part(_, _, _)
-        | Expr::Literal(_)
-        | Expr::AsSigned(_)
-        | Expr::AsUnsigned(_)
-        | Expr::Unary(_, _)
-        | Expr::Binary(_, _, _)
-        | Expr::Shift(_, _, _)
-        | Expr::Choose(_, _, _) => {
+        _ => {
             let shape = shape_of(site, e);
             let slot = build(ops, site, e, shape)?;
             Ok(Alone { slot, shape })

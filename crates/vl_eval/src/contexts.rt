@@ -53,7 +53,7 @@ fn joint_context(left: Shape, right: Shape) -> Shape
 {
     Shape {
         length: left.length.max(right.length),
-        signed: left.signed && right.signed,
+        signed: left.signed & right.signed,
     }
 }
 

@@ -7,7 +7,7 @@ use crate::code::Code;
 use crate::operators::literal;
 use crate::ops::{OneOp, Op};
 use crate::site::{Site, slot};
-use vl_ast::{Sized, mask_of, meaning_by_layer};
+use vl_ast::{Sized, mask_of};
 use vl_check::{Shape, net};
 
 /// Adds what extends a name, where it is signed, and gives the place of its value.
@@ -15,7 +15,6 @@ pub fn build_name(ops: &mut Code, site: &Site<'_, '_>, name: &[u8], context: Sha
     requires { CanBuild site.now ops.old context.length (Name name.now) }
     ensures { IfOk result (IsBuilt site.now ops.old ops.new context (Name name.now)) }
 {
-    meaning_by_layer();
     let part = slot(site, name);
     if !context.signed {
         return Ok(part);
@@ -35,7 +34,6 @@ pub fn build_bit(
     requires { CanBuild site.now ops.old context.length (Bit name.now low) }
     ensures { IfOk result (IsBuilt site.now ops.old ops.new context (Bit name.now low)) }
 {
-    meaning_by_layer();
     let part = slot(site, name);
     let bit = OneOp::Select { low, mask: 1 };
     push(ops, site.base, Op::One(bit, part))
@@ -53,7 +51,6 @@ pub fn build_part(
     requires { CanBuild site.now ops.old context.length (Part name.now high low) }
     ensures { IfOk result (IsBuilt site.now ops.old ops.new context (Part name.now high low)) }
 {
-    meaning_by_layer();
     let part = slot(site, name);
     let mask = mask_of(high - low + 1);
     push(ops, site.base, Op::One(OneOp::Select { low, mask }, part))
@@ -64,7 +61,6 @@ pub fn build_literal(ops: &mut Code, site: &Site<'_, '_>, number: &Sized, contex
     requires { CanBuild site.now ops.old context.length (Literal number.now) }
     ensures { IfOk result (IsBuilt site.now ops.old ops.new context (Literal number.now)) }
 {
-    meaning_by_layer();
     let bits = literal(number, context.length, context.signed);
     push(ops, site.base, Op::Constant(bits))
 }

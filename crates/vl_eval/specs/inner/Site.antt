@@ -4,6 +4,7 @@ use Rattle.vl_ast.specs.declared.expressions.Expr.{Expr}
 use Rattle.vl_ast.specs.Conditions.{is_sound}
 use Rattle.vl_ast.specs.Context.{own_length, is_signed}
 use Rattle.vl_ast.specs.Nets.{names_read}
+use Rattle.vl_ast.proofs.Agree.{ByLayer}
 use Rattle.vl_check.specs.declared.scope.Scope.{Scope}
 use Rattle.vl_check.specs.declared.shapes.Shape.{Shape}
 use Rattle.vl_check.specs.Scope.{nets_in, number_in}
@@ -37,8 +38,10 @@ pub record ArePlaced (base : ℕ) (scope : Scope) (slots : List ℕ) (ops : List
   pub below : (name : List ℕ) → Contains names name → slot_in scope slots name < base + length ops
   pub few : (name : List ℕ) → Contains names name → (nets_in scope name).width ≤ 128
 
--- what building an expression in a context asks for
+-- what building an expression in a context asks for: the law of a value by its layer, a sound expression, room for it, and
+-- names with places
 pub record CanBuild (site : Site) (ops : List Op) (width : ℕ) (e : Expr) : Type 0 where
+  pub by_layer : ByLayer
   pub sound : is_sound (nets_in site.scope.now) e ≡ true
   pub longer : own_length (nets_in site.scope.now) e ≤ width
   pub most : width ≤ 128
@@ -50,6 +53,7 @@ IsBuilt site before after context e slot = Built site.base site.scope.now site.s
 
 -- the same in the context that the expression makes by itself
 pub record CanBuildAlone (site : Site) (ops : List Op) (e : Expr) : Type 0 where
+  pub by_layer : ByLayer
   pub sound : is_sound (nets_in site.scope.now) e ≡ true
   pub placed : ArePlaced site.base site.scope.now site.slots.now ops (names_read e)
 

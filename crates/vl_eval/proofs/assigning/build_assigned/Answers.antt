@@ -6,6 +6,7 @@ use Rattle.vl_eval.proofs.assigning.build_assigned.Goals as goal
 
 pub build-requires : goal.build-requires
 build-requires c = record {
+  by_layer = c.meaning_by_layer.ensures.value;
   sound = c.requires.sound;
   longer = omega (arith, c.shape_of-shape.ensures.length, c.max-length.ensures);
   most = omega (arith, c.shape_of-shape.ensures.few, c.requires.most, c.max-length.ensures);

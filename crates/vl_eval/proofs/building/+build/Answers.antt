@@ -30,7 +30,7 @@ build_unary-build-requires t c =
     let nets = nets_in site.scope.now in
     let room = room-in (own_length nets c.args.part.now) _ _ c.unary_context-inner.ensures (unary-room nets c.args.op c.args.part.now c.args.context.length c.args.context.signed c.requires.sound c.requires.longer c.requires.most) in
     let names = placed site c.args.ops.now _ _ (names-unary nets c.args.op c.args.part.now) c.requires.placed in
-    (omega arith, record { sound = sound-unary nets c.args.op c.args.part.now c.requires.sound; longer = room.0; most = room.1; placed = names })
+    (omega arith, record { by_layer = c.requires.by_layer; sound = sound-unary nets c.args.op c.args.part.now c.requires.sound; longer = room.0; most = room.1; placed = names })
 
 pub build_unary-mask_of-requires : goal.build_unary-mask_of-requires
 build_unary-mask_of-requires t c = c.requires.most
@@ -38,20 +38,20 @@ build_unary-mask_of-requires t c = c.requires.most
 pub build_unary-returns : goal.build_unary-returns
 build_unary-returns t c =
     let site = c.args.site.now in
-    IfOk-weaker c.push.result _ _ (λ slot p. built-unary c.meaning_by_layer.ensures.value site.base site.scope.now site.slots.now c.args.op c.args.part.now c.args.ops.now c.build.new.ops c.push.new.ops c.in_ok-slot.slot slot c.args.context.length c.mask_of.result c.args.context.signed c.unary_context-inner.result
+    IfOk-weaker c.push.result _ _ (λ slot p. built-unary c.requires.by_layer site.base site.scope.now site.slots.now c.args.op c.args.part.now c.args.ops.now c.build.new.ops c.push.new.ops c.in_ok-slot.slot slot c.args.context.length c.mask_of.result c.args.context.signed c.unary_context-inner.result
     c.requires.sound c.requires.longer c.requires.most c.mask_of.ensures c.unary_context-inner.ensures c.in_ok-slot.ensures
     (subst (λ o. Pushed site.base c.build.new.ops c.push.new.ops slot o) c.unary_op.ensures p)) c.push.ensures
 
 pub build_as_signed-build_alone-requires : goal.build_as_signed-build_alone-requires
 build_as_signed-build_alone-requires t c =
     let nets = nets_in c.args.site.now.scope.now in
-    (omega arith, record { sound = sound-as-signed nets c.args.part.now c.requires.sound; placed = placed c.args.site.now c.args.ops.now _ _ (names-as-signed nets c.args.part.now) c.requires.placed })
+    (omega arith, record { by_layer = c.requires.by_layer; sound = sound-as-signed nets c.args.part.now c.requires.sound; placed = placed c.args.site.now c.args.ops.now _ _ (names-as-signed nets c.args.part.now) c.requires.placed })
 
 pub build_as_signed-returns-then-not-context : goal.build_as_signed-returns-then-not-context
 build_as_signed-returns-then-not-context t c =
     let site = c.args.site.now in
     let own = c.in_ok-own.ensures in
-    built-as-signed-plain c.meaning_by_layer.ensures.value site.base site.scope.now site.slots.now c.args.part.now c.args.ops.now c.build_alone.new.ops c.in_ok-own.own.slot c.args.context.length c.args.context.signed c.in_ok-own.own.shape own.length own.sign (not-true c.args.context.signed c.if-not-context.true) own.built
+    built-as-signed-plain c.requires.by_layer site.base site.scope.now site.slots.now c.args.part.now c.args.ops.now c.build_alone.new.ops c.in_ok-own.own.slot c.args.context.length c.args.context.signed c.in_ok-own.own.shape own.length own.sign (not-true c.args.context.signed c.if-not-context.true) own.built
 
 pub build_as_signed-extend-requires-clause-longer : goal.build_as_signed-extend-requires-clause-longer
 build_as_signed-extend-requires-clause-longer t c = let l = length-as-signed (nets_in c.args.site.now.scope.now) c.args.part.now in let own = c.in_ok-own.ensures.length in omega (arith, l, own, c.requires.longer)
@@ -63,19 +63,19 @@ pub build_as_signed-returns : goal.build_as_signed-returns
 build_as_signed-returns t c =
     let site = c.args.site.now in
     let own = c.in_ok-own.ensures in
-    IfOk-weaker c.extend.result _ _ (λ slot x. built-as-signed c.meaning_by_layer.ensures.value site.base site.scope.now site.slots.now c.args.part.now c.args.ops.now c.build_alone.new.ops c.extend.new.ops c.in_ok-own.own.slot slot c.args.context.length c.args.context.signed c.in_ok-own.own.shape
+    IfOk-weaker c.extend.result _ _ (λ slot x. built-as-signed c.requires.by_layer site.base site.scope.now site.slots.now c.args.part.now c.args.ops.now c.build_alone.new.ops c.extend.new.ops c.in_ok-own.own.slot slot c.args.context.length c.args.context.signed c.in_ok-own.own.shape
     c.requires.sound c.requires.longer c.requires.most own.length own.sign (not-false c.args.context.signed c.if-not-context.false) own.built x) c.extend.ensures
 
 pub build_as_unsigned-build_alone-requires : goal.build_as_unsigned-build_alone-requires
 build_as_unsigned-build_alone-requires t c =
     let nets = nets_in c.args.site.now.scope.now in
-    (omega arith, record { sound = sound-as-unsigned nets c.args.part.now c.requires.sound; placed = placed c.args.site.now c.args.ops.now _ _ (names-as-unsigned nets c.args.part.now) c.requires.placed })
+    (omega arith, record { by_layer = c.requires.by_layer; sound = sound-as-unsigned nets c.args.part.now c.requires.sound; placed = placed c.args.site.now c.args.ops.now _ _ (names-as-unsigned nets c.args.part.now) c.requires.placed })
 
 pub build_as_unsigned-returns : goal.build_as_unsigned-returns
 build_as_unsigned-returns t c =
     let site = c.args.site.now in
     let own = c.in_ok-own.ensures in
-    built-as-unsigned c.meaning_by_layer.ensures.value site.base site.scope.now site.slots.now c.args.part.now c.args.ops.now c.build_alone.new.ops c.in_ok-own.own.slot c.args.context.length c.args.context.signed c.in_ok-own.own.shape own.length own.sign own.built
+    built-as-unsigned c.requires.by_layer site.base site.scope.now site.slots.now c.args.part.now c.args.ops.now c.build_alone.new.ops c.in_ok-own.own.slot c.args.context.length c.args.context.signed c.in_ok-own.own.shape own.length own.sign own.built
 
 pub build_binary-left_context-on_left-requires-clause-left : goal.build_binary-left_context-on_left-requires-clause-left
 build_binary-left_context-on_left-requires-clause-left t c = (sound-binary (nets_in c.args.site.now.scope.now) c.args.op c.args.left.now c.args.right.now c.requires.sound).0
@@ -95,8 +95,8 @@ build_binary-build-requires t c =
     let nets = nets_in site.scope.now in
     let room = room-in (own_length nets c.args.left.now) _ _ c.left_context-on_left.ensures (left-context-room nets c.args.op c.args.left.now c.args.right.now c.args.context.length c.args.context.signed c.requires.sound c.requires.longer c.requires.most) in
     let all = placed site c.args.ops.now _ _ (names-binary nets c.args.op c.args.left.now c.args.right.now) c.requires.placed in
-    let names = placed-left c.meaning_by_layer.ensures.value site.base site.scope.now site.slots.now c.args.ops.now (names_read c.args.left.now) (names_read c.args.right.now) all in
-    (omega arith, record { sound = (sound-binary nets c.args.op c.args.left.now c.args.right.now c.requires.sound).0; longer = room.0; most = room.1; placed = names })
+    let names = placed-left c.requires.by_layer site.base site.scope.now site.slots.now c.args.ops.now (names_read c.args.left.now) (names_read c.args.right.now) all in
+    (omega arith, record { by_layer = c.requires.by_layer; sound = (sound-binary nets c.args.op c.args.left.now c.args.right.now c.requires.sound).0; longer = room.0; most = room.1; placed = names })
 
 pub build_binary-build-requires-2 : goal.build_binary-build-requires-2
 build_binary-build-requires-2 t c =
@@ -104,9 +104,9 @@ build_binary-build-requires-2 t c =
     let nets = nets_in site.scope.now in
     let room = room-in (own_length nets c.args.right.now) _ _ c.left_context-on_right.ensures (right-context-room nets c.args.op c.args.left.now c.args.right.now c.args.context.length c.args.context.signed c.requires.sound c.requires.longer c.requires.most) in
     let all = placed site c.args.ops.now _ _ (names-binary nets c.args.op c.args.left.now c.args.right.now) c.requires.placed in
-    let right = placed-right c.meaning_by_layer.ensures.value site.base site.scope.now site.slots.now c.args.ops.now (names_read c.args.left.now) (names_read c.args.right.now) all in
-    let names = placed-later c.meaning_by_layer.ensures.value site.base site.scope.now site.slots.now c.args.ops.now c.build.new.ops (names_read c.args.right.now) c.in_ok-first.ensures.grows right in
-    (omega arith, record { sound = (sound-binary nets c.args.op c.args.left.now c.args.right.now c.requires.sound).1; longer = room.0; most = room.1; placed = names })
+    let right = placed-right c.requires.by_layer site.base site.scope.now site.slots.now c.args.ops.now (names_read c.args.left.now) (names_read c.args.right.now) all in
+    let names = placed-later c.requires.by_layer site.base site.scope.now site.slots.now c.args.ops.now c.build.new.ops (names_read c.args.right.now) c.in_ok-first.ensures.grows right in
+    (omega arith, record { by_layer = c.requires.by_layer; sound = (sound-binary nets c.args.op c.args.left.now c.args.right.now c.requires.sound).1; longer = room.0; most = room.1; placed = names })
 
 pub build_binary-half_in-requires : goal.build_binary-half_in-requires
 build_binary-half_in-requires t c =
@@ -121,37 +121,37 @@ build_binary-mask_of-requires t c = c.requires.most
 pub build_binary-returns : goal.build_binary-returns
 build_binary-returns t c =
     let site = c.args.site.now in
-    IfOk-weaker c.push.result _ _ (λ slot p. built-binary c.meaning_by_layer.ensures.value site.base site.scope.now site.slots.now c.args.op c.args.left.now c.args.right.now c.args.ops.now c.build.new.ops c.build-2.new.ops c.push.new.ops c.in_ok-first.first c.in_ok-second.second slot c.args.context.length c.mask_of.result c.half_in.result c.args.context.signed
+    IfOk-weaker c.push.result _ _ (λ slot p. built-binary c.requires.by_layer site.base site.scope.now site.slots.now c.args.op c.args.left.now c.args.right.now c.args.ops.now c.build.new.ops c.build-2.new.ops c.push.new.ops c.in_ok-first.first c.in_ok-second.second slot c.args.context.length c.mask_of.result c.half_in.result c.args.context.signed
     c.left_context-on_left.result c.left_context-on_right.result c.requires.sound c.requires.longer c.requires.most c.mask_of.ensures c.left_context-on_left.ensures c.left_context-on_right.ensures c.half_in.ensures c.in_ok-first.ensures c.in_ok-second.ensures
     (subst (λ o. Pushed site.base c.build-2.new.ops c.push.new.ops slot o) c.binary_op.ensures p)) c.push.ensures
 
 pub build_choice-build_alone-requires : goal.build_choice-build_alone-requires
 build_choice-build_alone-requires t c =
     let site = c.args.site.now in
-    let all = placed-choose c.meaning_by_layer.ensures.value site.base site.scope.now site.slots.now c.args.ops.now c.args.test.now c.args.chosen.now c.args.other.now c.requires.placed in
-    (omega arith, record { sound = (sound-choose (nets_in site.scope.now) c.args.test.now c.args.chosen.now c.args.other.now c.requires.sound).0; placed = all.0 })
+    let all = placed-choose c.requires.by_layer site.base site.scope.now site.slots.now c.args.ops.now c.args.test.now c.args.chosen.now c.args.other.now c.requires.placed in
+    (omega arith, record { by_layer = c.requires.by_layer; sound = (sound-choose (nets_in site.scope.now) c.args.test.now c.args.chosen.now c.args.other.now c.requires.sound).0; placed = all.0 })
 
 pub build_choice-build-requires : goal.build_choice-build-requires
 build_choice-build-requires t c =
     let site = c.args.site.now in
-    let all = placed-choose c.meaning_by_layer.ensures.value site.base site.scope.now site.slots.now c.args.ops.now c.args.test.now c.args.chosen.now c.args.other.now c.requires.placed in
+    let all = placed-choose c.requires.by_layer site.base site.scope.now site.slots.now c.args.ops.now c.args.test.now c.args.chosen.now c.args.other.now c.requires.placed in
     let l = length-choose (nets_in site.scope.now) c.args.test.now c.args.chosen.now c.args.other.now in
-    let tested = placed-later c.meaning_by_layer.ensures.value site.base site.scope.now site.slots.now c.args.ops.now c.build_alone.new.ops (names_read c.args.chosen.now) c.in_ok-tested.ensures.built.grows all.1 in
-    (omega arith, record { sound = (sound-choose (nets_in site.scope.now) c.args.test.now c.args.chosen.now c.args.other.now c.requires.sound).1; longer = omega (arith, l, c.requires.longer); most = c.requires.most; placed = tested })
+    let tested = placed-later c.requires.by_layer site.base site.scope.now site.slots.now c.args.ops.now c.build_alone.new.ops (names_read c.args.chosen.now) c.in_ok-tested.ensures.built.grows all.1 in
+    (omega arith, record { by_layer = c.requires.by_layer; sound = (sound-choose (nets_in site.scope.now) c.args.test.now c.args.chosen.now c.args.other.now c.requires.sound).1; longer = omega (arith, l, c.requires.longer); most = c.requires.most; placed = tested })
 
 pub build_choice-build-requires-2 : goal.build_choice-build-requires-2
 build_choice-build-requires-2 t c =
     let site = c.args.site.now in
-    let all = placed-choose c.meaning_by_layer.ensures.value site.base site.scope.now site.slots.now c.args.ops.now c.args.test.now c.args.chosen.now c.args.other.now c.requires.placed in
+    let all = placed-choose c.requires.by_layer site.base site.scope.now site.slots.now c.args.ops.now c.args.test.now c.args.chosen.now c.args.other.now c.requires.placed in
     let l = length-choose (nets_in site.scope.now) c.args.test.now c.args.chosen.now c.args.other.now in
     let grows = grows-more site.base c.args.ops.now c.build_alone.new.ops c.build.new.ops c.in_ok-tested.ensures.built.grows c.in_ok-first.ensures.grows in
-    let first = placed-later c.meaning_by_layer.ensures.value site.base site.scope.now site.slots.now c.args.ops.now c.build.new.ops (names_read c.args.other.now) grows all.2 in
-    (omega arith, record { sound = (sound-choose (nets_in site.scope.now) c.args.test.now c.args.chosen.now c.args.other.now c.requires.sound).2; longer = omega (arith, l, c.requires.longer); most = c.requires.most; placed = first })
+    let first = placed-later c.requires.by_layer site.base site.scope.now site.slots.now c.args.ops.now c.build.new.ops (names_read c.args.other.now) grows all.2 in
+    (omega arith, record { by_layer = c.requires.by_layer; sound = (sound-choose (nets_in site.scope.now) c.args.test.now c.args.chosen.now c.args.other.now c.requires.sound).2; longer = omega (arith, l, c.requires.longer); most = c.requires.most; placed = first })
 
 pub build_choice-returns : goal.build_choice-returns
 build_choice-returns t c =
     let site = c.args.site.now in
-    IfOk-weaker c.push.result _ _ (λ slot p. built-choice c.meaning_by_layer.ensures.value site.base site.scope.now site.slots.now c.args.test.now c.args.chosen.now c.args.other.now c.args.ops.now c.build_alone.new.ops c.build.new.ops c.build-2.new.ops c.push.new.ops c.in_ok-tested.tested.slot c.in_ok-first.first c.in_ok-second.second slot c.args.context.length c.args.context.signed c.in_ok-tested.tested.shape
+    IfOk-weaker c.push.result _ _ (λ slot p. built-choice c.requires.by_layer site.base site.scope.now site.slots.now c.args.test.now c.args.chosen.now c.args.other.now c.args.ops.now c.build_alone.new.ops c.build.new.ops c.build-2.new.ops c.push.new.ops c.in_ok-tested.tested.slot c.in_ok-first.first c.in_ok-second.second slot c.args.context.length c.args.context.signed c.in_ok-tested.tested.shape
     c.in_ok-tested.ensures.length c.in_ok-tested.ensures.sign c.in_ok-tested.ensures.built c.in_ok-first.ensures c.in_ok-second.ensures p) c.push.ensures
 
 pub build_shift-build-requires : goal.build_shift-build-requires
@@ -161,7 +161,7 @@ build_shift-build-requires t c =
     let l = length-shift nets c.args.op c.args.part.now c.args.amount.now in
     let ok = sound-shift nets c.args.op c.args.part.now c.args.amount.now c.requires.sound in
     let names = placed site c.args.ops.now _ _ (names-shift nets c.args.op c.args.part.now c.args.amount.now) c.requires.placed in
-    (omega arith, record { sound = ok.0; longer = omega (arith, l, c.requires.longer); most = c.requires.most; placed = names })
+    (omega arith, record { by_layer = c.requires.by_layer; sound = ok.0; longer = omega (arith, l, c.requires.longer); most = c.requires.most; placed = names })
 
 pub build_shift-shift_op-requires : goal.build_shift-shift_op-requires
 build_shift-shift_op-requires t c = c.requires.most
@@ -169,7 +169,7 @@ build_shift-shift_op-requires t c = c.requires.most
 pub build_shift-returns : goal.build_shift-returns
 build_shift-returns t c =
     let site = c.args.site.now in
-    IfOk-weaker c.push.result _ _ (λ slot p. built-shift c.meaning_by_layer.ensures.value site.base site.scope.now site.slots.now c.args.op c.args.part.now c.args.amount.now c.args.ops.now c.build.new.ops c.push.new.ops c.in_ok-slot.slot slot c.args.context.length c.args.context.signed
+    IfOk-weaker c.push.result _ _ (λ slot p. built-shift c.requires.by_layer site.base site.scope.now site.slots.now c.args.op c.args.part.now c.args.amount.now c.args.ops.now c.build.new.ops c.push.new.ops c.in_ok-slot.slot slot c.args.context.length c.args.context.signed
     c.requires.sound c.requires.longer c.requires.most c.in_ok-slot.ensures (subst (λ o. Pushed site.base c.build.new.ops c.push.new.ops slot o) (c.shift_op.ensures ∙ ap (λ (places : ℕ). shift_op c.args.op c.in_ok-slot.slot places c.args.context.length c.args.context.signed) c.get.ensures) p)) c.push.ensures
 
 pub build_copies-build_alone-requires : goal.build_copies-build_alone-requires
@@ -178,7 +178,7 @@ build_copies-build_alone-requires t c =
     let nets = nets_in site.scope.now in
     let ok = sound-repeat nets c.args.count c.args.part.now c.requires.sound in
     let names = placed site c.args.ops.now _ _ (names-repeat nets c.args.count c.args.part.now) c.requires.placed in
-    (omega arith, record { sound = ok.1; placed = names })
+    (omega arith, record { by_layer = c.requires.by_layer; sound = ok.1; placed = names })
 
 pub build_copies-loop-copy-init : goal.build_copies-loop-copy-init
 build_copies-loop-copy-init t c =
@@ -193,13 +193,13 @@ build_copies-loop-copy-init t c =
 pub build_copies-overflow_add-length : goal.build_copies-overflow_add-length
 build_copies-overflow_add-length t c =
     let site = c.args.site.now in
-    let room = copied-room c.meaning_by_layer.ensures.value site.base site.scope.now site.slots.now c.args.ops.now c.loop-copy.ops c.loop-copy.joined c.loop-copy.length c.loop-copy._copy c.args.count c.args.part.now c.requires.sound c.loop-copy-test.true (c.loop-copy.invariant.copied c.meaning_by_layer.ensures.value) in
+    let room = copied-room c.requires.by_layer site.base site.scope.now site.slots.now c.args.ops.now c.loop-copy.ops c.loop-copy.joined c.loop-copy.length c.loop-copy._copy c.args.count c.args.part.now c.requires.sound c.loop-copy-test.true (c.loop-copy.invariant.copied c.requires.by_layer) in
     omega (arith, room, c.in_ok-own.ensures.length)
 
 pub build_copies-loop-copy-preserved : goal.build_copies-loop-copy-preserved
 build_copies-loop-copy-preserved t c =
     let site = c.args.site.now in
-    let by_layer = c.meaning_by_layer.ensures.value in
+    let by_layer = c.requires.by_layer in
     let ok = sound-repeat (nets_in site.scope.now) c.args.count c.args.part.now c.requires.sound in
     let few = copies-few by_layer site.base site.scope.now site.slots.now c.loop-copy._copy c.args.count (own_length (nets_in site.scope.now) c.args.part.now) c.loop-copy-test.true ok.2 in
     let copied = c.loop-copy.invariant.copied by_layer in
@@ -220,7 +220,7 @@ build_copies-loop-copy-preserved t c =
 pub build_copies-returns-clause-built : goal.build_copies-returns-clause-built
 build_copies-returns-clause-built t c = λ context.
     let site = c.args.site.now in
-    let by_layer = c.meaning_by_layer.ensures.value in
+    let by_layer = c.requires.by_layer in
     let ok = sound-repeat (nets_in site.scope.now) c.args.count c.args.part.now c.requires.sound in
     subst (λ slot. Built site.base site.scope.now site.slots.now c.args.ops.now c.loop-copy.ops slot context.length context.signed (Repeat c.args.count c.args.part.now)) (sym c.unsigned_slot.ensures.slot)
     (built-copies by_layer site.base site.scope.now site.slots.now c.args.count c.args.part.now c.args.ops.now c.loop-copy.ops c.loop-copy.joined c.loop-copy.length context.length context.signed
@@ -229,7 +229,7 @@ build_copies-returns-clause-built t c = λ context.
 pub build_copies-returns-clause-own : goal.build_copies-returns-clause-own
 build_copies-returns-clause-own t c =
     let site = c.args.site.now in
-    let by_layer = c.meaning_by_layer.ensures.value in
+    let by_layer = c.requires.by_layer in
     let nets = nets_in site.scope.now in
     let ok = sound-repeat nets c.args.count c.args.part.now c.requires.sound in
     let copied = subst (λ n. Copied by_layer site.base site.scope.now site.slots.now c.args.ops.now c.loop-copy.ops c.loop-copy.joined c.loop-copy.length n c.args.part.now) (omega (arith, ok.0)) (c.loop-copy.invariant.copied by_layer) in
@@ -240,7 +240,7 @@ build_copies-returns-clause-own t c =
 pub build_parts-build_alone-requires : goal.build_parts-build_alone-requires
 build_parts-build_alone-requires t c =
     let site = c.args.site.now in
-    let by_layer = c.meaning_by_layer.ensures.value in
+    let by_layer = c.requires.by_layer in
     let nets = nets_in site.scope.now in
     let parts = c.args.parts.now in
     let part = c.part-item.result in
@@ -250,6 +250,7 @@ build_parts-build_alone-requires t c =
     let less = part-size sizes (λ x xs. refl) parts c.loop-part.part-index part c.loop-part-test.true c.part-item.is in (
       omega (arith, less),
       record {
+        by_layer = by_layer;
         sound = part-sound by_layer site.base site.scope.now site.slots.now parts c.loop-part.part-index part (sound-concat nets parts c.requires.sound).0 c.loop-part-test.true c.part-item.is;
         placed = placed-later by_layer site.base site.scope.now site.slots.now c.args.ops.now c.loop-part.ops (names_read part) (c.loop-part.invariant by_layer).grows
             (part-placed by_layer site.base site.scope.now site.slots.now c.args.ops.now parts part there all);
@@ -260,9 +261,9 @@ pub build_parts-overflow_add-length : goal.build_parts-overflow_add-length
 build_parts-overflow_add-length t c =
     let site = c.args.site.now in
     let parts = c.args.parts.now in
-    let joined = c.loop-part.invariant c.meaning_by_layer.ensures.value in
-    let few = parts-few c.meaning_by_layer.ensures.value site.base site.scope.now site.slots.now parts c.loop-part.part-index c.part-item.result (sound-concat (nets_in site.scope.now) parts c.requires.sound).1 c.loop-part-test.true c.part-item.is in
-    let more = lengths-more c.meaning_by_layer.ensures.value site.base site.scope.now site.slots.now (take c.loop-part.part-index parts) c.part-item.result in
+    let joined = c.loop-part.invariant c.requires.by_layer in
+    let few = parts-few c.requires.by_layer site.base site.scope.now site.slots.now parts c.loop-part.part-index c.part-item.result (sound-concat (nets_in site.scope.now) parts c.requires.sound).1 c.loop-part-test.true c.part-item.is in
+    let more = lengths-more c.requires.by_layer site.base site.scope.now site.slots.now (take c.loop-part.part-index parts) c.part-item.result in
     omega (arith, few, more, joined.long, c.in_ok-own.ensures.length)
 
 pub build_parts-loop-part-preserved : goal.build_parts-loop-part-preserved
@@ -284,7 +285,7 @@ build_parts-loop-part-preserved t c = λ b.
 pub build_parts-returns-then-length-eq0-clause-built : goal.build_parts-returns-then-length-eq0-clause-built
 build_parts-returns-then-length-eq0-clause-built t c = λ context.
     let site = c.args.site.now in
-    let by_layer = c.meaning_by_layer.ensures.value in
+    let by_layer = c.requires.by_layer in
     let parts = c.args.parts.now in
     let joined = joined-all by_layer site.base site.scope.now site.slots.now c.args.ops.now c.loop-part.ops c.loop-part.joined c.loop-part.length c.loop-part.part-index parts (omega (arith, c.loop-part-test.false)) (c.loop-part.invariant by_layer) in
     subst (λ slot. Built site.base site.scope.now site.slots.now c.args.ops.now c.push.new.ops slot context.length context.signed (Concat parts)) (sym c.unsigned_slot.ensures.slot)
@@ -294,14 +295,14 @@ build_parts-returns-then-length-eq0-clause-built t c = λ context.
 pub build_parts-returns-then-length-eq0-clause-own : goal.build_parts-returns-then-length-eq0-clause-own
 build_parts-returns-then-length-eq0-clause-own t c =
     let site = c.args.site.now in
-    let joined = joined-all c.meaning_by_layer.ensures.value site.base site.scope.now site.slots.now c.args.ops.now c.loop-part.ops c.loop-part.joined c.loop-part.length c.loop-part.part-index c.args.parts.now (omega (arith, c.loop-part-test.false)) (c.loop-part.invariant c.meaning_by_layer.ensures.value) in
-    concat-alone c.meaning_by_layer.ensures.value site.base site.scope.now site.slots.now c.args.ops.now c.push.new.ops c.args.parts.now c.unsigned_slot.result c.requires.sound (c.unsigned_slot.ensures.length ∙ joined.long) c.unsigned_slot.ensures.sign
+    let joined = joined-all c.requires.by_layer site.base site.scope.now site.slots.now c.args.ops.now c.loop-part.ops c.loop-part.joined c.loop-part.length c.loop-part.part-index c.args.parts.now (omega (arith, c.loop-part-test.false)) (c.loop-part.invariant c.requires.by_layer) in
+    concat-alone c.requires.by_layer site.base site.scope.now site.slots.now c.args.ops.now c.push.new.ops c.args.parts.now c.unsigned_slot.result c.requires.sound (c.unsigned_slot.ensures.length ∙ joined.long) c.unsigned_slot.ensures.sign
     (λ width signed. build_parts-returns-then-length-eq0-clause-built t c (record { length = width; signed = signed }))
 
 pub build_parts-returns-clause-built : goal.build_parts-returns-clause-built
 build_parts-returns-clause-built t c = λ context.
     let site = c.args.site.now in
-    let by_layer = c.meaning_by_layer.ensures.value in
+    let by_layer = c.requires.by_layer in
     let parts = c.args.parts.now in
     let joined = joined-all by_layer site.base site.scope.now site.slots.now c.args.ops.now c.loop-part.ops c.loop-part.joined c.loop-part.length c.loop-part.part-index parts (omega (arith, c.loop-part-test.false)) (c.loop-part.invariant by_layer) in
     subst (λ slot. Built site.base site.scope.now site.slots.now c.args.ops.now c.loop-part.ops slot context.length context.signed (Concat parts)) (sym c.unsigned_slot-2.ensures.slot)
@@ -310,8 +311,8 @@ build_parts-returns-clause-built t c = λ context.
 pub build_parts-returns-clause-own : goal.build_parts-returns-clause-own
 build_parts-returns-clause-own t c =
     let site = c.args.site.now in
-    let joined = joined-all c.meaning_by_layer.ensures.value site.base site.scope.now site.slots.now c.args.ops.now c.loop-part.ops c.loop-part.joined c.loop-part.length c.loop-part.part-index c.args.parts.now (omega (arith, c.loop-part-test.false)) (c.loop-part.invariant c.meaning_by_layer.ensures.value) in
-    concat-alone c.meaning_by_layer.ensures.value site.base site.scope.now site.slots.now c.args.ops.now c.loop-part.ops c.args.parts.now c.unsigned_slot-2.result c.requires.sound (c.unsigned_slot-2.ensures.length ∙ joined.long) c.unsigned_slot-2.ensures.sign
+    let joined = joined-all c.requires.by_layer site.base site.scope.now site.slots.now c.args.ops.now c.loop-part.ops c.loop-part.joined c.loop-part.length c.loop-part.part-index c.args.parts.now (omega (arith, c.loop-part-test.false)) (c.loop-part.invariant c.requires.by_layer) in
+    concat-alone c.requires.by_layer site.base site.scope.now site.slots.now c.args.ops.now c.loop-part.ops c.args.parts.now c.unsigned_slot-2.result c.requires.sound (c.unsigned_slot-2.ensures.length ∙ joined.long) c.unsigned_slot-2.ensures.sign
     (λ width signed. build_parts-returns-clause-built t c (record { length = width; signed = signed }))
 
 pub build-returns-in_ok-alone-in-Concat : goal.build-returns-in_ok-alone-in-Concat
@@ -363,4 +364,4 @@ pub build-build_literal-requires : goal.build-build_literal-requires
 build-build_literal-requires t c = subst (CanBuild c.args.site.now c.args.ops.now c.args.context.length) c.in-Literal.is c.requires
 
 pub build_alone-build-requires : goal.build_alone-build-requires
-build_alone-build-requires t c = (omega arith, record { sound = c.requires.sound; longer = omega (arith, c.shape_of-shape.ensures.length); most = c.shape_of-shape.ensures.few; placed = c.requires.placed })
+build_alone-build-requires t c = (omega arith, record { by_layer = c.requires.by_layer; sound = c.requires.sound; longer = omega (arith, c.shape_of-shape.ensures.length); most = c.shape_of-shape.ensures.few; placed = c.requires.placed })

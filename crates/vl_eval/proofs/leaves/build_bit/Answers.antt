@@ -15,5 +15,5 @@ returns c =
     let below = c.requires.placed.below c.args.name.now here in
     let few = c.requires.placed.few c.args.name.now here in
     let low = sound-bit nets c.args.name.now c.args.low c.requires.sound in
-    IfOk-weaker c.push.result _ _ (λ slot p. built-bit c.meaning_by_layer.ensures.value site.base site.scope.now site.slots.now c.args.name.now c.args.low c.args.ops.now c.push.new.ops c.slot-part.result slot c.args.context.length c.args.context.signed
+    IfOk-weaker c.push.result _ _ (λ slot p. built-bit c.requires.by_layer site.base site.scope.now site.slots.now c.args.name.now c.args.low c.args.ops.now c.push.new.ops c.slot-part.result slot c.args.context.length c.args.context.signed
     c.slot-part.ensures below (omega (arith, few, low)) p) c.push.ensures

@@ -17,5 +17,5 @@ literal-bits-requires-clause-most c = c.requires.most
 pub returns : goal.returns
 returns c =
     let site = c.args.site.now in
-    IfOk-weaker c.push.result _ _ (λ slot p. built-literal c.meaning_by_layer.ensures.value site.base site.scope.now site.slots.now c.args.number.now c.args.ops.now c.push.new.ops c.literal-bits.result slot c.args.context.length c.args.context.signed
+    IfOk-weaker c.push.result _ _ (λ slot p. built-literal c.requires.by_layer site.base site.scope.now site.slots.now c.args.number.now c.args.ops.now c.push.new.ops c.literal-bits.result slot c.args.context.length c.args.context.signed
     c.literal-bits.ensures p) c.push.ensures

@@ -13,7 +13,7 @@ pub returns-then-not-context : goal.returns-then-not-context
 returns-then-not-context c =
     let site = c.args.site.now in
     let below = c.requires.placed.below c.args.name.now (subst (λ ns. Contains ns c.args.name.now) (sym (names-name (nets_in site.scope.now) c.args.name.now)) (head-in c.args.name.now [])) in
-    built-name c.meaning_by_layer.ensures.value site.base site.scope.now site.slots.now c.args.name.now c.args.ops.now c.slot-part.result c.args.context.length c.args.context.signed c.slot-part.ensures below (not-true c.args.context.signed c.if-not-context.true)
+    built-name c.requires.by_layer site.base site.scope.now site.slots.now c.args.name.now c.args.ops.now c.slot-part.result c.args.context.length c.args.context.signed c.slot-part.ensures below (not-true c.args.context.signed c.if-not-context.true)
 
 pub extend-requires-clause-longer : goal.extend-requires-clause-longer
 extend-requires-clause-longer c =
@@ -32,5 +32,5 @@ returns c =
     let below = c.requires.placed.below c.args.name.now (subst (λ ns. Contains ns c.args.name.now) (sym (names-name nets c.args.name.now)) (head-in c.args.name.now [])) in
     let l = length-name nets c.args.name.now in
     let e = ap (λ (n : Net). n.width) c.net-length.ensures in
-    IfOk-weaker c.extend.result _ _ (λ slot x. built-signed-name c.meaning_by_layer.ensures.value site.base site.scope.now site.slots.now c.args.name.now c.args.ops.now c.extend.new.ops c.slot-part.result slot c.args.context.length c.net-length.result.length c.args.context.signed
+    IfOk-weaker c.extend.result _ _ (λ slot x. built-signed-name c.requires.by_layer site.base site.scope.now site.slots.now c.args.name.now c.args.ops.now c.extend.new.ops c.slot-part.result slot c.args.context.length c.net-length.result.length c.args.context.signed
     c.slot-part.ensures e below (omega (arith, l, e, c.requires.longer)) c.requires.most (not-false c.args.context.signed c.if-not-context.false) x) c.extend.ensures

@@ -33,5 +33,5 @@ returns c =
     let few = c.requires.placed.few c.args.name.now here in
     let s = sound-part nets c.args.name.now c.args.high c.args.low c.requires.sound in
     let bits : c.args.high - c.args.low + 1 ≡ c.args.high + 1 - c.args.low = (let le = s.0 in omega (arith, le)) in
-    IfOk-weaker c.push.result _ _ (λ slot p. built-part c.meaning_by_layer.ensures.value site.base site.scope.now site.slots.now c.args.name.now c.args.high c.args.low c.args.ops.now c.push.new.ops c.slot-part.result slot c.args.context.length c.mask_of-mask.result c.args.context.signed
+    IfOk-weaker c.push.result _ _ (λ slot p. built-part c.requires.by_layer site.base site.scope.now site.slots.now c.args.name.now c.args.high c.args.low c.args.ops.now c.push.new.ops c.slot-part.result slot c.args.context.length c.mask_of-mask.result c.args.context.signed
     c.slot-part.ensures below (omega (arith, few, s.0, s.1)) (c.mask_of-mask.ensures ∙ ap (λ n. 2 ^ n - 1) bits) p) c.push.ensures
