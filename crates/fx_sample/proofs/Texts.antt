@@ -4,63 +4,64 @@ use Rattle.std.specs.Prelude.{codes, decimal}
 use Rattle.std.specs.List.{flat_map, range_with_len, sum_by}
 use Rattle.std.proofs.lemmas.List.Concat.{flat_map-append}
 use Rattle.std.proofs.lemmas.List.Sums.{sum_by_push}
-use Rattle.fx_sample.specs.ModelText.{parameter_text, block_head, section_end, source_text, target_text, type_parameter, gain_parameters, model_head, input_text, ends_text, end_lines, line_text, block_text}
+use Rattle.fx_sample.specs.Chain.{word_of}
+use Rattle.fx_sample.specs.ModelText.{parameter_text, block_head, section_end, source_text, target_text, type_parameter, model_head, input_text, ends_text, end_lines, line_text, block_text, chain_name, chain_text, parameters_of}
 use Rattle.fx_sample.specs.Summary.{number_line, made_lines}
+use Rattle.fx_sample.specs.declared.chain.ChainKind.{ChainKind}
 use Rattle.fx_sample.specs.declared.summing.Made.{Made}
-use Rattle.fx_io.proofs.Places.{three_appended, five_appended}
+use Rattle.fx_io.proofs.Places.{three_appended}
 
-pub head_appended : (old word name one two three four five : List ℕ) → one ≡ old ++ codes "    Block {\n" → two ≡ one ++ codes "      BlockType " → three ≡ two ++ word →
-    four ≡ three ++ codes "\n" → five ≡ four ++ parameter_text (codes "Name") name → five ≡ old ++ block_head word name
-unfolding block_head
-head_appended old word name = five_appended old (codes "    Block {\n") (codes "      BlockType ") word (codes "\n") (parameter_text (codes "Name") name)
+-- the pieces of a line from a block to a port of another
+line_pieces : (line own source quote from other target to port end last : List ℕ) → line ++ (own ++ (source ++ (quote ++ (from ++ (other ++ (target ++ (quote ++ (to ++ (port ++ (end ++ (last ++ []))))))))))) ≡
+    (line ++ (own ++ source ++ quote) ++ from) ++ ((other ++ target ++ quote) ++ to ++ port ++ end ++ last)
+line_pieces line own source quote from other target to port end last = simp (append_assoc, append-nil)
 
-pub source_appended : (old source one two three : List ℕ) → one ≡ old ++ codes "    Line {\n" → two ≡ one ++ parameter_text (codes "SrcBlock") source →
-    three ≡ two ++ codes "      SrcPort 1\n" → three ≡ old ++ source_text source
-unfolding source_text
-source_appended old source = three_appended old (codes "    Line {\n") (parameter_text (codes "SrcBlock") source) (codes "      SrcPort 1\n")
+pub line_put : (old source target digits new : List ℕ) (port : ℕ) → digits ≡ decimal port
+    → new ≡ old ++ (codes "    Line {\n" ++ (codes "      SrcBlock \"" ++ (source ++ (codes "\"\n" ++ (codes "      SrcPort 1\n" ++ (codes "      DstBlock \"" ++ (target ++ (codes "\"\n" ++ (codes "      DstPort " ++ (digits ++ (codes "\n" ++ (codes "    }\n" ++ []))))))))))))
+    → new ≡ old ++ line_text source target port
+unfolding source_text target_text parameter_text section_end
+line_put old source target digits new port is put =
+    put
+    ∙ ap (λ text. old ++ text) (line_pieces (codes "    Line {\n") (codes "      SrcBlock \"") source (codes "\"\n") (codes "      SrcPort 1\n") (codes "      DstBlock \"") target (codes "      DstPort ") digits (codes "\n") (codes "    }\n"))
+    ∙ ap (λ number. old ++ (source_text source ++ (parameter_text (codes "DstBlock") target ++ codes "      DstPort " ++ number ++ codes "\n" ++ section_end))) is
 
-pub target_appended : (old target : List ℕ) (port : ℕ) (one two three four five : List ℕ) → one ≡ old ++ parameter_text (codes "DstBlock") target → two ≡ one ++ codes "      DstPort " →
-    three ≡ two ++ decimal port → four ≡ three ++ codes "\n" → five ≡ four ++ section_end → five ≡ old ++ target_text target port
-unfolding target_text
-target_appended old target port = five_appended old (parameter_text (codes "DstBlock") target) (codes "      DstPort ") (decimal port) (codes "\n") section_end
+-- the pieces of a block
+block_pieces : (block type word end own name quote parameters last : List ℕ) → block ++ (type ++ (word ++ (end ++ (own ++ (name ++ (quote ++ (parameters ++ (last ++ [])))))))) ≡
+    (block ++ type ++ word ++ end ++ (own ++ name ++ quote)) ++ parameters ++ last
+block_pieces block type word end own name quote parameters last = simp (append_assoc, append-nil)
 
-pub gain_appended : (old one two three : List ℕ) → one ≡ old ++ parameter_text (codes "Gain") (codes "0.75") → two ≡ one ++ parameter_text (codes "ParamDataTypeStr") (codes "fixdt(1,16,14)") →
-    three ≡ two ++ type_parameter → three ≡ old ++ gain_parameters
-unfolding gain_parameters
-gain_appended old = three_appended old (parameter_text (codes "Gain") (codes "0.75")) (parameter_text (codes "ParamDataTypeStr") (codes "fixdt(1,16,14)")) type_parameter
+pub block_put : (old word name parameters new : List ℕ) (place : ℕ) (kind : ChainKind) → word ≡ word_of kind → name ≡ chain_name place → parameters ≡ parameters_of kind
+    → new ≡ old ++ (codes "    Block {\n" ++ (codes "      BlockType " ++ (word ++ (codes "\n" ++ (codes "      Name \"" ++ (name ++ (codes "\"\n" ++ (parameters ++ (codes "    }\n" ++ [])))))))))
+    → new ≡ old ++ chain_text place kind
+unfolding block_head parameter_text section_end
+block_put old word name parameters new place kind is_word is_name are put =
+    put
+    ∙ ap (λ text. old ++ text) (block_pieces (codes "    Block {\n") (codes "      BlockType ") word (codes "\n") (codes "      Name \"") name (codes "\"\n") parameters (codes "    }\n"))
+    ∙ ap (λ own. old ++ block_text own name parameters) is_word
+    ∙ ap (λ own. old ++ block_text (word_of kind) own parameters) is_name
+    ∙ ap (λ own. old ++ block_text (word_of kind) (chain_name place) own) are
 
-pub model_head_appended : (old one two three : List ℕ) → one ≡ old ++ codes "Model {\n" → two ≡ one ++ codes "  Name \"sample\"\n" → three ≡ two ++ codes "  System {\n" → three ≡ old ++ model_head
-unfolding model_head
-model_head_appended old = three_appended old (codes "Model {\n") (codes "  Name \"sample\"\n") (codes "  System {\n")
+pub start_put : (old new : List ℕ) → new ≡ old ++ (codes "Model {\n" ++ (codes "  Name \"sample\"\n" ++ (codes "  System {\n" ++ (codes "    Block {\n" ++ (codes "      BlockType Inport\n" ++ (codes "      Name \"In\"\n" ++
+    (codes "      OutDataTypeStr \"fixdt(1,16,8)\"\n" ++ (codes "      SampleTime \"1\"\n" ++ (codes "    }\n" ++ [])))))))))
+    → new ≡ old ++ (model_head ++ input_text)
+unfolding model_head input_text block_head parameter_text type_parameter section_end
+start_put old new put = put
 
--- a block of two parameters
-block_appended : (old head a b end one two three four : List ℕ) → one ≡ old ++ head → two ≡ one ++ a → three ≡ two ++ b → four ≡ three ++ end → four ≡ old ++ (head ++ (a ++ b) ++ end)
-block_appended old head a b end one two three four p q r s = rw (s, r, q, p) (simp append_assoc)
-
-pub input_appended : (old one two three four : List ℕ) → one ≡ old ++ block_head (codes "Inport") (codes "In") → two ≡ one ++ type_parameter →
-    three ≡ two ++ parameter_text (codes "SampleTime") (codes "1") → four ≡ three ++ section_end → four ≡ old ++ input_text
-unfolding input_text
-input_appended old = block_appended old (block_head (codes "Inport") (codes "In")) type_parameter (parameter_text (codes "SampleTime") (codes "1")) section_end
-
--- a block, one without parameters, and a block
-blocks_appended : (old a head end c one two three four : List ℕ) → one ≡ old ++ a → two ≡ one ++ head → three ≡ two ++ end → four ≡ three ++ c → four ≡ old ++ (a ++ (head ++ [] ++ end) ++ c)
-blocks_appended old a head end c one two three four p q r s = rw (s, r, q, p) (simp (append_assoc, append-nil))
-
-pub ends_appended : (old one two three four : List ℕ) → one ≡ old ++ block_text (codes "RateTransition") (codes "Down") (parameter_text (codes "OutPortSampleTime") (codes "2")) →
-    two ≡ one ++ block_head (codes "Outport") (codes "Out") → three ≡ two ++ section_end → four ≡ three ++ block_text (codes "Outport") (codes "Slow") (parameter_text (codes "Port") (codes "2")) →
-    four ≡ old ++ ends_text
-unfolding ends_text
-ends_appended old = blocks_appended old (block_text (codes "RateTransition") (codes "Down") (parameter_text (codes "OutPortSampleTime") (codes "2"))) (block_head (codes "Outport") (codes "Out")) section_end
-    (block_text (codes "Outport") (codes "Slow") (parameter_text (codes "Port") (codes "2")))
+pub ends_put : (old new : List ℕ) → new ≡ old ++ (codes "    Block {\n" ++ (codes "      BlockType RateTransition\n" ++ (codes "      Name \"Down\"\n" ++ (codes "      OutPortSampleTime \"2\"\n" ++ (codes "    }\n" ++
+    (codes "    Block {\n" ++ (codes "      BlockType Outport\n" ++ (codes "      Name \"Out\"\n" ++ (codes "    }\n" ++
+    (codes "    Block {\n" ++ (codes "      BlockType Outport\n" ++ (codes "      Name \"Slow\"\n" ++ (codes "      Port \"2\"\n" ++ (codes "    }\n" ++ []))))))))))))))
+    → new ≡ old ++ ends_text
+unfolding ends_text block_head parameter_text section_end
+ends_put old new put = put
 
 pub end_lines_appended : (old last one two three : List ℕ) → one ≡ old ++ line_text last (codes "Down") 1 → two ≡ one ++ line_text last (codes "Out") 1 →
     three ≡ two ++ line_text (codes "Down") (codes "Slow") 1 → three ≡ old ++ end_lines last
 unfolding end_lines
 end_lines_appended old last = three_appended old (line_text last (codes "Down") 1) (line_text last (codes "Out") 1) (line_text (codes "Down") (codes "Slow") 1)
 
-pub seven_appended : (old a b c d e f g one two three four five six seven : List ℕ) → one ≡ old ++ a → two ≡ one ++ b → three ≡ two ++ c → four ≡ three ++ d → five ≡ four ++ e → six ≡ five ++ f →
-    seven ≡ six ++ g → seven ≡ old ++ (a ++ b ++ c ++ d ++ e ++ f ++ g)
-seven_appended old a b c d e f g one two three four five six seven p q r s t u v = rw (v, u, t, s, r, q, p) (simp append_assoc)
+pub six_appended : (old a b c d e f one two three four five six : List ℕ) → one ≡ old ++ a → two ≡ one ++ b → three ≡ two ++ c → four ≡ three ++ d → five ≡ four ++ e → six ≡ five ++ f →
+    six ≡ old ++ (a ++ b ++ c ++ d ++ e ++ f)
+six_appended old a b c d e f one two three four five six p q r s t u = rw (u, t, s, r, q, p) (simp append_assoc)
 
 pub made_appended : (old : List ℕ) (made : Made) (one two three : List ℕ) → one ≡ old ++ number_line (codes "multiplications ") made.multiplications →
     two ≡ one ++ number_line (codes "latency Out ") made.out_latency → three ≡ two ++ number_line (codes "latency Slow ") made.slow_latency → three ≡ old ++ made_lines made

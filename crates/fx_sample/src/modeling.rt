@@ -1,12 +1,12 @@
 ghost use Rattle.std.specs.Prelude.{◌≡◌, ◌<◌, ◌≤◌, ◌++◌, ◌-◌, IfOk, OnOk, codes};
 ghost use Rattle.std.specs.List.{flat_map, range_with_len};
-ghost use Rattle.fx_sample.specs.ModelText.{block_text, chain_lines, chain_name as chain_name_of, chain_text, end_lines, ends_text, input_text, line_text, model_end, model_head, parameter_text, parameters_of, sample_model, type_parameter};
+ghost use Rattle.fx_sample.specs.ModelText.{chain_lines, chain_name as chain_name_of, chain_text, end_lines, ends_text, input_text, line_text, model_head, parameters_of, sample_model};
 ghost use Rattle.fx_sample.specs.Numbers.{greatest_sample};
 ghost use Rattle.fx_sample.specs.inner.Parts.{part_at, part_text};
 
 use crate::chain::ChainKind;
 use crate::numbers::number_after;
-use crate::pushing::{push_end, push_head, push_line, push_parameter};
+use crate::pushing::{push_each, push_line};
 use fx_io::{OutOfMemory, Text};
 use fx_text::push;
 use itoa::Buffer;
@@ -24,32 +24,19 @@ fn chain_name(alloc: Global, place: u32) -> Result<Text, OutOfMemory>
     letter.append(alloc, digits.format(place).as_bytes())
 }
 
-/// Puts the type of what the chain computes.
-#[tactic(auto, unfolding(crate::specs::ModelText::type_parameter))]
-fn push_type(text: &mut Vec<u8>) -> Result<(), OutOfMemory>
-    ensures { OnOk result (text.new.items ≡ text.old.items ++ type_parameter) }
-{
-    push_parameter(text, b"OutDataTypeStr", b"fixdt(1,16,8)")
-}
-
-fn push_gain(text: &mut Vec<u8>) -> Result<(), OutOfMemory>
-    ensures { OnOk result (text.new.items ≡ text.old.items ++ parameters_of ChainKind.Gain) }
-{
-    push_parameter(text, b"Gain", b"0.75")?;
-    push_parameter(text, b"ParamDataTypeStr", b"fixdt(1,16,14)")?;
-    push_type(text)
-}
-
-/// Puts the parameters of a block of the chain.
-fn push_parameters(text: &mut Vec<u8>, kind: ChainKind) -> Result<(), OutOfMemory>
-    ensures { OnOk result (text.new.items ≡ text.old.items ++ parameters_of kind) }
+/// The parameters of a block of the chain.
+#[tactic(auto, unfolding(crate::specs::ModelText::parameter_text, crate::specs::ModelText::type_parameter, crate::specs::ModelText::gain_parameters))]
+fn parameters(kind: ChainKind) -> &'static [u8]
+    ensures { result.now ≡ parameters_of kind }
 {
     match kind {
-        ChainKind::Delay => push_parameter(text, b"InitialCondition", b"1"),
-        ChainKind::Sum => push_type(text),
-        ChainKind::Gain => push_gain(text),
-        ChainKind::Product => push_type(text),
-        ChainKind::Switch => push_type(text),
+        ChainKind::Delay => b"      InitialCondition \"1\"\n",
+        ChainKind::Gain => {
+            b"      Gain \"0.75\"\n      ParamDataTypeStr \"fixdt(1,16,14)\"\n      OutDataTypeStr \"fixdt(1,16,8)\"\n"
+        }
+        ChainKind::Sum | ChainKind::Product | ChainKind::Switch => {
+            b"      OutDataTypeStr \"fixdt(1,16,8)\"\n"
+        }
     }
 }
 
@@ -65,17 +52,34 @@ fn push_block(alloc: Global, text: &mut Vec<u8>, link: Link) -> Result<(), OutOf
     ensures { OnOk result (text.new.items ≡ text.old.items ++ chain_text link.place link.kind) }
 {
     let name = chain_name(alloc, link.place)?;
-    push_head(text, link.kind.word(), name.bytes())?;
-    push_parameters(text, link.kind)?;
-    push_end(text)
+    push_each(
+        text,
+        &[
+            b"    Block {\n",
+            b"      BlockType ",
+            link.kind.word(),
+            b"\n",
+            b"      Name \"",
+            name.bytes(),
+            b"\"\n",
+            parameters(link.kind),
+            b"    }\n",
+        ],
+    )
 }
 
-/// Puts the lines from the input to the ports of a block from 2 on.
-fn push_more(text: &mut Vec<u8>, name: &[u8], more: u64) -> Result<(), OutOfMemory>
+/// Puts the line from a block to the first port of another, and those from the input to so many more.
+fn push_lines_to(
+    text: &mut Vec<u8>,
+    source: &[u8],
+    name: &[u8],
+    more: u64,
+) -> Result<(), OutOfMemory>
     requires { more ≤ 2 }
-    ensures { OnOk result (text.new.items
-        ≡ text.old.items ++ flat_map (line_text (codes "In") name.now) (range_with_len 2 more)) }
+    ensures { OnOk result (text.new.items ≡ text.old.items ++ (line_text source.now name.now 1
+        ++ flat_map (line_text (codes "In") name.now) (range_with_len 2 more))) }
 {
+    push_line(text, source, name, 1)?;
     for port in 0..more {
         push_line(text, b"In", name, port + 2)?;
     }
@@ -89,8 +93,7 @@ fn push_lines_into(alloc: Global, text: &mut Vec<u8>, link: Link) -> Result<(), 
 {
     let source = chain_name(alloc, link.place - 1)?;
     let name = chain_name(alloc, link.place)?;
-    push_line(text, source.bytes(), name.bytes(), 1)?;
-    push_more(text, name.bytes(), link.kind.inputs() - 1)
+    push_lines_to(text, source.bytes(), name.bytes(), link.kind.inputs() - 1)
 }
 
 /// What is put of each block of the chain: itself, or the lines into it.
@@ -127,56 +130,49 @@ fn push_chain(alloc: Global, text: &mut Vec<u8>, part: Part, count: u32) -> Resu
     Ok(())
 }
 
-/// Puts what stands before the blocks.
-fn push_model_head(text: &mut Vec<u8>) -> Result<(), OutOfMemory>
-    ensures { OnOk result (text.new.items ≡ text.old.items ++ model_head) }
+/// Puts what stands before the blocks of the chain, with the input.
+fn push_start(text: &mut Vec<u8>) -> Result<(), OutOfMemory>
+    ensures { OnOk result (text.new.items ≡ text.old.items ++ (model_head ++ input_text)) }
 {
-    push(text, b"Model {\n")?;
-    push(text, b"  Name \"sample\"\n")?;
-    push(text, b"  System {\n")
-}
-
-/// Puts what stands behind the lines.
-#[tactic(auto, unfolding(crate::specs::ModelText::model_end))]
-fn push_model_end(text: &mut Vec<u8>) -> Result<(), OutOfMemory>
-    ensures { OnOk result (text.new.items ≡ text.old.items ++ model_end) }
-{
-    push(text, b"  }\n}\n")
-}
-
-/// Puts the input.
-fn push_input(text: &mut Vec<u8>) -> Result<(), OutOfMemory>
-    ensures { OnOk result (text.new.items ≡ text.old.items ++ input_text) }
-{
-    push_head(text, b"Inport", b"In")?;
-    push_type(text)?;
-    push_parameter(text, b"SampleTime", b"1")?;
-    push_end(text)
-}
-
-/// Puts a block of one parameter, whose value is 2.
-fn push_end_block(
-    text: &mut Vec<u8>,
-    word: &[u8],
-    name: &[u8],
-    parameter: &[u8],
-) -> Result<(), OutOfMemory>
-    ensures { OnOk result (text.new.items ≡ text.old.items
-        ++ block_text word.now name.now (parameter_text parameter.now (codes "2"))) }
-{
-    push_head(text, word, name)?;
-    push_parameter(text, parameter, b"2")?;
-    push_end(text)
+    push_each(
+        text,
+        &[
+            b"Model {\n",
+            b"  Name \"sample\"\n",
+            b"  System {\n",
+            b"    Block {\n",
+            b"      BlockType Inport\n",
+            b"      Name \"In\"\n",
+            b"      OutDataTypeStr \"fixdt(1,16,8)\"\n",
+            b"      SampleTime \"1\"\n",
+            b"    }\n",
+        ],
+    )
 }
 
 /// Puts the blocks behind the chain.
 fn push_ends(text: &mut Vec<u8>) -> Result<(), OutOfMemory>
     ensures { OnOk result (text.new.items ≡ text.old.items ++ ends_text) }
 {
-    push_end_block(text, b"RateTransition", b"Down", b"OutPortSampleTime")?;
-    push_head(text, b"Outport", b"Out")?;
-    push_end(text)?;
-    push_end_block(text, b"Outport", b"Slow", b"Port")
+    push_each(
+        text,
+        &[
+            b"    Block {\n",
+            b"      BlockType RateTransition\n",
+            b"      Name \"Down\"\n",
+            b"      OutPortSampleTime \"2\"\n",
+            b"    }\n",
+            b"    Block {\n",
+            b"      BlockType Outport\n",
+            b"      Name \"Out\"\n",
+            b"    }\n",
+            b"    Block {\n",
+            b"      BlockType Outport\n",
+            b"      Name \"Slow\"\n",
+            b"      Port \"2\"\n",
+            b"    }\n",
+        ],
+    )
 }
 
 /// Puts the lines into the blocks behind the chain.
@@ -193,14 +189,13 @@ fn push_model(alloc: Global, text: &mut Vec<u8>, count: u32) -> Result<(), OutOf
     requires { count ≤ greatest_sample }
     ensures { OnOk result (text.new.items ≡ text.old.items ++ sample_model count) }
 {
-    push_model_head(text)?;
-    push_input(text)?;
+    push_start(text)?;
     push_chain(alloc, text, Part::Block, count)?;
     push_ends(text)?;
     push_chain(alloc, text, Part::Lines, count)?;
     let last = chain_name(alloc, count)?;
     push_end_lines(text, last.bytes())?;
-    push_model_end(text)
+    push(text, b"  }\n}\n")
 }
 
 /// The model text with a chain of so many blocks: an input of 16 bits, the chain, a transition to twice

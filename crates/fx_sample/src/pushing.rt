@@ -1,10 +1,24 @@
 // Parts of texts, each put at the end.
 ghost use Rattle.std.specs.Prelude.{◌≡◌, ◌++◌, OnOk};
-ghost use Rattle.fx_sample.specs.ModelText.{parameter_text, block_head, section_end, source_text, target_text, line_text};
+ghost use Rattle.std.specs.List.{flat_map};
+ghost use Rattle.fx_sample.specs.ModelText.{line_text};
 ghost use Rattle.fx_sample.specs.Summary.{number_line};
 
 use fx_io::OutOfMemory;
 use fx_text::{push, push_number};
+use itoa::Buffer;
+
+/// Puts pieces, one after another.
+pub fn push_each(text: &mut Vec<u8>, pieces: &[&[u8]]) -> Result<(), OutOfMemory>
+    ensures { OnOk result (text.new.items
+        ≡ text.old.items ++ flat_map (λ piece. piece.now) pieces.now) }
+{
+    let Some((piece, more)) = pieces.split_first() else {
+        return Ok(());
+    };
+    push(text, piece)?;
+    push_each(text, more)
+}
 
 /// Puts a line with a number behind its word.
 #[tactic(auto, unfolding(crate::specs::Summary::number_line))]
@@ -14,56 +28,6 @@ pub fn push_number_line(text: &mut Vec<u8>, word: &[u8], number: u64) -> Result<
     push(text, word)?;
     push_number(text, number)?;
     push(text, b"\n")
-}
-
-/// Puts the line of a parameter.
-#[tactic(auto, unfolding(crate::specs::ModelText::parameter_text))]
-pub fn push_parameter(text: &mut Vec<u8>, name: &[u8], value: &[u8]) -> Result<(), OutOfMemory>
-    ensures { OnOk result (text.new.items
-        ≡ text.old.items ++ parameter_text name.now value.now) }
-{
-    push(text, b"      ")?;
-    push(text, name)?;
-    push(text, b" \"")?;
-    push(text, value)?;
-    push(text, b"\"\n")
-}
-
-/// Puts the lines with which a block begins.
-pub fn push_head(text: &mut Vec<u8>, word: &[u8], name: &[u8]) -> Result<(), OutOfMemory>
-    ensures { OnOk result (text.new.items ≡ text.old.items ++ block_head word.now name.now) }
-{
-    push(text, b"    Block {\n")?;
-    push(text, b"      BlockType ")?;
-    push(text, word)?;
-    push(text, b"\n")?;
-    push_parameter(text, b"Name", name)
-}
-
-/// Puts the line with which a block or a line ends.
-#[tactic(auto, unfolding(crate::specs::ModelText::section_end))]
-pub fn push_end(text: &mut Vec<u8>) -> Result<(), OutOfMemory>
-    ensures { OnOk result (text.new.items ≡ text.old.items ++ section_end) }
-{
-    push(text, b"    }\n")
-}
-
-fn push_source(text: &mut Vec<u8>, source: &[u8]) -> Result<(), OutOfMemory>
-    ensures { OnOk result (text.new.items ≡ text.old.items ++ source_text source.now) }
-{
-    push(text, b"    Line {\n")?;
-    push_parameter(text, b"SrcBlock", source)?;
-    push(text, b"      SrcPort 1\n")
-}
-
-fn push_target(text: &mut Vec<u8>, target: &[u8], port: u64) -> Result<(), OutOfMemory>
-    ensures { OnOk result (text.new.items ≡ text.old.items ++ target_text target.now port) }
-{
-    push_parameter(text, b"DstBlock", target)?;
-    push(text, b"      DstPort ")?;
-    push_number(text, port)?;
-    push(text, b"\n")?;
-    push_end(text)
 }
 
 /// Puts a line from output port 1 of a block to a port of another.
@@ -76,6 +40,22 @@ pub fn push_line(
     ensures { OnOk result (text.new.items
         ≡ text.old.items ++ line_text source.now target.now port) }
 {
-    push_source(text, source)?;
-    push_target(text, target, port)
+    let mut digits = Buffer::new();
+    push_each(
+        text,
+        &[
+            b"    Line {\n",
+            b"      SrcBlock \"",
+            source,
+            b"\"\n",
+            b"      SrcPort 1\n",
+            b"      DstBlock \"",
+            target,
+            b"\"\n",
+            b"      DstPort ",
+            digits.format(port).as_bytes(),
+            b"\n",
+            b"    }\n",
+        ],
+    )
 }
