@@ -27,6 +27,7 @@ pub mod SoundParts
 pub mod SoundPorts
 pub mod SoundSearch
 pub mod SoundTree
+pub mod TypeNumbers
 mod Zeros
 pub mod OneSetting
 pub mod OneNested

@@ -89,7 +89,7 @@ standing_read items place parent system enabled own b inner there within are rea
 
 -- ---- the defaults of a type
 
-type_here : (block_type : BlockType) → slice_get block_types (number_of block_type) ≡ Some block_type
+pub type_here : (block_type : BlockType) → slice_get block_types (number_of block_type) ≡ Some block_type
 type_here Inport = refl
 type_here Outport = refl
 type_here Constant = refl

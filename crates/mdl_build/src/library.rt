@@ -5,6 +5,8 @@
 ghost use Rattle.std.specs.Prelude.{◌≡◌, map};
 ghost use Rattle.mdl_build.specs.Library.{row_of, parameters_of, number_of, type_name, type_of_name};
 
+use mdl_values::value_beside;
+
 /// A block type (Simulink reference, block library).
 #[derive(Clone, Copy)]
 pub enum BlockType {
@@ -271,67 +273,6 @@ const ENABLE_PORT: &[Parameter] = &[
 /// How many block types there are.
 pub const TYPES: usize = 19;
 
-/// The parameters that are read of a block type, in the order in which they are tried (Simulink
-/// reference, each block's page; the defaults are own).
-pub fn parameters(block_type: BlockType) -> &'static [Parameter]
-    ensures { map row_of result.now ≡ parameters_of block_type }
-{
-    match block_type {
-        BlockType::Inport => INPORT,
-        BlockType::Outport => OUTPORT,
-        BlockType::Constant => CONSTANT,
-        BlockType::Ground | BlockType::Terminator => &[],
-        BlockType::Sum => SUM,
-        BlockType::Gain => GAIN,
-        BlockType::Product => PRODUCT,
-        BlockType::UnitDelay => UNIT_DELAY,
-        BlockType::Delay => DELAY,
-        BlockType::Switch => SWITCH,
-        BlockType::RelationalOperator => RELATIONAL_OPERATOR,
-        BlockType::Logic => LOGIC,
-        BlockType::DataTypeConversion => DATA_TYPE_CONVERSION,
-        BlockType::Mux => MUX,
-        BlockType::Demux => DEMUX,
-        BlockType::RateTransition => RATE_TRANSITION,
-        BlockType::SubSystem => SUB_SYSTEM,
-        BlockType::EnablePort => ENABLE_PORT,
-    }
-}
-
-/// The place of a block type among all of them.
-pub fn number_of(block_type: BlockType) -> usize
-    ensures { result ≡ number_of block_type }
-{
-    block_type as usize
-}
-
-/// The name of a block type.
-pub fn type_name(block_type: BlockType) -> &'static str
-    ensures { result.now ≡ type_name block_type }
-{
-    match block_type {
-        BlockType::Inport => "Inport",
-        BlockType::Outport => "Outport",
-        BlockType::Constant => "Constant",
-        BlockType::Ground => "Ground",
-        BlockType::Terminator => "Terminator",
-        BlockType::Sum => "Sum",
-        BlockType::Gain => "Gain",
-        BlockType::Product => "Product",
-        BlockType::UnitDelay => "UnitDelay",
-        BlockType::Delay => "Delay",
-        BlockType::Switch => "Switch",
-        BlockType::RelationalOperator => "RelationalOperator",
-        BlockType::Logic => "Logic",
-        BlockType::DataTypeConversion => "DataTypeConversion",
-        BlockType::Mux => "Mux",
-        BlockType::Demux => "Demux",
-        BlockType::RateTransition => "RateTransition",
-        BlockType::SubSystem => "SubSystem",
-        BlockType::EnablePort => "EnablePort",
-    }
-}
-
 /// All block types, each at its number.
 pub const BLOCK_TYPES: [BlockType; TYPES] = [
     BlockType::Inport,
@@ -355,12 +296,79 @@ pub const BLOCK_TYPES: [BlockType; TYPES] = [
     BlockType::EnablePort,
 ];
 
+/// The name of each block type, at its number.
+const NAMES: &[(&str, BlockType)] = &[
+    ("Inport", BlockType::Inport),
+    ("Outport", BlockType::Outport),
+    ("Constant", BlockType::Constant),
+    ("Ground", BlockType::Ground),
+    ("Terminator", BlockType::Terminator),
+    ("Sum", BlockType::Sum),
+    ("Gain", BlockType::Gain),
+    ("Product", BlockType::Product),
+    ("UnitDelay", BlockType::UnitDelay),
+    ("Delay", BlockType::Delay),
+    ("Switch", BlockType::Switch),
+    ("RelationalOperator", BlockType::RelationalOperator),
+    ("Logic", BlockType::Logic),
+    ("DataTypeConversion", BlockType::DataTypeConversion),
+    ("Mux", BlockType::Mux),
+    ("Demux", BlockType::Demux),
+    ("RateTransition", BlockType::RateTransition),
+    ("SubSystem", BlockType::SubSystem),
+    ("EnablePort", BlockType::EnablePort),
+];
+
+/// The parameters that are read of each block type, at its number.
+const PARAMETERS: &[&[Parameter]] = &[
+    INPORT,
+    OUTPORT,
+    CONSTANT,
+    &[],
+    &[],
+    SUM,
+    GAIN,
+    PRODUCT,
+    UNIT_DELAY,
+    DELAY,
+    SWITCH,
+    RELATIONAL_OPERATOR,
+    LOGIC,
+    DATA_TYPE_CONVERSION,
+    MUX,
+    DEMUX,
+    RATE_TRANSITION,
+    SUB_SYSTEM,
+    ENABLE_PORT,
+];
+
+/// The parameters that are read of a block type, in the order in which they are tried (Simulink
+/// reference, each block's page; the defaults are own).
+pub fn parameters(block_type: BlockType) -> &'static [Parameter]
+    ensures { map row_of result.now ≡ parameters_of block_type }
+{
+    let number = number_of(block_type);
+    PARAMETERS[number]
+}
+
+/// The place of a block type among all of them.
+pub fn number_of(block_type: BlockType) -> usize
+    ensures { result ≡ number_of block_type }
+{
+    block_type as usize
+}
+
+/// The name of a block type.
+pub fn type_name(block_type: BlockType) -> &'static str
+    ensures { result.now ≡ type_name block_type }
+{
+    let number = number_of(block_type);
+    NAMES[number].0
+}
+
 /// The block type of a name.
 pub fn type_of_name(name: &[u8]) -> Option<BlockType>
     ensures { result ≡ type_of_name name.now }
 {
-    BLOCK_TYPES
-        .iter()
-        .copied()
-        .find(|block_type| type_name(*block_type).as_bytes() == name)
+    value_beside(NAMES, name)
 }

@@ -94,13 +94,11 @@ pub fn truth(text: &[u8], default: &[u8]) -> Option<Setting>
 pub fn factors(text: &[u8]) -> Option<Setting>
     ensures { Finds (ReadsAs false Reader.Factors [] text.now) result }
 {
-    if text == b"2".as_slice() {
-        return Some(Setting::Unsaid);
+    if text == b"2".as_slice() || text == b"**".as_slice() {
+        Some(Setting::Unsaid)
+    } else {
+        None
     }
-    if text == b"**".as_slice() {
-        return Some(Setting::Unsaid);
-    }
-    None
 }
 
 /// The default, or `Stored Integer (SI)`.
