@@ -1,10 +1,10 @@
 -- Blanks at the end of a value.
-use Rattle.std.proofs.Common.{◌≡◌, ℕ, ◌+◌, ◌<◌, ◌-◌, ◌≤◌, length, get_or, take, Bool, true, false, cond, List, [], ◌∷◌, ◌++◌, refl, sym, ◌∙◌, ap, arith, one-add, append-nil, true≢false}
+use Rattle.std.proofs.Common.{◌≡◌, ℕ, ◌+◌, ◌<◌, ◌-◌, ◌≤◌, length, get_or, take, drop, Bool, true, false, cond, List, [], ◌∷◌, ◌++◌, refl, sym, ◌∙◌, ap, arith, one-add, append-nil, true≢false}
 use Rattle.std.specs.Prelude.{◌&&◌}
 use Rattle.std.specs.List.{list_all, prefix_len}
 use Rattle.std.proofs.lemmas.Bool.{and_parts}
 use Rattle.std.proofs.lemmas.List.Folds.{list_all-append}
-use Rattle.std.proofs.lemmas.List.{take_more}
+use Rattle.std.proofs.lemmas.List.{at_drop_more, take_more}
 use Rattle.mdl_text.specs.Bytes.{is_blank, is_name_byte, AreBlanks}
 use Rattle.mdl_text.specs.inner.Plain.{trimmed, unblanked}
 use Rattle.fx_io.proofs.Tests.{and_false}
@@ -168,3 +168,11 @@ trimmed_after (x ∷ l) after h =
 -- a value with blanks after it is left alone
 pub trimmed_value : (front : List ℕ) (last : ℕ) (after : List ℕ) → AreBlanks after → is_blank last ≡ false → trimmed ((front ++ last ∷ []) ++ after) ≡ front ++ last ∷ []
 trimmed_value front last after blanks stays = trimmed_after (front ++ last ∷ []) after blanks ∙ trimmed_kept front last stays
+
+-- how far the bytes of a kind go on from a place
+pub prefix_here : (p : ℕ → Bool) (text : List ℕ) (i : ℕ) (b : Bool) → i < length text → p (get_or text i 0) ≡ b → prefix_len p (drop i text) ≡ cond b (1 + prefix_len p (drop (i + 1) text)) 0
+prefix_here p text i b inside is = at_drop_more (prefix_len p) text i 0 inside ∙ ap (λ (b : Bool). cond b (1 + prefix_len p (drop (i + 1) text)) 0) is
+
+-- whether all from a place on are of a kind
+pub all_here : (p : ℕ → Bool) (text : List ℕ) (i : ℕ) (b : Bool) → i < length text → p (get_or text i 0) ≡ b → list_all p (drop i text) ≡ (b && list_all p (drop (i + 1) text))
+all_here p text i b inside is = at_drop_more (list_all p) text i 0 inside ∙ ap (λ (b : Bool). b && list_all p (drop (i + 1) text)) is

@@ -66,9 +66,8 @@ pub fn list_end(nesting: u64, line: &[u8]) -> ListEnd
         }
     }
     let Spot { place, nesting } = spot;
-    if place == Place::Outside {
-        ListEnd::Open { nesting }
-    } else {
-        ListEnd::Broken
+    match place {
+        Place::Outside => ListEnd::Open { nesting },
+        Place::Inside | Place::Escaped => ListEnd::Broken,
     }
 }

@@ -1,13 +1,13 @@
-ghost use Rattle.std.specs.Prelude.{◌≡◌, ◌≤◌, [], ◌++◌, codes, length, IfOk, OnOk};
+ghost use Rattle.std.specs.Prelude.{◌≡◌, ◌≤◌, [], ◌++◌, codes, length, take, drop, IfOk, OnOk};
 ghost use Rattle.mdl_text.specs.declared.reader.Pending.TheVariants.{Nothing};
 ghost use Rattle.mdl_text.specs.inner.Content.{value_of};
-ghost use Rattle.mdl_text.specs.inner.Plain.{IsBounded, goes_on, reader_strings, added, opened, closed, listed, valued, after_name, named, fresh_text, if_closed, unblanked, strings_from, start, step, finish};
+ghost use Rattle.mdl_text.specs.inner.Plain.{IsBounded, goes_on, reader_strings, added, opened, closed, listed, valued, after_name, fresh_text, if_closed, unblanked, strings_from, start, step, finish};
 
 use crate::brackets::{ListEnd, list_end};
 use crate::kind::Kind;
 use crate::said::{Piece, Said};
 use crate::scan::{are_blanks, line_text, name_length, trim_end, trim_start};
-use crate::strings::{plain_string, text_with_strings};
+use crate::strings::{plain_string, strings};
 use crate::tree::{Item, Items};
 use fx_io::{OutOfMemory, Text};
 use std::alloc::Global;
@@ -128,35 +128,39 @@ impl<'a> Reader<'a> {
         true
     }
 
-    /// A list goes on over the line.
+    /// A list goes on over the line, behind so many bytes that stand there already.
     #[tactic(auto, unfolding(crate::specs::inner::Plain::listed))]
     fn list(
         &mut self,
         alloc: Global,
-        name: &'a [u8],
+        name: Piece<'a>,
         said: Said<'a>,
         nesting: u64,
         line: &'a [u8],
+        begun: usize,
     ) -> Result<bool, OutOfMemory>
         requires free { self.old.pending ≡ Nothing }
         requires within { nesting ≤ length said }
-        ensures { IfOk result (λ good.
-            listed self.old.draft name.now said.entry nesting line.now ≡ goes_on good self.new) }
+        requires begun { begun ≤ length line.now }
+        ensures { IfOk result (λ good. listed self.old.draft name.entry
+            (said.entry ++ take begun line.now) nesting (drop begun line.now)
+            ≡ goes_on good self.new) }
     {
-        match list_end(nesting, line) {
+        let (_, rest) = line.split_at(begun);
+        match list_end(nesting, rest) {
             ListEnd::Closed { taken } => {
-                if !are_blanks(&line[taken..]) {
+                if !are_blanks(&rest[taken..]) {
                     drop(said);
                     return Ok(false);
                 }
-                let list = said.with(alloc, &line[..taken])?;
-                self.draft.add(alloc, name, Kind::List, list)?;
+                let list = said.with(alloc, &line[..begun + taken])?;
+                self.draft.add(alloc, name.bytes(), Kind::List, list)?;
                 Ok(true)
             }
             ListEnd::Open { nesting } => {
                 let said = said.with(alloc, line)?.with(alloc, b"\n")?;
                 self.hold(Pending::Open {
-                    name: Piece::new(name),
+                    name,
                     said,
                     nesting,
                 });
@@ -169,81 +173,48 @@ impl<'a> Reader<'a> {
         }
     }
 
-    /// A list begins with the value, of which the bytes after its first bracket are given too.
-    #[tactic(auto, unfolding(crate::specs::inner::Plain::listed))]
-    fn first_list(
-        &mut self,
-        alloc: Global,
-        name: &'a [u8],
-        value: &'a [u8],
-        after: &'a [u8],
-    ) -> Result<bool, OutOfMemory>
-        requires free { self.old.pending ≡ Nothing }
-        requires bracket { value.now ≡ codes "[" ++ after.now }
-        ensures { IfOk result (λ good.
-            listed self.old.draft name.now (codes "[") 0 after.now ≡ goes_on good self.new) }
-    {
-        match list_end(0, after) {
-            ListEnd::Closed { taken } => {
-                if !are_blanks(&after[taken..]) {
-                    return Ok(false);
-                }
-                let list = Said::from_piece(&value[..taken + 1]);
-                self.draft.add(alloc, name, Kind::List, list)?;
-                Ok(true)
-            }
-            ListEnd::Open { nesting } => {
-                let said = Said::from_piece(value).with(alloc, b"\n")?;
-                self.hold(Pending::Open {
-                    name: Piece::new(name),
-                    said,
-                    nesting,
-                });
-                Ok(true)
-            }
-            ListEnd::Broken => Ok(false),
-        }
-    }
-
     /// A quoted value after what it said so far, of which the bytes on this line are given.
     fn quoted_value(
         &mut self,
         alloc: Global,
-        name: &'a [u8],
+        name: Piece<'a>,
         said: Said<'a>,
         bytes: &'a [u8],
     ) -> Result<bool, OutOfMemory>
         requires { self.old.pending ≡ Nothing }
         ensures { IfOk result (λ good.
-            reader_strings self.old.draft name.now (strings_from said.entry bytes.now)
+            reader_strings self.old.draft name.entry (strings_from said.entry bytes.now)
             ≡ goes_on good self.new) }
     {
-        match text_with_strings(alloc, said, bytes)? {
-            None => Ok(false),
-            Some(said) => {
-                let name = Piece::new(name);
-                self.hold(Pending::Strings { name, said });
-                Ok(true)
-            }
+        let mut gathered = said.into_vec(alloc)?;
+        if !strings(&mut gathered, bytes)? {
+            return Ok(false);
         }
+        self.hold(Pending::Strings {
+            name,
+            said: Said::from_vec(gathered),
+        });
+        Ok(true)
     }
 
-    /// A quoted value that begins on this line. Most are one string without backslashes.
+    /// A quoted value that begins on this line, of which the bytes behind its first quote are given
+    /// too. Most are one string without backslashes.
     fn first_quoted_value(
         &mut self,
         alloc: Global,
-        name: &'a [u8],
+        name: Piece<'a>,
         value: &'a [u8],
+        inner: &'a [u8],
     ) -> Result<bool, OutOfMemory>
-        requires { self.old.pending ≡ Nothing }
+        requires free { self.old.pending ≡ Nothing }
+        requires quote { value.now ≡ codes "\"" ++ inner.now }
         ensures { IfOk result (λ good.
-            reader_strings self.old.draft name.now (strings_from [] value.now)
+            reader_strings self.old.draft name.entry (strings_from [] value.now)
             ≡ goes_on good self.new) }
     {
-        match plain_string(value) {
+        match plain_string(inner) {
             None => self.quoted_value(alloc, name, Said::from_piece(b""), value),
             Some(text) => {
-                let name = Piece::new(name);
                 let said = Said::from_piece(text);
                 self.hold(Pending::Strings { name, said });
                 Ok(true)
@@ -260,8 +231,8 @@ impl<'a> Reader<'a> {
     {
         match value {
             [] => Ok(false),
-            [b'"', ..] => self.first_quoted_value(alloc, name, value),
-            [b'[', after @ ..] => self.first_list(alloc, name, value, after),
+            [b'"', inner @ ..] => self.first_quoted_value(alloc, Piece::new(name), value, inner),
+            [b'[', ..] => self.list(alloc, Piece::new(name), Said::from_piece(b""), 0, value, 1),
             _ => {
                 let value = Said::from_piece(trim_end(value));
                 self.draft.add(alloc, name, Kind::Bare, value)?;
@@ -295,21 +266,8 @@ impl<'a> Reader<'a> {
         }
     }
 
-    /// A line that begins with a name.
-    #[tactic(auto, unfolding(crate::specs::inner::Plain::named))]
-    fn named_line(&mut self, alloc: Global, text: &'a [u8]) -> Result<bool, OutOfMemory>
-        requires { self.old.pending ≡ Nothing }
-        ensures { IfOk result (λ good.
-            named self.old.draft text.now ≡ goes_on good self.new) }
-    {
-        let count = name_length(text);
-        if count == 0 {
-            return Ok(false);
-        }
-        self.after_name(alloc, &text[..count], &text[count..])
-    }
-
     /// A line that goes on with nothing, from its first byte that is no blank.
+    #[tactic(auto, unfolding(crate::specs::inner::Plain::named))]
     fn fresh(&mut self, alloc: Global, text: &'a [u8]) -> Result<bool, OutOfMemory>
         requires { self.old.pending ≡ Nothing }
         ensures { IfOk result (λ good.
@@ -318,7 +276,13 @@ impl<'a> Reader<'a> {
         match text {
             [] | [b'#', ..] => Ok(true),
             [b'}', after @ ..] => Ok(self.close(after)),
-            _ => self.named_line(alloc, text),
+            _ => {
+                let count = name_length(text);
+                if count == 0 {
+                    return Ok(false);
+                }
+                self.after_name(alloc, &text[..count], &text[count..])
+            }
         }
     }
 
@@ -356,9 +320,9 @@ impl<'a> Reader<'a> {
                 name,
                 said,
                 nesting,
-            } => self.list(alloc, name.bytes(), said, nesting, line),
+            } => self.list(alloc, name, said, nesting, line, 0),
             Pending::Strings { name, said } => match text {
-                [b'"', ..] => self.quoted_value(alloc, name.bytes(), said, text),
+                [b'"', ..] => self.quoted_value(alloc, name, said, text),
                 _ => {
                     self.draft.add(alloc, name.bytes(), Kind::Quoted, said)?;
                     self.fresh(alloc, text)

@@ -100,16 +100,10 @@ impl<'a> Said<'a> {
     pub fn with(self, alloc: Global, bytes: &'a [u8]) -> Result<Said<'a>, OutOfMemory>
         ensures { IfOk result (λ said. said ≡ self.entry ++ bytes.now) }
     {
-        let Said { stored } = self;
-        let mut all = match stored {
-            Stored::Lent(piece) => {
-                if piece.bytes().is_empty() {
-                    return Ok(Said::from_piece(bytes));
-                }
-                Vec::from_slice(alloc, piece.bytes())?
-            }
-            Stored::Gathered(all) => all,
-        };
+        let mut all = self.into_vec(alloc)?;
+        if all.is_empty() {
+            return Ok(Said::from_piece(bytes));
+        }
         all.extend_from_slice(bytes)?;
         Ok(Said::from_vec(all))
     }

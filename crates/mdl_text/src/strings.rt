@@ -1,18 +1,16 @@
-ghost use Rattle.std.specs.Prelude.{◌≡◌, ◌≤◌, ◌++◌, ℕ, List, length, cond, IfOk, IfSome, MatchOption, Some, None};
+ghost use Rattle.std.specs.Prelude.{◌≡◌, ◌≤◌, ◌++◌, ℕ, List, codes, length, cond, IfOk, IfSome, MatchOption, Some, None};
 ghost use Rattle.mdl_text.specs.declared.strings.Place.TheVariants.{Inside};
 ghost use Rattle.mdl_text.specs.inner.Plain.{string_step, strings, strings_from};
 
-use crate::said::Said;
 use crate::scan::{are_blanks, is_blank};
 use fx_io::OutOfMemory;
 use fx_text::{plain_length, push_escaped};
-use std::alloc::Global;
 
 /// Room for so many bytes is made at once.
 const USUAL_LENGTH: usize = 64;
 
 /// Where a byte stands, beside quotes: outside of a string, in one, or after a backslash in one.
-#[derive(Clone, Copy, PartialEq, Eq)]
+#[derive(Clone, Copy)]
 pub enum Place {
     Outside,
     Inside,
@@ -49,17 +47,16 @@ fn string_step(place: Place, said: &mut Vec<u8>, byte: u8) -> Result<Option<Plac
     }
 }
 
-/// The text of a string without backslashes that has blanks alone after it. `None` where the bytes
-/// have another form.
+/// The text of a string without backslashes that has blanks alone after it, behind its first quote.
+/// `None` where the bytes have another form.
 #[tactic(auto, using(crate::proofs::PlainRuns::one_string))]
-pub fn plain_string(bytes: &[u8]) -> Option<&[u8]>
-    ensures { IfSome result (λ text.
-        (said : List ℕ) → strings_from said bytes.now ≡ Some (said ++ text.now)) }
+pub fn plain_string(inner: &[u8]) -> Option<&[u8]>
+    ensures { IfSome result (λ text. (said : List ℕ) →
+        strings_from said (codes "\"" ++ inner.now) ≡ Some (said ++ text.now)) }
 {
-    let (first, inner) = bytes.split_first()?;
     let (text, behind) = inner.split_at(plain_length(inner));
     let (last, after) = behind.split_first()?;
-    if *first == b'"' && *last == b'"' && are_blanks(after) {
+    if *last == b'"' && are_blanks(after) {
         Some(text)
     } else {
         None
@@ -81,7 +78,7 @@ fn take_plain<'a>(said: &mut Vec<u8>, bytes: &'a [u8]) -> Result<&'a [u8], OutOf
 
 /// Reads quoted strings with blanks between and after, and puts what they say at the end of `said`.
 /// `false` where the bytes are none.
-fn strings(said: &mut Vec<u8>, bytes: &[u8]) -> Result<bool, OutOfMemory>
+pub fn strings(said: &mut Vec<u8>, bytes: &[u8]) -> Result<bool, OutOfMemory>
     ensures { IfOk result (λ good. strings_from said.old.items bytes.now
         ≡ cond good (Some said.new.items) None) }
 {
@@ -98,24 +95,5 @@ fn strings(said: &mut Vec<u8>, bytes: &[u8]) -> Result<bool, OutOfMemory>
             Place::Outside | Place::Escaped => after,
         };
     }
-    Ok(place == Place::Outside)
-}
-
-/// The text with what quoted strings say at its end. `None` where the bytes are none.
-pub fn text_with_strings<'a>(
-    alloc: Global,
-    said: Said<'a>,
-    bytes: &'a [u8],
-) -> Result<Option<Said<'a>>, OutOfMemory>
-    ensures { IfOk result (λ text. text ≡ strings_from said.entry bytes.now) }
-{
-    if let Some(text) = plain_string(bytes) {
-        return Ok(Some(said.with(alloc, text)?));
-    }
-    let mut gathered = said.into_vec(alloc)?;
-    if strings(&mut gathered, bytes)? {
-        Ok(Some(Said::from_vec(gathered)))
-    } else {
-        Ok(None)
-    }
+    Ok(matches!(place, Place::Outside))
 }
