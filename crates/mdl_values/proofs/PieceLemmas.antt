@@ -1,7 +1,6 @@
 -- Where a text is cut at its first separator.
-use Rattle.std.proofs.Common.{◌≡◌, ℕ, zero, suc, ◌+◌, ◌<◌, ◌≤◌, Bool, true, false, cond, List, [], ◌∷◌, length, get_or, take, drop, refl, ap, ◌∙◌, arith}
+use Rattle.std.proofs.Common.{◌≡◌, ℕ, zero, suc, ◌<◌, ◌≤◌, Bool, true, false, List, [], ◌∷◌, length, take, drop, refl, ap, arith}
 use Rattle.std.specs.List.{prefix_len}
-use Rattle.std.proofs.lemmas.List.{at_drop_more}
 use Rattle.mdl_text.specs.Bytes.{on_first}
 use Rattle.mdl_values.specs.Pieces.{is_other, pieces_at}
 
@@ -26,7 +25,3 @@ first_piece separator (byte ∷ bytes) n e short = by_test (is_other separator b
     by_test true t (suc m) e short more = rw t (ap (on_first byte) (more m (let w = rw t at e in omega arith) (omega arith)))
     by_test false t zero e short more = rw t refl
     by_test false t (suc m) e short more = absurd (let w = rw t at e in omega arith)
-
--- how far the bytes of a kind go on from a place
-pub prefix_here : (p : ℕ → Bool) (text : List ℕ) (i : ℕ) (b : Bool) → i < length text → p (get_or text i 0) ≡ b → prefix_len p (drop i text) ≡ cond b (1 + prefix_len p (drop (i + 1) text)) 0
-prefix_here p text i b inside is = at_drop_more (prefix_len p) text i 0 inside ∙ ap (λ (b : Bool). cond b (1 + prefix_len p (drop (i + 1) text)) 0) is

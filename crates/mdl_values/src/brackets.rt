@@ -57,15 +57,13 @@ pub fn bracket_elements(alloc: Global, text: &[u8]) -> Result<Option<Texts>, Out
 fn alone(alloc: Global, text: &[u8]) -> Result<Option<Texts>, OutOfMemory>
     ensures { IfOk result (λ found. found ≡ alone (words_of text.now)) }
 {
-    let Some((_, after)) = first_word(text) else {
-        return Ok(None);
-    };
-    if first_word(after).is_some() {
-        return Ok(None);
+    let mut words = Texts::new(alloc);
+    push_words(alloc, &mut words, text)?;
+    if words.as_slice().len() == 1 {
+        Ok(Some(words))
+    } else {
+        Ok(None)
     }
-    let mut only = Texts::new(alloc);
-    push_words(alloc, &mut only, text)?;
-    Ok(Some(only))
 }
 
 /// The elements of a list: those in its brackets, or the one that it is. Blanks around are passed

@@ -1,5 +1,5 @@
 //! The signs of a sum.
-ghost use Rattle.std.specs.Prelude.{◌≡◌, false, replicate, IfOk};
+ghost use Rattle.std.specs.Prelude.{◌≡◌, false, [], Some, None, cond, replicate, IfOk};
 ghost use Rattle.mdl_values.specs.Reads.{Finds};
 ghost use Rattle.mdl_values.specs.Signs.{is_spacer, signs_of, AreSigns, IsSignsText};
 
@@ -15,21 +15,21 @@ fn is_spacer(byte: u8) -> bool
     byte == b'|' || !is_solid(byte)
 }
 
-/// Of each `+` and `-`, whether it subtracts.
-fn signs_of(alloc: Global, text: &[u8]) -> Result<Option<Flags>, OutOfMemory>
-    ensures { IfOk result (λ found. found ≡ signs_of text.now) }
+/// Puts of each `+` and `-` whether it subtracts. Tells whether the text has no other signs.
+fn put_signs(signs: &mut Flags, text: &[u8]) -> Result<bool, OutOfMemory>
+    requires { signs.old ≡ [] }
+    ensures { IfOk result (λ good. signs_of text.now ≡ cond good (Some signs.new) None) }
 {
-    let mut signs = Flags::new(alloc);
     for byte in text {
         if *byte == b'+' {
             signs.push(false)?;
         } else if *byte == b'-' {
             signs.push(true)?;
         } else if !is_spacer(*byte) {
-            return Ok(None);
+            return Ok(false);
         }
     }
-    Ok(Some(signs))
+    Ok(true)
 }
 
 /// So many signs that add.
@@ -43,14 +43,14 @@ fn all_add(alloc: Global, count: u32) -> Result<Flags, OutOfMemory>
 fn few_signs(alloc: Global, text: &[u8]) -> Result<Option<Flags>, OutOfMemory>
     ensures { IfOk result (λ found. Finds (AreSigns text.now) found) }
 {
-    let Some(signs) = signs_of(alloc, text)? else {
-        return Ok(None);
-    };
+    let mut signs = Flags::new(alloc);
+    let good = put_signs(&mut signs, text)?;
     let count = signs.as_slice().len();
-    if count < 2 || count > 32 {
-        return Ok(None);
+    if good && 2 <= count && count <= 32 {
+        Ok(Some(signs))
+    } else {
+        Ok(None)
     }
-    Ok(Some(signs))
 }
 
 /// Reads the signs of a sum, `true` where one subtracts: 2 to 32 of `+` and `-`, between which `|`

@@ -2,7 +2,7 @@ use Rattle.std.proofs.Common.{true, false, sym, ◌∙◌, arith}
 use Rattle.std.specs.List.{prefix_len}
 use Rattle.std.proofs.lemmas.List.{at_drop_all}
 use Rattle.mdl_text.specs.Bytes.{is_blank}
-use Rattle.mdl_values.proofs.PieceLemmas.{prefix_here}
+use Rattle.mdl_text.proofs.Scans.{prefix_here}
 use Rattle.std.proofs.lemmas.Bool.{not-false, not-true}
 use Rattle.mdl_values.proofs.pieces.blank_length.Goals as goal
 

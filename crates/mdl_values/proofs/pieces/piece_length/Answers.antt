@@ -3,7 +3,7 @@ use Rattle.std.specs.List.{prefix_len}
 use Rattle.std.proofs.lemmas.List.{at_drop_all}
 use Rattle.std.proofs.lemmas.Bool.{eq-eqb, ne_eqb}
 use Rattle.mdl_values.specs.Pieces.{is_other}
-use Rattle.mdl_values.proofs.PieceLemmas.{prefix_here}
+use Rattle.mdl_text.proofs.Scans.{prefix_here}
 use Rattle.mdl_values.proofs.pieces.piece_length.Goals as goal
 
 pub loop-i-preserved : goal.loop-i-preserved

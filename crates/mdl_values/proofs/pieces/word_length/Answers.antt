@@ -2,7 +2,7 @@ use Rattle.std.proofs.Common.{true, false, sym, ◌∙◌, arith}
 use Rattle.std.specs.List.{prefix_len}
 use Rattle.std.proofs.lemmas.List.{at_drop_all}
 use Rattle.mdl_values.specs.Pieces.{is_solid}
-use Rattle.mdl_values.proofs.PieceLemmas.{prefix_here}
+use Rattle.mdl_text.proofs.Scans.{prefix_here}
 use Rattle.mdl_values.proofs.pieces.word_length.Goals as goal
 
 pub loop-i-preserved : goal.loop-i-preserved
