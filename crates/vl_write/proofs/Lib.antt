@@ -1,4 +1,4 @@
-pub mod Appended
 pub mod Joined
 pub mod PieceLines
+pub mod Putting
 pub mod Written

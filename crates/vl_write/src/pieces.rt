@@ -1,9 +1,9 @@
 // The lines of items in parts, which workers spell where there are many.
-ghost use Rattle.std.specs.Prelude.{◌≡◌, [], ◌*◌, ◌+◌, ◌<◌, ◌≤◌, ◌++◌, IfOk, OnOk, flat_map, length};
+ghost use Rattle.std.specs.Prelude.{◌≡◌, [], ◌*◌, ◌+◌, ◌<◌, ◌≤◌, ◌++◌, IfOk, flat_map, length};
 ghost use Rattle.vl_ast.specs.Spelling.{item_text};
 ghost use Rattle.vl_write.specs.inner.Pieces.{piece_text, Adds};
 
-use crate::items::put_lines;
+use crate::items::with_lines;
 use fx_io::{Gate, OutOfMemory};
 use rayon::current_num_threads;
 use rayon::prelude::*;
@@ -25,21 +25,6 @@ fn pieces_of(items: usize) -> usize
     items.div_ceil(PIECE)
 }
 
-/// Puts the lines of the piece with this number.
-fn put_piece<G: Gate>(
-    out: &mut Vec<u8>,
-    items: &[ModItem],
-    piece: usize,
-    gate: &G,
-) -> Result<(), OutOfMemory>
-    requires { piece * 32 < length items.now }
-    ensures { OnOk result (out.new.items ≡ out.old.items ++ piece_text items.now piece) }
-{
-    let first = piece * PIECE;
-    let end = first + PIECE.min(items.len() - first);
-    put_lines(out, &items[first..end], first as u64, gate)
-}
-
 /// The lines so far with those of the piece of this number at their end.
 fn with_piece<G: Gate>(
     lines: Result<Vec<u8>, OutOfMemory>,
@@ -50,9 +35,13 @@ fn with_piece<G: Gate>(
     requires { piece * 32 < length items.now }
     ensures { Adds (piece_text items.now piece) lines result }
 {
-    let mut lines = lines?;
-    put_piece(&mut lines, items, piece, gate)?;
-    Ok(lines)
+    let Ok(lines) = lines else {
+        // allocation: that of the pieces before
+        return Err(OutOfMemory);
+    };
+    let first = piece * PIECE;
+    let end = first + PIECE.min(items.len() - first);
+    with_lines(lines, &items[first..end], first as u64, gate)
 }
 
 /// The lines of items in order, in a stretch from each worker.
@@ -84,7 +73,7 @@ fn stretches<R: Threads + Sync, G: Gate + Sync>(
 pub fn with_items<R: Threads + Sync, G: Gate + Sync>(
     rt: &R,
     alloc: Global,
-    mut text: Vec<u8>,
+    text: Vec<u8>,
     items: &[ModItem],
     gate: &G,
 ) -> Result<Vec<Vec<u8>>, OutOfMemory>
@@ -92,7 +81,7 @@ pub fn with_items<R: Threads + Sync, G: Gate + Sync>(
         ≡ text.items ++ flat_map item_text items.now) }
 {
     if items.len() < MANY * PIECE || current_num_threads(rt) == 1 {
-        put_lines(&mut text, items, 0, gate)?;
+        let text = with_lines(text, items, 0, gate)?;
         let mut parts = Vec::new(alloc);
         parts.push(text)?;
         return Ok(parts);

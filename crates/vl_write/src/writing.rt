@@ -3,8 +3,9 @@ ghost use Rattle.vl_ast.specs.Grammar.{Spells};
 ghost use Rattle.vl_ast.specs.Spelling.{item_text, spelling};
 
 use crate::attributes::put_attrs;
+use crate::lists::put_list;
+use crate::parts::{Writer, finish, put};
 use crate::pieces::with_items;
-use crate::ports::put_ports;
 use fx_io::{Gate, OutOfMemory, Text};
 use fx_text::push;
 use std::alloc::Global;
@@ -16,14 +17,17 @@ fn header_text(alloc: Global, module: &Module) -> Result<Vec<u8>, OutOfMemory>
     ensures { IfOk result (λ text. spelling «module».now
         ≡ text.items ++ flat_map item_text «module».now.items ++ codes "endmodule\n") }
 {
-    let mut out = Vec::new(alloc);
-    put_attrs(&mut out, b"", module.attrs.as_slice())?;
-    push(&mut out, b"module ")?;
-    push(&mut out, module.name.bytes())?;
-    push(&mut out, b" (\n")?;
-    put_ports(&mut out, module.ports.as_slice())?;
-    push(&mut out, b"\n);\n")?;
-    Ok(out)
+    let mut out = Writer {
+        text: Vec::new(alloc),
+        wanting: false,
+    };
+    put_attrs(&mut out, b"", module.attrs.as_slice());
+    put(&mut out, b"module ");
+    put(&mut out, module.name.bytes());
+    put(&mut out, b" (\n");
+    put_list(&mut out, module.ports.as_slice(), b",\n");
+    put(&mut out, b"\n);\n");
+    finish(out)
 }
 
 /// Puts the last line of a module at the end of the last part.

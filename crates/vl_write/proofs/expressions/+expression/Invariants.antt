@@ -4,4 +4,4 @@ use Rattle.vl_write.proofs.Joined.{AreJoined}
 use Rattle.vl_write.proofs.expressions.+expression.Given as goal
 
 abbrev pub invariant-put_parts-loop-part : goal.invariant-put_parts-loop-part
-invariant-put_parts-loop-part l = AreJoined (codes ", ") expr_text l.parts l.initial.out.items l.out.items l.before l.part-index
+invariant-put_parts-loop-part l = AreJoined (codes ", ") expr_text l.parts l.initial.out l.out l.before l.part-index
