@@ -1,4 +1,3 @@
-pub mod Results
 pub mod Reading
 pub mod Numbering
 pub mod Marking

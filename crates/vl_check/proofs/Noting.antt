@@ -1,9 +1,9 @@
 -- One more item is noted.
-use Rattle.std.proofs.Common.{◌≡◌, ◌<◌, ◌≤◌, ◌+◌, inl, inr, ◌⊎◌, ⊎_elim, ℕ, List, [], ◌∷◌, ◌++◌, length, map, set, take, Bor, replicate, slice_get, slice_index_or, Option, None, Some, refl, sym, ap, subst, ◌∙◌, arith}
+use Rattle.std.proofs.Common.{◌≡◌, ◌<◌, ◌≤◌, ◌+◌, inl, inr, ◌⊎◌, ⊎_elim, ℕ, List, [], ◌∷◌, ◌++◌, length, map, set, take, replicate, slice_get, slice_index_or, Option, None, Some, refl, sym, ap, subst, ◌∙◌, arith}
 use Rattle.std.specs.Option.{unwrap_or}
 use Rattle.std.proofs.lemmas.Bool.{cases_lt, cases_eq}
 use Rattle.std.proofs.lemmas.Option.{slice_get_within, slice_get-get_or, get_or_from_slice_get}
-use Rattle.std.proofs.lemmas.List.{get_or-replicate, get_or-set_same, get_or-set_other, get_or_append_left, get_or_at, length-append, length-replicate, length-set, set_past, take_more, map-append}
+use Rattle.std.proofs.lemmas.List.{get_or-replicate, get_or-set_same, get_or-set_other, get_or_append_left, get_or_at, length-append, length-replicate, length-set, set_past, map_more, map-append}
 use Rattle.std.proofs.Math.ListN.{get_or-eq_default}
 use Rattle.vl_ast.specs.declared.expressions.Expr.{Expr}
 use Rattle.vl_ast.specs.declared.modules.ModItem.{ModItem}
@@ -11,7 +11,9 @@ use Rattle.vl_ast.specs.declared.modules.ModItem.TheVariants.{Wire, Reg, Assign,
 use Rattle.vl_ast.specs.Nets.{names_read}
 use Rattle.vl_check.specs.declared.scope.Scope.{Scope}
 use Rattle.vl_check.specs.Scope.{names_in, number_at, number_in}
-use Rattle.vl_check.specs.inner.Mentioned.{texts}
+use Rattle.vl_ast.specs.Conditions.{mentioned}
+use Rattle.vl_check.specs.declared.mentions.Mention.{Mention as MentionHere}
+use Rattle.vl_check.specs.inner.Mentioned.{mention_of, shown}
 use Rattle.fx_io.specs.Rows.{row_at}
 use Rattle.vl_check.specs.inner.Assigned.{IsNoted, IsNotedAt, places_after, reads_after}
 use Rattle.fx_io.proofs.Places.{get_left}
@@ -163,12 +165,12 @@ module _ (scope : Scope) where
         (unnumbered passed name value places reads e n))
 
 -- numbers of names, a name further
-pub numbers-more : (scope : Scope) (names : List (Bor (List ℕ))) (i : ℕ) (d : Bor (List ℕ)) → i < length names
-    → map (number_at scope) (texts (take (i + 1) names)) ≡ map (number_at scope) (texts (take i names)) ++ number_at scope (slice_index_or names i d).now ∷ []
-numbers-more scope names i d below =
-    ap (λ xs. map (number_at scope) (texts xs)) (take_more names i d below)
-    ∙ ap (map (number_at scope)) (map-append (λ (x : Bor (List ℕ)). x.now) (take i names) (slice_index_or names i d ∷ []))
-    ∙ map-append (number_at scope) (texts (take i names)) ((slice_index_or names i d).now ∷ [])
+pub numbers-more : (scope : Scope) (text : List MentionHere) (i : ℕ) (d : MentionHere) → i < length text
+    → map (number_at scope) (map mentioned (shown (take (i + 1) text))) ≡ map (number_at scope) (map mentioned (shown (take i text))) ++ number_at scope (mentioned (mention_of (slice_index_or text i d))) ∷ []
+numbers-more scope text i d below =
+    ap (λ xs. map (number_at scope) (map mentioned xs)) (map_more mention_of text i d below)
+    ∙ ap (map (number_at scope)) (map-append mentioned (shown (take i text)) (mention_of (slice_index_or text i d) ∷ []))
+    ∙ map-append (number_at scope) (map mentioned (shown (take i text))) (mentioned (mention_of (slice_index_or text i d)) ∷ [])
 
 -- the same everywhere, and past the end
 pub replicated : {A : Type 0} (a : A) (count v : ℕ) → slice_index_or (replicate count a) v a ≡ a

@@ -3,7 +3,8 @@ ghost use Rattle.vl_ast.specs.Nets.{names_read};
 ghost use Rattle.vl_check.specs.Scope.{number_at};
 ghost use Rattle.vl_check.specs.inner.Assigned.{IsNoted, places_after, reads_after};
 
-use crate::mentions::push_names;
+use crate::mentions::{Mentions, all_of, push_names};
+use crate::names::mentioned_name;
 use crate::scope::Scope;
 use fx_io::{OutOfMemory, Sequence, empty_rows};
 use std::alloc::Global;
@@ -21,11 +22,15 @@ pub struct Assigned {
 fn numbers_read(alloc: Global, scope: &Scope<'_>, e: &Expr) -> Result<Sequence<usize>, OutOfMemory>
     ensures { IfOk result (λ numbers. numbers ≡ map (number_at scope.now) (names_read e.now)) }
 {
-    let mut names = Vec::new(alloc);
-    push_names(&mut names, e)?;
+    let mut reads = Mentions {
+        all: Vec::new(alloc),
+        wanting: false,
+    };
+    push_names(&mut reads, e);
+    let reads = all_of(reads)?;
     let mut numbers = Sequence::new(alloc);
-    for name in names.as_slice() {
-        numbers.push(scope.number_or_count(name))?;
+    for mention in reads.as_slice() {
+        numbers.push(scope.number_or_count(mentioned_name(mention)))?;
     }
     Ok(numbers)
 }

@@ -9,7 +9,8 @@ use vl_ast::{Module, Port, cycles_of, latency_of, period_of};
 fn is_clock_or_reset(port: &Port) -> bool
     ensures { result ≡ is_clock_or_reset port.now }
 {
-    port.name.bytes() == b"clk".as_slice() || port.name.bytes() == b"reset".as_slice()
+    let name = port.name.bytes();
+    name == b"clk".as_slice() || name == b"reset".as_slice()
 }
 
 /// Whether the module can be stalled: it has an unsigned input `clk_enable` of one bit (own).

@@ -1,13 +1,13 @@
 ghost use Rattle.std.specs.Prelude.{◌≡◌, IfErr, IfOk};
 ghost use Rattle.vl_ast.specs.declared.modules.Module.{Module};
-ghost use Rattle.vl_ast.specs.Conditions.{BreaksNone};
+ghost use Rattle.vl_ast.specs.Conditions.{BreaksNone, IsFirstFault};
 ghost use Rattle.vl_ast.specs.Nets.{mentions};
 ghost use Rattle.vl_check.specs.Cause.{IsCause};
 ghost use Rattle.vl_check.specs.Ordering.{IsOrdering};
 ghost use Rattle.vl_check.specs.Scope.{IsScopeOf};
 ghost use Rattle.vl_check.specs.inner.Known.{IsKnown};
 ghost use Rattle.vl_check.specs.inner.Mentioned.{shown};
-ghost use Rattle.vl_check.specs.inner.Rest.{IsCauseOfRest, IsSoundRest};
+ghost use Rattle.vl_check.specs.inner.Rest.{IsFirstOfRest, fault_in};
 
 use crate::attributes::no_attribute;
 use crate::clocking::no_reset;
@@ -38,6 +38,23 @@ pub struct Checked<'a> {
 struct Known<'a> {
     scope: Scope<'a>,
     numbers: Vec<usize>,
+}
+
+/// The conditions whose faults show one name.
+#[derive(Clone, Copy)]
+enum Broken {
+    Undriven,
+    Doubly,
+    TooWide,
+    NoReset,
+    NoAttribute,
+}
+
+/// A condition with the name at which it is broken.
+#[derive(Clone, Copy)]
+struct Named<'a> {
+    broken: Broken,
+    name: &'a [u8],
 }
 
 fn known_of<'a>(alloc: Global, text: &[Mention<'a>]) -> Result<Known<'a>, OutOfMemory>
@@ -95,51 +112,65 @@ fn order_of(
 {
     let numbers = known.numbers.as_slice();
     if let Some(name) = first_undriven(alloc, text, numbers, known.scope.count())? {
-        return Err(VlFault::Undriven {
-            name: Text::copy(alloc, name)?,
-        });
+        return Err(fault_of(alloc, Broken::Undriven, name));
     }
     if let Some(name) = first_double(alloc, text, numbers, known.scope.declared.as_slice())? {
-        return Err(VlFault::Doubly {
-            name: Text::copy(alloc, name)?,
-        });
+        return Err(fault_of(alloc, Broken::Doubly, name));
     }
     let found = assignment_order(alloc, text, &known.scope, source)?;
-    match check_rest(alloc, source, text, &known.scope) {
-        Ok(()) => Ok(found),
-        Err(fault) => {
+    match first_of_rest(source, text, &known.scope) {
+        None => Ok(found),
+        Some(Named { broken, name }) => {
             drop(found);
-            Err(fault)
+            Err(fault_of(alloc, broken, name))
         }
     }
 }
 
-/// Tries the last three conditions.
-fn check_rest(
-    alloc: Global,
-    source: &Module,
+/// The first of the last three conditions that is broken, with the name that it shows.
+fn first_of_rest<'a>(
+    source: &'a Module,
     text: &[Mention<'_>],
     scope: &Scope<'_>,
-) -> Result<(), VlFault>
+) -> Option<Named<'a>>
     requires whole { shown text.now ≡ mentions source.now }
     requires scope { IsScopeOf source.now scope.now }
-    ensures sound { IfOk result (λ _. IsSoundRest source.now) }
-    ensures fault { IfErr result (IsCauseOfRest source.now) }
+    ensures { IsFirstOfRest source.now result }
 {
     if let Some(name) = too_wide(scope, source) {
-        return Err(VlFault::TooWide {
-            name: Text::copy(alloc, name)?,
+        return Some(Named {
+            broken: Broken::TooWide,
+            name,
         });
     }
     if let Some(name) = no_reset(text, source) {
-        return Err(VlFault::NoReset {
-            name: Text::copy(alloc, name)?,
+        return Some(Named {
+            broken: Broken::NoReset,
+            name,
         });
     }
-    if let Some(name) = no_attribute(source) {
-        return Err(VlFault::NoAttribute {
-            name: Text::copy(alloc, name)?,
-        });
+    match no_attribute(source) {
+        None => None,
+        Some(name) => Some(Named {
+            broken: Broken::NoAttribute,
+            name,
+        }),
     }
-    Ok(())
+}
+
+/// The fault of a condition with the name that it shows, or want of memory for the name.
+fn fault_of(alloc: Global, broken: Broken, name: &[u8]) -> VlFault
+    ensures { (m : Module) → IsFirstFault m (fault_in broken name.now) → IsCause m result }
+{
+    let Ok(name) = Text::copy(alloc, name) else {
+        // allocation: the copy of the name
+        return VlFault::OutOfMemory;
+    };
+    match broken {
+        Broken::Undriven => VlFault::Undriven { name },
+        Broken::Doubly => VlFault::Doubly { name },
+        Broken::TooWide => VlFault::TooWide { name },
+        Broken::NoReset => VlFault::NoReset { name },
+        Broken::NoAttribute => VlFault::NoAttribute { name },
+    }
 }

@@ -1,7 +1,8 @@
-ghost use Rattle.std.specs.Prelude.{◌≡◌, ◌++◌, ◌∷◌, [], map, if◌then◌else◌, IfOk, OnOk};
+ghost use Rattle.std.specs.Prelude.{◌≡◌, ◌∷◌, [], false, map, if◌then◌else◌, IfOk};
 ghost use Rattle.vl_ast.specs.Nets.{condition_names, item_mentions, mentions, names_read, Declares, Drives, InputPort, OutputPort, Reads};
-ghost use Rattle.vl_check.specs.inner.Mentioned.{kind_of, mention_of, net_declared, shown, texts};
+ghost use Rattle.vl_check.specs.inner.Mentioned.{Puts, kind_of, mention_of, net_declared, shown};
 
+use crate::names::put;
 use fx_io::OutOfMemory;
 use std::alloc::Global;
 use vl_ast::{Expr, ModItem, Module, Port};
@@ -36,79 +37,58 @@ pub enum Mention<'a> {
     Clocks,
 }
 
-/// Whether there was memory for what is put.
-pub type Put = Result<(), OutOfMemory>;
+/// The places of names that were put, and whether memory was wanting for some of them.
+#[derive(Drop)]
+pub struct Mentions<'a> {
+    pub all: Vec<Mention<'a>>,
+    pub wanting: bool,
+}
 
-/// Puts the names that an expression reads, from the left. The recursion is as deep as the
-/// expression nests.
-pub fn push_names<'a>(names: &mut Vec<&'a [u8]>, e: &'a Expr) -> Put
-    ensures { OnOk result (texts names.new.items ≡ texts names.old.items ++ names_read e.now) }
+fn push<'a>(mentions: &mut Mentions<'a>, mention: Mention<'a>)
+    ensures { Puts mentions.old mentions.new (mention_of mention.entry ∷ []) }
+{
+    if let Err(_refused) = put(&mut mentions.all, mention) {
+        mentions.wanting = true;
+    }
+}
+
+/// Puts the places of the names that an expression reads, from the left. The recursion is as deep as
+/// the expression nests.
+pub fn push_names<'a>(mentions: &mut Mentions<'a>, e: &'a Expr)
+    ensures { Puts mentions.old mentions.new (map Reads (names_read e.now)) }
 {
     match e {
-        Expr::Name(name) | Expr::Bit(name, _) => push_name(names, name.bytes()),
-        Expr::Part(name, _high, _low) => push_name(names, name.bytes()),
-        Expr::Literal(_number) => Ok(()),
+        Expr::Name(name) | Expr::Bit(name, _) => push(mentions, Mention::Reads(name.bytes())),
+        Expr::Part(name, _high, _low) => push(mentions, Mention::Reads(name.bytes())),
+        Expr::Literal(_number) => {}
         Expr::Concat(parts) => {
             for part in parts.as_slice() {
-                push_names(names, part)?;
+                push_names(mentions, part);
             }
-            Ok(())
         }
         Expr::Repeat(_, part)
         | Expr::AsSigned(part)
         | Expr::AsUnsigned(part)
         | Expr::Unary(_, part)
-        | Expr::Shift(_, part, _) => push_names(names, part.get()),
+        | Expr::Shift(_, part, _) => push_names(mentions, part.get()),
         Expr::Binary(_op, left, right) => {
-            push_names(names, left.get())?;
-            push_names(names, right.get())
+            push_names(mentions, left.get());
+            push_names(mentions, right.get());
         }
         Expr::Choose(test, chosen, other) => {
-            push_names(names, test.get())?;
-            push_names(names, chosen.get())?;
-            push_names(names, other.get())
+            push_names(mentions, test.get());
+            push_names(mentions, chosen.get());
+            push_names(mentions, other.get());
         }
     }
 }
 
-fn push_name<'a>(names: &mut Vec<&'a [u8]>, name: &'a [u8]) -> Put
-    ensures { OnOk result (texts names.new.items ≡ texts names.old.items ++ name.now ∷ []) }
-{
-    names.push(name)?;
-    Ok(())
-}
-
-fn push<'a>(mentions: &mut Vec<Mention<'a>>, mention: Mention<'a>) -> Put
-    ensures { OnOk result (shown mentions.new.items
-        ≡ shown mentions.old.items ++ mention_of mention.entry ∷ []) }
-{
-    mentions.push(mention)?;
-    Ok(())
-}
-
-fn push_reads<'a>(alloc: Global, mentions: &mut Vec<Mention<'a>>, e: &'a Expr) -> Put
-    ensures { OnOk result (shown mentions.new.items
-        ≡ shown mentions.old.items ++ map Reads (names_read e.now)) }
-{
-    let mut names = Vec::new(alloc);
-    push_names(&mut names, e)?;
-    for name in names.as_slice() {
-        push(mentions, Mention::Reads(*name))?;
-    }
-    Ok(())
-}
-
-fn push_condition<'a>(
-    alloc: Global,
-    mentions: &mut Vec<Mention<'a>>,
-    condition: &'a Option<Expr>,
-) -> Put
-    ensures { OnOk result (shown mentions.new.items
-        ≡ shown mentions.old.items ++ map Reads (condition_names condition.now)) }
+fn push_condition<'a>(mentions: &mut Mentions<'a>, condition: &'a Option<Expr>)
+    ensures { Puts mentions.old mentions.new (map Reads (condition_names condition.now)) }
 {
     match condition {
-        None => Ok(()),
-        Some(condition) => push_reads(alloc, mentions, condition),
+        None => {}
+        Some(condition) => push_names(mentions, condition),
     }
 }
 
@@ -123,15 +103,9 @@ fn port_kind(port: &Port) -> Kind
 }
 
 /// Puts the declaration of a net.
-fn push_net<'a>(
-    mentions: &mut Vec<Mention<'a>>,
-    kind: Kind,
-    name: &'a [u8],
-    width: u32,
-    signed: bool,
-) -> Put
-    ensures { OnOk result (shown mentions.new.items ≡ shown mentions.old.items
-        ++ Declares (net_declared (kind_of kind) name.now width signed) ∷ []) }
+fn push_net<'a>(mentions: &mut Mentions<'a>, kind: Kind, name: &'a [u8], width: u32, signed: bool)
+    ensures { Puts mentions.old mentions.new
+        (Declares (net_declared (kind_of kind) name.now width signed) ∷ []) }
 {
     let declared = Declared {
         name,
@@ -139,20 +113,18 @@ fn push_net<'a>(
         width,
         signed,
     };
-    push(mentions, Mention::Declares(declared))
+    push(mentions, Mention::Declares(declared));
 }
 
 /// Puts the name that an item drives.
-fn push_driven<'a>(mentions: &mut Vec<Mention<'a>>, clocked: bool, name: &'a [u8]) -> Put
-    ensures { OnOk result (shown mentions.new.items
-        ≡ shown mentions.old.items ++ Drives clocked name.now ∷ []) }
+fn push_driven<'a>(mentions: &mut Mentions<'a>, clocked: bool, name: &'a [u8])
+    ensures { Puts mentions.old mentions.new (Drives clocked name.now ∷ []) }
 {
-    push(mentions, Mention::Drives { clocked, name })
+    push(mentions, Mention::Drives { clocked, name });
 }
 
-fn push_item<'a>(alloc: Global, mentions: &mut Vec<Mention<'a>>, item: &'a ModItem) -> Put
-    ensures { OnOk result (shown mentions.new.items
-        ≡ shown mentions.old.items ++ item_mentions item.now) }
+fn push_item<'a>(mentions: &mut Mentions<'a>, item: &'a ModItem)
+    ensures { Puts mentions.old mentions.new (item_mentions item.now) }
 {
     match item {
         ModItem::Wire {
@@ -166,8 +138,8 @@ fn push_item<'a>(alloc: Global, mentions: &mut Vec<Mention<'a>>, item: &'a ModIt
             name,
         } => push_net(mentions, Kind::Register, name.bytes(), *width, *signed),
         ModItem::Assign { name, value } => {
-            push_driven(mentions, false, name.bytes())?;
-            push_reads(alloc, mentions, value)
+            push_driven(mentions, false, name.bytes());
+            push_names(mentions, value);
         }
         ModItem::Always {
             name,
@@ -175,19 +147,32 @@ fn push_item<'a>(alloc: Global, mentions: &mut Vec<Mention<'a>>, item: &'a ModIt
             condition,
             value,
         } => {
-            push(mentions, Mention::Clocks)?;
-            push_driven(mentions, true, name.bytes())?;
-            push_condition(alloc, mentions, condition)?;
-            push_reads(alloc, mentions, value)
+            push(mentions, Mention::Clocks);
+            push_driven(mentions, true, name.bytes());
+            push_condition(mentions, condition);
+            push_names(mentions, value);
         }
     }
+}
+
+/// The places that were put, if memory was there for all of them.
+pub fn all_of<'a>(mentions: Mentions<'a>) -> Result<Vec<Mention<'a>>, OutOfMemory>
+    ensures { IfOk result (λ all. (mentions.entry.wanting ≡ false)
+        × (all.items ≡ mentions.entry.all.items)) }
+{
+    let Mentions { all, wanting } = mentions;
+    // allocation: the list's, at the place where it first failed
+    if wanting { Err(OutOfMemory) } else { Ok(all) }
 }
 
 /// The places of names in a module's text, in its order.
 pub fn mentions_of(alloc: Global, source: &Module) -> Result<Vec<Mention<'_>>, OutOfMemory>
     ensures { IfOk result (λ all. shown all.items ≡ mentions source.now) }
 {
-    let mut mentions = Vec::new(alloc);
+    let mut mentions = Mentions {
+        all: Vec::new(alloc),
+        wanting: false,
+    };
     for port in source.ports.as_slice() {
         push_net(
             &mut mentions,
@@ -195,10 +180,10 @@ pub fn mentions_of(alloc: Global, source: &Module) -> Result<Vec<Mention<'_>>, O
             port.name.bytes(),
             port.width,
             port.signed,
-        )?;
+        );
     }
     for item in source.items.as_slice() {
-        push_item(alloc, &mut mentions, item)?;
+        push_item(&mut mentions, item);
     }
-    Ok(mentions)
+    all_of(mentions)
 }

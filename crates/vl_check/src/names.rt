@@ -1,4 +1,4 @@
-ghost use Rattle.std.specs.Prelude.{◌≡◌, IfOk, OnOk, map};
+ghost use Rattle.std.specs.Prelude.{◌≡◌, ◌++◌, ◌∷◌, [], IfOk, OnOk, map};
 ghost use Rattle.vl_ast.specs.Conditions.{mentioned};
 ghost use Rattle.vl_check.specs.inner.Mentioned.{mention_of, shown, texts};
 ghost use Rattle.vl_check.specs.inner.Names.{HasPlaces, Numbered};
@@ -17,6 +17,14 @@ pub struct Numbers<'a> {
     pub numbers: Vec<usize>,
 }
 
+/// Puts an item at the end.
+pub fn put<T: Drop>(items: &mut Vec<T>, item: T) -> Result<(), OutOfMemory>
+    ensures { OnOk result (items.new.items ≡ items.old.items ++ item ∷ []) }
+{
+    items.push(item)?;
+    Ok(())
+}
+
 /// The name at a place. The `clk` and the `reset` of a clocked item stand under the first of them.
 pub fn mentioned_name<'a>(mention: &Mention<'a>) -> &'a [u8]
     ensures { result.now ≡ mentioned (mention_of mention.now) }
@@ -29,7 +37,7 @@ pub fn mentioned_name<'a>(mention: &Mention<'a>) -> &'a [u8]
 }
 
 impl<'a> Numbers<'a> {
-    ghost use Rattle.std.specs.Prelude.{ℕ, List, ◌++◌, ◌∷◌, []};
+    ghost use Rattle.std.specs.Prelude.{ℕ, List};
 
     /// Gives the name at one more place its number, which is the next one where it has none yet.
     fn add(&mut self, name: &'a [u8]) -> Result<(), OutOfMemory>
@@ -41,14 +49,12 @@ impl<'a> Numbers<'a> {
         ensures places { OnOk result (HasPlaces self.new.names.items self.new.by_name) }
     {
         if let Some(number) = self.by_name.get(name).copied() {
-            self.numbers.push(number)?;
-            return Ok(());
+            return put(&mut self.numbers, number);
         }
         let number = self.names.len();
         self.by_name.insert(name, number)?;
-        self.names.push(name)?;
-        self.numbers.push(number)?;
-        Ok(())
+        put(&mut self.names, name)?;
+        put(&mut self.numbers, number)
     }
 }
 

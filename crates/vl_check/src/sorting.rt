@@ -4,6 +4,7 @@ ghost use Rattle.fx_io.specs.Rows.{row_at};
 ghost use Rattle.vl_check.specs.inner.Sorted.{IsSorted};
 ghost use Rattle.vl_check.specs.inner.Walks.{IsSearched, IsTurned, State, size};
 
+use crate::names::put;
 use fx_io::{OutOfMemory, Sequence};
 use std::alloc::Global;
 
@@ -65,7 +66,7 @@ fn turn(
     let v = stack[top];
     let at = stage[v];
     if at > count_of(reads, v) {
-        order.push(v)?;
+        put(order, v)?;
         stack.truncate(top);
         stage[v] = at + 1;
         return Ok(None);
@@ -73,7 +74,7 @@ fn turn(
     let x = read_at(reads, v, at - 1);
     let seen = stage[x];
     if seen == 0 {
-        stack.push(x)?;
+        put(stack, x)?;
         stage[x] = seen + 1;
         return Ok(None);
     }
@@ -100,7 +101,7 @@ fn search(
         (option_map (λ c. c.items) cycle)) }
 {
     let mut stack = Vec::new(alloc);
-    stack.push(root)?;
+    put(&mut stack, root)?;
     stage[root] = 1;
     while !stack.as_slice().is_empty() {
         if let Some(at) = turn(reads, stage, &mut stack, order)? {

@@ -1,5 +1,5 @@
 -- The places of names as the code has them, and as `vl_ast` says them.
-use Rattle.std.specs.Prelude.{ℕ, Bool, List, map}
+use Rattle.std.specs.Prelude.{◌≡◌, ℕ, Bool, false, List, ◌++◌, map}
 use Rattle.std.specs.Borrow.{Bor}
 use Rattle.vl_ast.specs.Nets.{Kind, InputPort, OutputPort, PlainWire, Register, Declared, Mention, Declares, Drives, Reads, Clocks}
 use Rattle.vl_check.specs.declared.mentions.Kind.{Kind as KindHere}
@@ -7,6 +7,7 @@ use Rattle.vl_check.specs.declared.mentions.Kind.TheVariants.{InputPort as Input
 use Rattle.vl_check.specs.declared.mentions.Declared.{Declared as DeclaredHere}
 use Rattle.vl_check.specs.declared.mentions.Mention.{Mention as MentionHere}
 use Rattle.vl_check.specs.declared.mentions.Mention.TheVariants.{Declares as DeclaresHere, Drives as DrivesHere, Reads as ReadsHere, Clocks as ClocksHere}
+use Rattle.vl_check.specs.declared.mentions.Mentions.{Mentions}
 
 abbrev pub kind_of : KindHere → Kind
 kind_of InputHere = InputPort
@@ -33,3 +34,7 @@ shown all = map mention_of all
 -- the bytes of borrowed names
 abbrev pub texts : List (Bor (List ℕ)) → List (List ℕ)
 texts names = map (λ (name : Bor (List ℕ)). name.now) names
+
+-- these places are put behind those that were there, unless memory was wanting
+pub record Puts (before after : Mentions) (more : List Mention) : Type 0 where
+  pub whole : after.wanting ≡ false → (before.wanting ≡ false) × (shown after.all.items ≡ shown before.all.items ++ more)

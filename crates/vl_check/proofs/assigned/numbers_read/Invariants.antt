@@ -1,7 +1,8 @@
 use Rattle.std.proofs.Common.{◌≡◌, map, take}
+use Rattle.vl_ast.specs.Conditions.{mentioned}
 use Rattle.vl_check.specs.Scope.{number_at}
-use Rattle.vl_check.specs.inner.Mentioned.{texts}
+use Rattle.vl_check.specs.inner.Mentioned.{shown}
 use Rattle.vl_check.proofs.assigned.numbers_read.Given as goal
 
-abbrev pub invariant-loop-name : goal.invariant-loop-name
-invariant-loop-name l = l.numbers ≡ map (number_at l.scope) (texts (take l.name-index l.name-items))
+abbrev pub invariant-loop-mention : goal.invariant-loop-mention
+invariant-loop-mention l = l.numbers ≡ map (number_at l.scope) (map mentioned (shown (take l.mention-index l.mention-items)))

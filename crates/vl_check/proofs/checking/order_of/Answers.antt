@@ -1,8 +1,8 @@
-use Rattle.std.proofs.Common.{ℕ, List, Option, Bor, Some, [], length, option_map, refl, ap, subst, sym, ◌∙◌}
+use Rattle.std.proofs.Common.{ℕ, List, Option, Bor, [], length, option_map, refl, ap, subst, sym, ◌∙◌}
 use Rattle.vl_ast.specs.Nets.{Mention}
 use Rattle.vl_ast.specs.Conditions.{first_fault, is_undriven}
 use Rattle.vl_check.specs.inner.Marks.{AreNumbered}
-use Rattle.vl_check.proofs.Results.{rest-cause}
+use Rattle.vl_check.specs.inner.Rest.{IsFirstOfRest}
 use Rattle.vl_check.proofs.checking.order_of.Goals as goal
 
 abbrev names_of : Option (Bor (List ℕ)) → Option (List ℕ)
@@ -10,12 +10,12 @@ names_of found = option_map (λ (name : Bor (List ℕ)). name.now) found
 
 pub returns-in-Some-clause-fault : goal.returns-in-Some-clause-fault
 returns-in-Some-clause-fault c =
-    sym (c.in_ok-name.ensures ∙ ap (λ (all : List Mention). first_fault (is_undriven all) [] all) c.requires.whole) ∙ ap names_of c.in-Some.is ∙ ap Some (sym c.in_ok-copy.ensures)
+    c.fault_of.ensures c.args.source.now (sym (c.in_ok-name.ensures ∙ ap (λ (all : List Mention). first_fault (is_undriven all) [] all) c.requires.whole) ∙ ap names_of c.in-Some.is)
 
 pub returns-in-Some-2-clause-fault : goal.returns-in-Some-2-clause-fault
-returns-in-Some-2-clause-fault c = (
+returns-in-Some-2-clause-fault c = c.fault_of-in-Some-2.ensures c.args.source.now (
   sym (c.in_ok-name.ensures ∙ ap (λ (all : List Mention). first_fault (is_undriven all) [] all) c.requires.whole) ∙ ap names_of c.in_default.is,
-  sym (c.in_ok-name-2.ensures c.args.source.now c.requires.whole) ∙ ap names_of c.in-Some-2.is ∙ ap Some (sym c.in_ok-copy-2.ensures),
+  sym (c.in_ok-name-2.ensures c.args.source.now c.requires.whole) ∙ ap names_of c.in-Some-2.is,
 )
 
 pub first_double-requires-clause-numbers : goal.first_double-requires-clause-numbers
@@ -34,12 +34,14 @@ assignment_order-requires c = (
   },
 )
 
-pub returns-in-Err-clause-fault : goal.returns-in-Err-clause-fault
-returns-in-Err-clause-fault c = rest-cause c.args.source.now c.in-Err.fault c.in_ok-found.ensures.acyclic c.in-Err.ensures.fault
+pub returns-in-Some-first_of_rest-clause-fault : goal.returns-in-Some-first_of_rest-clause-fault
+returns-in-Some-first_of_rest-clause-fault c =
+    let named = subst (IsFirstOfRest c.args.source.now) c.in-Some-first_of_rest.is c.first_of_rest.ensures in
+    c.fault_of-in-Some-first_of_rest.ensures c.args.source.now (named c.in_ok-found.ensures.acyclic)
 
-pub returns-in-Ok-clause-sound : goal.returns-in-Ok-clause-sound
-returns-in-Ok-clause-sound c =
-    let rest = c.in-Ok.ensures.sound in
+pub returns-in-None-clause-sound : goal.returns-in-None-clause-sound
+returns-in-None-clause-sound c =
+    let rest = subst (IsFirstOfRest c.args.source.now) c.in-None.is c.first_of_rest.ensures in
     record {
       acyclic = c.in_ok-found.ensures.acyclic;
       narrow = rest.narrow;
@@ -47,5 +49,5 @@ returns-in-Ok-clause-sound c =
       attributed = rest.attributed;
     }
 
-pub returns-in-Ok-clause-order : goal.returns-in-Ok-clause-order
-returns-in-Ok-clause-order c = c.in_ok-found.ensures.order
+pub returns-in-None-clause-order : goal.returns-in-None-clause-order
+returns-in-None-clause-order c = c.in_ok-found.ensures.order

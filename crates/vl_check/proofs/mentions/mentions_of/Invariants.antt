@@ -1,11 +1,11 @@
-use Rattle.std.proofs.Common.{◌≡◌, ◌++◌, map, take}
+use Rattle.std.proofs.Common.{◌++◌, map, take}
 use Rattle.std.specs.List.{flat_map}
 use Rattle.vl_ast.specs.Nets.{port_declared, Declares, item_mentions}
-use Rattle.vl_check.specs.inner.Mentioned.{shown}
+use Rattle.vl_check.proofs.Reading.{Has}
 use Rattle.vl_check.proofs.mentions.mentions_of.Given as goal
 
 abbrev pub invariant-loop-port : goal.invariant-loop-port
-invariant-loop-port l = shown l.mentions.items ≡ map (λ port. Declares (port_declared port)) (take l.port-index l.source.ports)
+invariant-loop-port l = Has l.mentions (map (λ port. Declares (port_declared port)) (take l.port-index l.source.ports))
 
 abbrev pub invariant-loop-item : goal.invariant-loop-item
-invariant-loop-item l = shown l.mentions.items ≡ map (λ port. Declares (port_declared port)) l.source.ports ++ flat_map item_mentions (take l.item-index l.source.items)
+invariant-loop-item l = Has l.mentions (map (λ port. Declares (port_declared port)) l.source.ports ++ flat_map item_mentions (take l.item-index l.source.items))

@@ -26,7 +26,7 @@ offset_bounds-stage-root c =
 
 pub loop-stage-init : goal.loop-stage-init
 loop-stage-init c =
-    let stack : c.push.new.self.items ≡ c.args.root ∷ [] = c.in_ok-push.ensures.items ∙ ap (λ (xs : List ℕ). xs ++ c.args.root ∷ []) c.new-stack.ensures.items in
+    let stack : c.put.new.items.items ≡ c.args.root ∷ [] = c.in_ok-put.ensures ∙ ap (λ (xs : List ℕ). xs ++ c.args.root ∷ []) c.new-stack.ensures.items in
     let begun = begun-with c.args.reads.now c.args.stage.now c.args.order.now.items c.args.root c.requires.state c.requires.root c.requires.white in
     record {
       state = subst (λ (xs : List ℕ). State c.args.reads.now (set c.args.stage.now c.args.root 1) xs c.args.order.now.items) (sym stack) begun.0;
