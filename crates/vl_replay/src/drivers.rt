@@ -28,8 +28,8 @@ pub enum Driver {
 fn is_own(port: &Port, stalls: bool) -> bool
     ensures { result ≡ is_own stalls port.now }
 {
-    (stalls && port.name.bytes() == b"clk_enable".as_slice())
-        || port.name.bytes() == b"reset".as_slice()
+    let name = port.name.bytes();
+    (stalls && name == b"clk_enable".as_slice()) || name == b"reset".as_slice()
 }
 
 /// How such a port is driven.

@@ -86,10 +86,9 @@ impl Replay {
         ensures source { OnOk result (module_of self.new ≡ module_of self.old) }
         ensures stimulus { OnOk result (stimulus_of self.new ≡ stimulus_of self.old) }
     {
-        let bits = vec![in alloc; 0u128; self.score.drivers.len()]?;
-        self.bits = bits;
-        let cells = vec![in alloc; 0i128; self.window as usize * self.score.samplers.len()]?;
-        self.cells = cells;
+        self.bits.resize(self.score.drivers.len(), 0)?;
+        self.cells
+            .resize(self.window as usize * self.score.samplers.len(), 0)?;
         play_ahead(
             alloc,
             &mut self.machine,
@@ -98,8 +97,7 @@ impl Replay {
             self.delay,
             &mut self.bits,
             &mut self.cells,
-        )?;
-        Ok(())
+        )
     }
 
     /// Goes on to the next sample. It takes no memory.

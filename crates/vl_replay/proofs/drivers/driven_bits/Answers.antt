@@ -1,4 +1,6 @@
-use Rattle.std.proofs.Common.{ap, sym, subst, arith}
+use Rattle.std.proofs.Common.{◌≤◌, Bool, if◌then◌else◌, nat_lt, ap, sym, subst, ◌∙◌, arith}
+use Rattle.std.proofs.lemmas.Bool.{le-ltb}
+use Rattle.vl_ast.specs.Value.{bits_of}
 use Rattle.vl_replay.specs.Sampled.{numbers_of}
 use Rattle.vl_replay.specs.inner.Driving.{IsWithin, driver_bits}
 use Rattle.vl_replay.proofs.drivers.driven_bits.Goals as goal
@@ -20,3 +22,13 @@ get-requires-clause-row_is_there c = omega (arith, c.count.ensures, c.if-sample-
 
 pub bits_of-requires : goal.bits_of-requires
 bits_of-requires c = (subst (IsWithin c.args.stimulus.now.columns) c.in-Column.is c.requires).2
+
+pub returns-else-sample-count : goal.returns-else-sample-count
+returns-else-sample-count c =
+    let table = c.args.stimulus.now in
+    let hit = c.hit_at-sample.result in
+    let column = c.in-Column in
+    let past : table.lines ≤ hit = omega (arith, c.count.ensures, c.if-sample-count.false) in
+    ap (λ (t : Bool). if t then bits_of column.width (numbers_of table column.place hit) else 0) (sym (le-ltb hit table.lines past))
+    ∙ ap (λ t. if nat_lt t table.lines then bits_of column.width (numbers_of table column.place t) else 0) c.hit_at-sample.ensures
+    ∙ ap (driver_bits (numbers_of table) table.lines c.args.sample) (sym column.is)

@@ -1,10 +1,19 @@
-use Rattle.std.proofs.Common.{◌≡◌, ◌≤◌, ◌+◌, ◌*◌, ℤ, ℕ, List, length, refl, ap, sym, subst, ◌∙◌, arith}
+use Rattle.std.proofs.Common.{◌≡◌, ◌≤◌, ◌+◌, ◌*◌, ℤ, ℕ, List, Ok, Err, length, refl, ap, sym, subst, ◌∙◌, arith}
+use Rattle.std.specs.Prelude.{IfOk, OnOk, Result}
 use Rattle.std.proofs.Math.Nat.{mul-le-mul_right}
 use Rattle.std.proofs.lemmas.List.{with_items_is}
 use Rattle.vl_eval.specs.Machine.{source_of}
 use Rattle.vl_replay.specs.inner.Played.{IsPlayed}
 use Rattle.vl_replay.proofs.Scores.{samplers-many}
 use Rattle.vl_replay.proofs.replay.Replay.begin.Goals as goal
+
+on-ok : {T E P Q : Type 0} (result : Result T E) → (P → Q) → IfOk result (λ done. P) → OnOk result Q
+on-ok (Ok done) more is = more is
+on-ok (Err wanting) more is = tt
+
+always : {T E P : Type 0} (result : Result T E) → P → OnOk result P
+always (Ok done) is = is
+always (Err wanting) is = tt
 
 pub overflow_mul-self : goal.overflow_mul-self
 overflow_mul-self c =
@@ -24,8 +33,8 @@ play_ahead-requires c =
         is = c.requires.score;
         row = c.requires.row;
         some = c.requires.window.some;
-        room = c.deref_mut-2.ensures.len ∙ c.in_ok-cells.ensures.len ∙ ap (λ (n : ℕ). replay.window * n) (c.len-2.ensures ∙ score.samplers.ok.0);
-        wide = c.deref_mut.ensures.len ∙ c.in_ok-bits.ensures.len ∙ c.len.ensures ∙ score.drivers.ok.0;
+        room = c.deref_mut-2.ensures.len ∙ c.in_ok-resize-2.ensures.len ∙ ap (λ (n : ℕ). replay.window * n) (c.len-2.ensures ∙ score.samplers.ok.0);
+        wide = c.deref_mut.ensures.len ∙ c.in_ok-resize.ensures.len ∙ c.len.ensures ∙ score.drivers.ok.0;
       };
       few = c.requires.few;
       late = c.requires.delay.few;
@@ -35,22 +44,24 @@ pub returns-clause-stands : goal.returns-clause-stands
 returns-clause-stands c =
     let replay = c.args.self.now in
     let score = replay.score in
-    let bits = c.in_ok-bits.bits in
-    let cells = c.in_ok-cells.cells in
+    let bits = c.resize.new.self in
+    let cells = c.resize-2.new.self in
     let many : length c.play_ahead.new.bits ≡ bits.len = c.play_ahead.auto.bits ∙ c.deref_mut.ensures.len in
     let long : length c.play_ahead.new.cells ≡ cells.len = c.play_ahead.auto.cells ∙ c.deref_mut-2.ensures.len in
     let first : replay.delay ≡ 0 + replay.delay = omega arith in
-    record {
+    on-ok c.play_ahead.result
+    (λ (played : IsPlayed score replay.window (replay.delay * score.cycles) c.play_ahead.new.machine c.play_ahead.new.cells). record {
       few = c.requires.few;
-      wide = ap length (with_items_is bits c.play_ahead.new.bits many) ∙ many ∙ c.in_ok-bits.ensures.len ∙ c.len.ensures ∙ score.drivers.ok.0;
+      wide = ap length (with_items_is bits c.play_ahead.new.bits many) ∙ many ∙ c.in_ok-resize.ensures.len ∙ c.len.ensures ∙ score.drivers.ok.0;
       delay = c.requires.delay;
       window = c.requires.window;
       played = subst (λ (items : List ℤ). IsPlayed score replay.window ((0 + replay.delay) * score.cycles) c.play_ahead.new.machine items) (sym (with_items_is cells c.play_ahead.new.cells long))
-          (subst (λ (n : ℕ). IsPlayed score replay.window (n * score.cycles) c.play_ahead.new.machine c.play_ahead.new.cells) first c.in_ok-play_ahead.ensures.played);
-    }
+          (subst (λ (n : ℕ). IsPlayed score replay.window (n * score.cycles) c.play_ahead.new.machine c.play_ahead.new.cells) first played);
+    })
+    c.play_ahead.ensures.played
 
 pub returns-clause-source : goal.returns-clause-source
-returns-clause-source c = c.play_ahead.ensures.source
+returns-clause-source c = always c.play_ahead.result c.play_ahead.ensures.source
 
 pub returns-clause-stimulus : goal.returns-clause-stimulus
-returns-clause-stimulus c = refl
+returns-clause-stimulus c = always c.play_ahead.result refl
