@@ -2,14 +2,12 @@
 use Rattle.std.proofs.Common.{◌≡◌, ◌<◌, ◌≤◌, ◌+◌, ◌++◌, [], ◌∷◌, refl, true, false, ℕ, List, Vec, Global, length, map, slice_index_or, take, sym, ap, subst, ◌∙◌, true≢false}
 use Rattle.std.specs.List.{flat_map}
 use Rattle.std.proofs.lemmas.List.{append-nil, append_assoc, flat_map_more, map-append, map_more, take_all, take_more}
-use Rattle.vl_ast.specs.declared.expressions.UnOp.{UnOp}
 use Rattle.vl_ast.specs.declared.expressions.BinOp.{BinOp}
-use Rattle.vl_ast.specs.declared.expressions.ShiftOp.{ShiftOp}
 use Rattle.vl_ast.specs.declared.expressions.Sized.{Sized}
 use Rattle.vl_ast.specs.declared.expressions.Expr.{Expr}
 use Rattle.vl_ast.specs.declared.expressions.Expr.TheOpen.{Expr-F}
-use Rattle.vl_ast.specs.declared.expressions.Expr.TheVariants.{Name, Bit, Part, Literal, Concat, Repeat, AsSigned, AsUnsigned, Unary, Binary, Shift, Choose}
-use Rattle.vl_ast.specs.declared.expressions.Expr.TheVariants.{rolls-Name, rolls-Bit, rolls-Part, rolls-Literal, rolls-Concat, rolls-Repeat, rolls-AsSigned, rolls-AsUnsigned, rolls-Unary, rolls-Binary, rolls-Shift, rolls-Choose}
+use Rattle.vl_ast.specs.declared.expressions.Expr.TheVariants.{Name, Bit, Part, Literal, Concat, Binary, Choose}
+use Rattle.vl_ast.specs.declared.expressions.Expr.TheVariants.{rolls-Name, rolls-Bit, rolls-Part, rolls-Literal, rolls-Concat, rolls-Binary, rolls-Choose}
 use Rattle.vl_ast.specs.declared.expressions.Expr.TheFolds.{fold-roll-Expr}
 use Rattle.vl_ast.specs.Conditions.{mentioned}
 use Rattle.vl_ast.specs.Nets.{Mention, Reads, names_read, names_step}
@@ -77,21 +75,6 @@ reads-part name high low e is put = puts-of e (Part name high low) is (ap names_
 
 pub reads-literal : (old : Mentions) (number : Sized) (e : Expr) → e ≡ Literal number → Puts old old (map Reads (names_read e))
 reads-literal old number e is = puts-of e (Literal number) is (ap names_read (sym (rolls-Literal number)) ∙ fold-roll-Expr (List (List ℕ)) names_step (Expr-F.Literal number)) (none-put old)
-
-pub reads-repeat : {old new : Mentions} (count : ℕ) (part e : Expr) → e ≡ Repeat count part → Puts old new (map Reads (names_read part)) → Puts old new (map Reads (names_read e))
-reads-repeat count part e is put = puts-of e (Repeat count part) is (ap names_read (sym (rolls-Repeat count part)) ∙ fold-roll-Expr (List (List ℕ)) names_step (Expr-F.Repeat count part)) put
-
-pub reads-signed : {old new : Mentions} (part e : Expr) → e ≡ AsSigned part → Puts old new (map Reads (names_read part)) → Puts old new (map Reads (names_read e))
-reads-signed part e is put = puts-of e (AsSigned part) is (ap names_read (sym (rolls-AsSigned part)) ∙ fold-roll-Expr (List (List ℕ)) names_step (Expr-F.AsSigned part)) put
-
-pub reads-unsigned : {old new : Mentions} (part e : Expr) → e ≡ AsUnsigned part → Puts old new (map Reads (names_read part)) → Puts old new (map Reads (names_read e))
-reads-unsigned part e is put = puts-of e (AsUnsigned part) is (ap names_read (sym (rolls-AsUnsigned part)) ∙ fold-roll-Expr (List (List ℕ)) names_step (Expr-F.AsUnsigned part)) put
-
-pub reads-unary : {old new : Mentions} (op : UnOp) (part e : Expr) → e ≡ Unary op part → Puts old new (map Reads (names_read part)) → Puts old new (map Reads (names_read e))
-reads-unary op part e is put = puts-of e (Unary op part) is (ap names_read (sym (rolls-Unary op part)) ∙ fold-roll-Expr (List (List ℕ)) names_step (Expr-F.Unary op part)) put
-
-pub reads-shift : {old new : Mentions} (op : ShiftOp) (part : Expr) (amount : Sized) (e : Expr) → e ≡ Shift op part amount → Puts old new (map Reads (names_read part)) → Puts old new (map Reads (names_read e))
-reads-shift op part amount e is put = puts-of e (Shift op part amount) is (ap names_read (sym (rolls-Shift op part amount)) ∙ fold-roll-Expr (List (List ℕ)) names_step (Expr-F.Shift op part amount)) put
 
 pub reads-binary : {old mid new : Mentions} (op : BinOp) (l r e : Expr) → e ≡ Binary op l r → Puts old mid (map Reads (names_read l)) → Puts mid new (map Reads (names_read r)) → Puts old new (map Reads (names_read e))
 reads-binary op l r e is first second =
