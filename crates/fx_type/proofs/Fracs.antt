@@ -1,12 +1,12 @@
 -- The greatest frac of a list of terms. Crates above may cite this file.
-use Rattle.std.proofs.Common.{◌≡◌, ℕ, ◌+◌, ◌<◌, ◌≤◌, Bool, inl, inr, take, length, get_or, ℤ, ◌≤ℤ◌, All, Any, sym, ◌∙◌, subst, arith, take_all, List, [], zero, suc, ◌∷◌}
+use Rattle.std.proofs.Common.{◌≡◌, ℕ, ◌+◌, ◌<◌, ◌≤◌, Bool, inl, inr, take, length, get_or, ℤ, pos, negsuc, ◌≤ℤ◌, All, Any, sym, ◌∙◌, subst, arith, take_all, List, [], zero, suc, ◌∷◌}
 use Rattle.std.specs.Int.{int_max}
 use Rattle.std.proofs.lemmas.Int.{ints}
 use Rattle.std.proofs.lemmas.List.{get_or_default}
 use Rattle.std.proofs.lemmas.List.Elements.{All-weaker, All-more}
-use Rattle.fx_type.proofs.Ranges.{int_max_cases}
+use Rattle.fx_type.proofs.Ranges.{frac_bounds, int_max_cases}
 use Rattle.fx_type.specs.declared.kind.FxType.{FxType}
-use Rattle.fx_type.specs.FxType.{frac_of}
+use Rattle.fx_type.specs.FxType.{IsType, frac_of}
 use Rattle.fx_type.specs.FullType.{Terms, IsGreatestFrac}
 use Rattle.std.specs.Prelude.{zip}
 
@@ -31,6 +31,14 @@ greatest_of_all terms i g h all any = record {
   bound = subst (λ (xs : Terms). All (λ term. frac_of term.1 ≤ℤ g) xs) (take_all i terms h) all;
   reached = any;
 }
+
+-- it is that of a valid type
+pub greatest_bounds : (terms : Terms) (frac : ℤ) → All (λ term. IsType term.1) terms → IsGreatestFrac terms frac → (negsuc 63 ≤ℤ frac) × (frac ≤ℤ pos 128)
+greatest_bounds terms frac valid greatest =
+    let (k, x, inside, at, reached) = greatest.reached in
+    let type : IsType x.1 = subst (λ (y : Bool × FxType). IsType y.1) at (valid k x inside) in
+    let bounds = frac_bounds x.1 type in
+    (omega (arith, ints, bounds.0, reached), omega (arith, ints, bounds.1, reached))
 
 -- the greatest frac bounds each type's
 pub bound_at : (frac : ℤ) (signs : List Bool) (types : List FxType) → All (λ (term : Bool × FxType). frac_of term.1 ≤ℤ frac) (zip signs types) → length signs ≡ length types → (k : ℕ) (d : FxType) → k < length types → frac_of (get_or types k d) ≤ℤ frac

@@ -2,7 +2,7 @@
 ghost use Rattle.std.specs.Prelude.{◌^◌, ◌<◌, ◌≤ℤ◌, pos, negsuc};
 
 /// The digits times 10 to the exponent, with its sign. Source: own.
-#[derive(Clone, Copy, Debug, PartialEq, Eq)]
+#[derive(Clone, Copy, Debug)]
 pub struct Decimal {
     /// Whether the number stands behind a minus sign.
     pub negative: bool,

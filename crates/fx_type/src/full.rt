@@ -12,7 +12,7 @@ ghost use Rattle.fx_type.specs.declared.kind.FxType.{FxType};
 use crate::kind::FxType;
 
 /// The described type is not valid.
-#[derive(Clone, Copy, Debug, PartialEq, Eq)]
+#[derive(Clone, Copy, Debug)]
 pub struct TooWide;
 
 /// The ends of what a term or a sum can be.

@@ -1,7 +1,7 @@
 //! How a number between two whole numbers is rounded.
 
 /// A rounding mode. Source: Fixed-Point Designer.
-#[derive(Clone, Copy, Debug, PartialEq, Eq)]
+#[derive(Clone, Copy, Debug)]
 pub enum Rounding {
     /// Toward minus infinity.
     Floor,

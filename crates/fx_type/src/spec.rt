@@ -3,7 +3,7 @@
 use crate::kind::FxType;
 
 /// What a block says of its output's type. Source: Simulink reference, `OutDataTypeStr`.
-#[derive(Clone, Copy, Debug, PartialEq, Eq)]
+#[derive(Clone, Copy, Debug)]
 pub enum TypeSpec {
     /// This type.
     Fixed(FxType),

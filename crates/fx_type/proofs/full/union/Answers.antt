@@ -1,4 +1,4 @@
-use Rattle.std.proofs.Common.{◌≡◌, ◌≢◌, SFits, false, ℤ, pos, ◌≤ℤ◌, to_z, of_z, ◌∙◌, ap₂, arith, rules}
+use Rattle.std.proofs.Common.{◌≡◌, ◌≢◌, false, ℤ, pos, ◌≤ℤ◌, to_z, of_z, ◌∙◌, ap₂, arith, rules}
 use Rattle.std.specs.Int.{w16, w128, int_max, int_min}
 use Rattle.std.proofs.lemmas.Int.{ints, clamps, to_z-of_z}
 use Rattle.fx_type.specs.declared.kind.FxType.{FxType}
@@ -8,23 +8,29 @@ use Rattle.fx_type.proofs.Ends.{least_sign, greatest_sign}
 use Rattle.fx_type.proofs.Ranges.{frac_bounds, int_max_most}
 use Rattle.fx_type.proofs.FullTypes.{OnErr-from, no_left, no_right, union_is}
 use Rattle.fx_type.proofs.full.union.Goals as goal
+use Rattle.fx_type.proofs.full.union.Goals.{After-max-frac}
 
--- the greater of two fracs, given through its bits and theirs
-frac_is : (a b x y most : ℤ) → SFits w16 a → SFits w16 b → SFits w16 most → most ≡ int_max (to_z w16 (of_z w16 a)) (to_z w16 (of_z w16 b)) → a ≡ x → b ≡ y → to_z w16 (of_z w16 most) ≡ int_max x y
-frac_is a b x y most a_fits b_fits fits is left right = to_z-of_z w16 most fits ∙ is ∙ ap₂ int_max (to_z-of_z w16 a a_fits ∙ left) (to_z-of_z w16 b b_fits ∙ right)
+-- the greater frac
+max_frac : (c : After-max-frac) → to_z w16 (of_z w16 c.max-frac.result) ≡ int_max (frac_of c.args.a) (frac_of c.args.b)
+max_frac c =
+    let left = to_z-of_z w16 c.frac.result (record { sfits = c.frac.type_inv }) ∙ c.frac.ensures in
+    let right = to_z-of_z w16 c.frac-2.result (record { sfits = c.frac-2.type_inv }) ∙ c.frac-2.ensures in
+    to_z-of_z w16 c.max-frac.result (record { sfits = c.max-frac.type_inv }) ∙ c.max-frac.ensures.value ∙ ap₂ int_max left right
+
+-- the types are not the same
+differ : (c : After-max-frac) → c.args.a ≢ c.args.b
+differ c = search rules
 
 pub returns-in_err-left-clause-too_wide : goal.returns-in_err-left-clause-too_wide
 returns-in_err-left-clause-too_wide c =
-    let f = frac_is c.frac.result c.frac-2.result (frac_of c.args.a) (frac_of c.args.b) c.max-frac.result (record { sfits = c.frac.type_inv }) (record { sfits = c.frac-2.type_inv }) (record { sfits = c.max-frac.type_inv })
-    c.max-frac.ensures.value c.frac.ensures c.frac-2.ensures in
-    let d : c.args.a ≢ c.args.b = search rules in
+    let f = max_frac (goal.at.returns-in_err-left-clause-too_wide c).After-max-frac in
+    let d = differ (goal.at.returns-in_err-left-clause-too_wide c).After-max-frac in
     OnErr-from c.from_residual.result _ (no_left c.args.a c.args.b d (rw f at c.in_err-left.ensures))
 
 pub returns-in_err-right-clause-too_wide : goal.returns-in_err-right-clause-too_wide
 returns-in_err-right-clause-too_wide c =
-    let f = frac_is c.frac.result c.frac-2.result (frac_of c.args.a) (frac_of c.args.b) c.max-frac.result (record { sfits = c.frac.type_inv }) (record { sfits = c.frac-2.type_inv }) (record { sfits = c.max-frac.type_inv })
-    c.max-frac.ensures.value c.frac.ensures c.frac-2.ensures in
-    let d : c.args.a ≢ c.args.b = search rules in
+    let f = max_frac (goal.at.returns-in_err-right-clause-too_wide c).After-max-frac in
+    let d = differ (goal.at.returns-in_err-right-clause-too_wide c).After-max-frac in
     OnErr-from c.from_residual-in_err-right.result _ (no_right c.args.a c.args.b d (rw f at c.in_err-right.ensures))
 
 pub term_span-requires-clause-least : goal.term_span-requires-clause-least
@@ -41,14 +47,12 @@ term_span-requires-2-clause-least c =
 
 pub term_span-requires-clause-greatest : goal.term_span-requires-clause-greatest
 term_span-requires-clause-greatest c =
-    rw (frac_is c.frac.result c.frac-2.result (frac_of c.args.a) (frac_of c.args.b) c.max-frac.result (record { sfits = c.frac.type_inv }) (record { sfits = c.frac-2.type_inv }) (record { sfits = c.max-frac.type_inv })
-    c.max-frac.ensures.value c.frac.ensures c.frac-2.ensures)
+    rw (max_frac (goal.at.term_span-requires-clause-greatest c).After-max-frac)
     (int_max_most (frac_of c.args.a) (frac_of c.args.b) (pos 128) (frac_bounds c.args.a c.requires.left).1 (frac_bounds c.args.b c.requires.right).1)
 
 pub term_span-requires-2-clause-greatest : goal.term_span-requires-2-clause-greatest
 term_span-requires-2-clause-greatest c =
-    rw (frac_is c.frac.result c.frac-2.result (frac_of c.args.a) (frac_of c.args.b) c.max-frac.result (record { sfits = c.frac.type_inv }) (record { sfits = c.frac-2.type_inv }) (record { sfits = c.max-frac.type_inv })
-    c.max-frac.ensures.value c.frac.ensures c.frac-2.ensures)
+    rw (max_frac (goal.at.term_span-requires-2-clause-greatest c).After-max-frac)
     (int_max_most (frac_of c.args.a) (frac_of c.args.b) (pos 128) (frac_bounds c.args.a c.requires.left).1 (frac_bounds c.args.b c.requires.right).1)
 
 left_sign : (f : ℤ) (a : FxType) → least_term f (false, a) ≤ℤ pos 0
@@ -73,13 +77,13 @@ narrowest-requires-clause-least c =
 
 pub narrowest-requires-clause-greatest : goal.narrowest-requires-clause-greatest
 narrowest-requires-clause-greatest c =
-    omega (arith, ints, clamps, c.max-frac.ensures.value, c.frac.ensures, c.frac-2.ensures, frac_bounds c.args.a c.requires.left, frac_bounds c.args.b c.requires.right)
+    rw (max_frac (goal.at.narrowest-requires-clause-greatest c).After-max-frac)
+    (int_max_most (frac_of c.args.a) (frac_of c.args.b) (pos 128) (frac_bounds c.args.a c.requires.left).1 (frac_bounds c.args.b c.requires.right).1)
 
 pub returns-clause-ok : goal.returns-clause-ok
 returns-clause-ok c =
-    let f = frac_is c.frac.result c.frac-2.result (frac_of c.args.a) (frac_of c.args.b) c.max-frac.result (record { sfits = c.frac.type_inv }) (record { sfits = c.frac-2.type_inv }) (record { sfits = c.max-frac.type_inv })
-    c.max-frac.ensures.value c.frac.ensures c.frac-2.ensures in
-    let d : c.args.a ≢ c.args.b = search rules in
+    let f = max_frac (goal.at.returns-clause-ok c).After-max-frac in
+    let d = differ (goal.at.returns-clause-ok c).After-max-frac in
     let l : to_z w128 (of_z w128 c.min.result) ≡ int_min c.in_ok-left.left.low c.in_ok-right.right.low = omega (arith, ints, clamps, c.min.ensures.value) in
     let h : to_z w128 (of_z w128 c.max.result) ≡ int_max c.in_ok-left.left.high c.in_ok-right.right.high = omega (arith, ints, clamps, c.max.ensures.value) in
     union_is c.args.a c.args.b c.in_ok-left.left c.in_ok-right.right c.narrowest.result _ _ _ d f c.in_ok-left.ensures c.in_ok-right.ensures l h c.narrowest.ensures
