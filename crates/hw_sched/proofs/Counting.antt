@@ -31,46 +31,54 @@ use Rattle.hw_sched.specs.Ready.{AreReady, declared_latency, ready_of}
 use Rattle.hw_sched.specs.Answer.{timing_of}
 use Rattle.hw_sched.specs.Slots.{Timing, operation, operations_of, shared_operations}
 use Rattle.hw_sched.specs.Storage.{lines_in_all, registers_at, registers_in_all, storage, greatest_latency}
-use Rattle.hw_sched.specs.inner.Counted.{line_at, lines_of, controls_line, results_at, is_root_output, is_output, output_latency}
+use Rattle.hw_sched.specs.inner.Counted.{capped, line_at, lines_of, controls_line, results_at, is_root_output, is_output, output_latency}
 use Rattle.hw_sched.proofs.Lists.{greatest_within}
 
 -- ---- lines
+
+-- those of all lines are these and those of some edges, saturating
+pub record AreBeside (diagram : Diagram) (attributes : Attributes) (plan : Resolved) (timing : Timing) (count : ℕ) (edges : List LatencyEdge) : Type 0 where
+  pub sum_is : capped (count + lines_of diagram attributes plan timing edges) ≡ capped (lines_in_all diagram attributes plan timing)
+  pub fits : capped count ≡ count
 
 module _ (diagram : Diagram) (attributes : Attributes) (plan : Resolved) (timing : Timing) where
   abbrev lines : List LatencyEdge → ℕ
   lines edges = lines_of diagram attributes plan timing edges
 
-  -- those of all lines are these and those of some edges
-  abbrev pub AreBeside : ℕ → List LatencyEdge → Type 0
-  AreBeside count edges = count + lines edges ≡ lines_in_all diagram attributes plan timing
+  abbrev Beside : ℕ → List LatencyEdge → Type 0
+  Beside count edges = AreBeside diagram attributes plan timing count edges
 
-  beside_more : (count more all : ℕ) (front rest : List LatencyEdge) → more ≡ lines front → all ≡ count + more → AreBeside count (front ++ rest) → AreBeside all rest
+  beside_more : (count more all : ℕ) (front rest : List LatencyEdge) → more ≡ capped (lines front) → all ≡ capped (count + more) → Beside count (front ++ rest) → Beside all rest
   beside_more count more all front rest more_is all_is beside =
       let parts : lines (front ++ rest) ≡ lines front + lines rest =
       ap (λ (xs : List ℕ). sum xs) (map-append (line_at diagram attributes plan timing) front rest) ∙ sum_by-append (λ (n : ℕ). n) (map (line_at diagram attributes plan timing) front) (map (line_at diagram attributes plan timing) rest) in
-      omega (arith, parts, more_is, all_is, beside)
+      let sum_is = beside.sum_is in
+      record { sum_is = omega (arith, parts, more_is, all_is, sum_is); fits = omega (arith, all_is) }
 
-  pub beside_line : (count more all i : ℕ) (line : Edge) → slice_get diagram.edges i ≡ Some line → more ≡ line_at diagram attributes plan timing (signal_edge line) → all ≡ count + more
-      → AreBeside count (map signal_edge (drop i diagram.edges) ++ enable_edges_from 0 diagram.blocks) → AreBeside all (map signal_edge (drop (i + 1) diagram.edges) ++ enable_edges_from 0 diagram.blocks)
+  pub beside_line : (count more all i : ℕ) (line : Edge) → slice_get diagram.edges i ≡ Some line → more ≡ capped (line_at diagram attributes plan timing (signal_edge line)) → all ≡ capped (count + more)
+      → Beside count (map signal_edge (drop i diagram.edges) ++ enable_edges_from 0 diagram.blocks) → Beside all (map signal_edge (drop (i + 1) diagram.edges) ++ enable_edges_from 0 diagram.blocks)
   beside_line count more all i line at more_is all_is beside =
       let one = sum-cons (line_at diagram attributes plan timing (signal_edge line)) [] in
-      beside_more count more all (signal_edge line ∷ []) (map signal_edge (drop (i + 1) diagram.edges) ++ enable_edges_from 0 diagram.blocks) (omega (arith, one, more_is)) all_is
-      (subst (λ (es : List LatencyEdge). AreBeside count es) (lines_from diagram i line (enable_edges_from 0 diagram.blocks) at) beside)
+      let same : line_at diagram attributes plan timing (signal_edge line) ≡ lines (signal_edge line ∷ []) = omega (arith, one) in
+      beside_more count more all (signal_edge line ∷ []) (map signal_edge (drop (i + 1) diagram.edges) ++ enable_edges_from 0 diagram.blocks) (more_is ∙ ap capped same) all_is
+      (subst (λ (es : List LatencyEdge). Beside count es) (lines_from diagram i line (enable_edges_from 0 diagram.blocks) at) beside)
 
-  pub beside_lines : (count i : ℕ) → length diagram.edges ≤ i → AreBeside count (map signal_edge (drop i diagram.edges) ++ enable_edges_from 0 diagram.blocks) → AreBeside count (enable_edges_from 0 (drop 0 diagram.blocks))
-  beside_lines count i end beside = subst (λ (es : List LatencyEdge). AreBeside count es) (ap (λ (es : List Edge). map signal_edge es ++ enable_edges_from 0 diagram.blocks) (drop_all i diagram.edges end)) beside
+  pub beside_lines : (count i : ℕ) → length diagram.edges ≤ i → Beside count (map signal_edge (drop i diagram.edges) ++ enable_edges_from 0 diagram.blocks) → Beside count (enable_edges_from 0 (drop 0 diagram.blocks))
+  beside_lines count i end beside = subst (λ (es : List LatencyEdge). Beside count es) (ap (λ (es : List Edge). map signal_edge es ++ enable_edges_from 0 diagram.blocks) (drop_all i diagram.edges end)) beside
 
-  pub beside_control : (count more all i : ℕ) (block : Block) → slice_get diagram.blocks i ≡ Some block → more ≡ controls_line diagram attributes plan timing i (slice_get diagram.blocks i) → all ≡ count + more
-      → AreBeside count (enable_edges_from i (drop i diagram.blocks)) → AreBeside all (enable_edges_from (i + 1) (drop (i + 1) diagram.blocks))
+  pub beside_control : (count more all i : ℕ) (block : Block) → slice_get diagram.blocks i ≡ Some block → more ≡ capped (controls_line diagram attributes plan timing i (slice_get diagram.blocks i)) → all ≡ capped (count + more)
+      → Beside count (enable_edges_from i (drop i diagram.blocks)) → Beside all (enable_edges_from (i + 1) (drop (i + 1) diagram.blocks))
   beside_control count more all i block at more_is all_is beside =
       beside_more count more all (enable_edge i (asks_ever (row_of block.kind).timing.asks) block.enable) (enable_edges_from (i + 1) (drop (i + 1) diagram.blocks))
-      (more_is ∙ ap (controls_line diagram attributes plan timing i) at) all_is
-      (subst (λ (es : List LatencyEdge). AreBeside count es) (controls_from diagram i block at) beside)
+      (more_is ∙ ap (λ (block : Option Block). capped (controls_line diagram attributes plan timing i block)) at) all_is
+      (subst (λ (es : List LatencyEdge). Beside count es) (controls_from diagram i block at) beside)
 
-  pub beside_none : (count i : ℕ) → length diagram.blocks ≤ i → AreBeside count (enable_edges_from i (drop i diagram.blocks)) → count ≡ lines_in_all diagram attributes plan timing
+  pub beside_none : (count i : ℕ) → length diagram.blocks ≤ i → Beside count (enable_edges_from i (drop i diagram.blocks)) → count ≡ capped (lines_in_all diagram attributes plan timing)
   beside_none count i end beside =
       let none = ap (λ (bs : List Block). lines (enable_edges_from i bs)) (drop_all i diagram.blocks end) in
-      omega (arith, none, beside)
+      let sum_is = beside.sum_is in
+      let fits = beside.fits in
+      omega (arith, none, sum_is, fits)
 
   one_line : (edge : LatencyEdge) (count : ℕ) → count ≡ line_at diagram attributes plan timing edge → count ≡ lines (edge ∷ [])
   one_line edge count is = let one = sum-cons (line_at diagram attributes plan timing edge) [] in omega (arith, one, is)
@@ -115,25 +123,30 @@ results_are diagram attributes plan =
     ∙ sym (filtered_length (operations_of attributes) (is_shared diagram attributes plan) (numbers_from 0 (length diagram.blocks)))
 
 -- two sums that one loop makes
-pub both_more : (f g : ℕ → ℕ) (count more too both all place : ℕ) → more ≡ f place → too ≡ g place → both ≡ more + too → all ≡ count + both → count ≡ sum_below f place + sum_below g place
-    → all ≡ sum_below f (place + 1) + sum_below g (place + 1)
-both_more f g count more too both all place more_is too_is both_is all_is is =
+pub both_more : (f g : ℕ → ℕ) (count more too some all place : ℕ) → more ≡ capped (f place) → too ≡ g place → some ≡ capped (count + more) → all ≡ capped (some + too)
+    → count ≡ capped (sum_below f place + sum_below g place) → all ≡ capped (sum_below f (place + 1) + sum_below g (place + 1))
+both_more f g count more too some all place more_is too_is some_is all_is is =
     let one : place + 1 ≡ suc place = omega arith in
-    omega (arith, ap (sum_below f) one, ap (sum_below g) one, sum_below_next f place, sum_below_next g place, more_is, too_is, both_is, all_is, is)
+    omega (arith, ap (sum_below f) one, ap (sum_below g) one, sum_below_next f place, sum_below_next g place, more_is, too_is, some_is, all_is, is)
 
 -- what the blocks before a place keep and have as results is that of all
 pub blocks_all : (diagram : Diagram) (attributes : Attributes) (plan : Resolved) (count place : ℕ) → place ≡ length diagram.blocks
-    → count ≡ sum_below (kept_at diagram attributes plan) place + sum_below (results_at diagram attributes plan) place
-    → count ≡ registers_in_all diagram attributes plan + length (shared_operations diagram attributes plan)
+    → count ≡ capped (sum_below (kept_at diagram attributes plan) place + sum_below (results_at diagram attributes plan) place)
+    → count ≡ capped (registers_in_all diagram attributes plan + length (shared_operations diagram attributes plan))
 blocks_all diagram attributes plan count place end is =
-    is ∙ ap (λ (n : ℕ). sum_below (kept_at diagram attributes plan) n + sum_below (results_at diagram attributes plan) n) end
-    ∙ ap (λ (n : ℕ). registers_in_all diagram attributes plan + n) (results_are diagram attributes plan)
+    is ∙ ap (λ (n : ℕ). capped (sum_below (kept_at diagram attributes plan) n + sum_below (results_at diagram attributes plan) n)) end
+    ∙ ap (λ (n : ℕ). capped (registers_in_all diagram attributes plan + n)) (results_are diagram attributes plan)
+
+sum_capped : (one other first second all : ℕ) → first ≡ capped one → second ≡ capped other → all ≡ capped (first + second) → all ≡ capped (one + other)
+sum_capped one other first second all first_is second_is all_is = omega (arith, first_is, second_is, all_is)
 
 -- all of them
-pub storage_as : (diagram : Diagram) (plan : Resolved) (latencies : Latencies) (depths : List ℕ) (lines blocks all : ℕ) → lines ≡ lines_in_all diagram (attributes_of diagram) plan (timing_of latencies [])
-    → blocks ≡ registers_in_all diagram (attributes_of diagram) plan + length (shared_operations diagram (attributes_of diagram) plan) → all ≡ lines + blocks → all ≡ storage diagram (attributes_of diagram) plan (timing_of latencies depths)
+pub storage_as : (diagram : Diagram) (plan : Resolved) (latencies : Latencies) (depths : List ℕ) (lines blocks all : ℕ) → lines ≡ capped (lines_in_all diagram (attributes_of diagram) plan (timing_of latencies []))
+    → blocks ≡ capped (registers_in_all diagram (attributes_of diagram) plan + length (shared_operations diagram (attributes_of diagram) plan)) → all ≡ capped (lines + blocks)
+    → all ≡ capped (storage diagram (attributes_of diagram) plan (timing_of latencies depths))
 storage_as diagram plan latencies depths lines blocks all lines_are blocks_are all_is =
-    all_is ∙ ap (λ (n : ℕ). n + blocks) lines_are ∙ ap (λ (n : ℕ). lines_in_all diagram (attributes_of diagram) plan (timing_of latencies depths) + n) blocks_are
+    sum_capped (lines_in_all diagram (attributes_of diagram) plan (timing_of latencies depths)) (registers_in_all diagram (attributes_of diagram) plan + length (shared_operations diagram (attributes_of diagram) plan))
+    lines blocks all lines_are blocks_are all_is
 
 -- ---- greatest numbers
 
@@ -147,7 +160,7 @@ greatest_next f from (suc n) =
 abbrev pub greatest_below : (ℕ → ℕ) → ℕ → ℕ
 greatest_below f n = greatest (map f (numbers_from 0 n))
 
-pub greatest_more : (f : ℕ → ℕ) (best met all place : ℕ) → met ≡ f place → all ≡ max best met → best ≡ greatest_below f place → all ≡ greatest_below f (place + 1)
+pub greatest_more : (f : ℕ → ℕ) (best met all place : ℕ) → met ≡ capped (f place) → all ≡ max best met → best ≡ capped (greatest_below f place) → all ≡ capped (greatest_below f (place + 1))
 greatest_more f best met all place met_is all_is is =
     let e : f (0 + place) ≡ f place = ap f (omega arith) in
     let next = greatest_next f 0 place in

@@ -1,18 +1,15 @@
 //! The registers of blocks beside lines, and the results that they keep.
-ghost use Rattle.std.specs.Prelude.{◌≡◌, ◌<◌, ◌≤◌, ◌+◌, ◌^◌, IfOk, length, slice_get};
+ghost use Rattle.std.specs.Prelude.{◌≡◌, ◌<◌, ◌≤◌, ◌+◌, ◌^◌, length, slice_get};
 ghost use Rattle.dg_model.specs.Attributes.{attributes_of};
 ghost use Rattle.dg_model.specs.PlanOf.{IsPlanOf};
 ghost use Rattle.hw_sched.specs.Slots.{shared_operations};
 ghost use Rattle.hw_sched.specs.Storage.{kept_by_role as kept_by_role_of, keeps_own as keeps_own_of, registers_at as registers_at_of};
 ghost use Rattle.hw_sched.specs.Storage.{registers_in_all as registers_in_all_of};
-ghost use Rattle.hw_sched.specs.inner.Counted.{results_at as results_at_of, values_kept as values_kept_of};
+ghost use Rattle.hw_sched.specs.inner.Counted.{capped, results_at as results_at_of, values_kept as values_kept_of};
 
 use crate::drivers::{own_width, period_into};
-use crate::edge_lines::times;
 use dg_model::{Checked, Kind, Resolved, Role};
-use fx_io::OutOfMemory;
 use hw_latency::{block_at, is_shared};
-use hw_slots::total;
 
 /// Whether a Delay with this control and a driver of this period keeps its own values.
 fn keeps_own(enable: Option<u32>, driver: Option<u32>) -> bool
@@ -50,12 +47,12 @@ fn values_kept(kind: &Kind, keeps_own: bool) -> u64
     }
 }
 
-/// The registers of a block beside lines.
-fn registers_at(checked: &Checked, plan: &Resolved, place: u32) -> Result<u64, OutOfMemory>
+/// The registers of a block beside lines, saturating.
+fn registers_at(checked: &Checked, plan: &Resolved, place: u32) -> u128
     requires plan { IsPlanOf checked.now.diagram plan.now }
     requires there { place < length checked.now.diagram.blocks }
-    ensures { IfOk result (λ count.
-        count ≡ registers_at_of checked.now.diagram (attributes_of checked.now.diagram) plan.now
+    ensures { result ≡ capped (registers_at_of checked.now.diagram
+        (attributes_of checked.now.diagram) plan.now
         place (slice_get checked.now.diagram.blocks place)) }
 {
     let block = block_at(checked, place);
@@ -63,7 +60,7 @@ fn registers_at(checked: &Checked, plan: &Resolved, place: u32) -> Result<u64, O
     let kept = values_kept(&block.kind, keeps);
     let stages = plan.stages.as_slice()[place as usize];
     let each = u64::from(stages) + kept;
-    times(u64::from(own_width(checked, place)), each)
+    u128::from(own_width(checked, place)).saturating_mul(u128::from(each))
 }
 
 /// The results of the shared operations of a block.
@@ -80,21 +77,24 @@ fn results_at(checked: &Checked, plan: &Resolved, place: u32) -> u32
     }
 }
 
-/// The registers of all blocks beside lines, and the results of all shared operations, one each.
-pub fn blocks_in_all(checked: &Checked, plan: &Resolved) -> Result<u64, OutOfMemory>
+/// The registers of all blocks beside lines, and the results of all shared operations, one each,
+/// saturating.
+pub fn blocks_in_all(checked: &Checked, plan: &Resolved) -> u128
     requires plan { IsPlanOf checked.now.diagram plan.now }
-    ensures { IfOk result (λ count.
-        count ≡ registers_in_all_of checked.now.diagram (attributes_of checked.now.diagram) plan.now
+    ensures { result ≡ capped (registers_in_all_of checked.now.diagram
+        (attributes_of checked.now.diagram) plan.now
         + length (shared_operations checked.now.diagram (attributes_of checked.now.diagram)
         plan.now)) }
 {
     checked.keeps_rules();
     let blocks = checked.diagram().blocks.as_slice();
-    let mut all = 0u64;
+    let mut all = 0u128;
     for place in 0..blocks.len() {
-        let registers = registers_at(checked, plan, place as u32)?;
+        let registers = registers_at(checked, plan, place as u32);
         let results = results_at(checked, plan, place as u32);
-        all = total(all, total(registers, u64::from(results))?)?;
+        all = all
+            .saturating_add(registers)
+            .saturating_add(u128::from(results));
     }
-    Ok(all)
+    all
 }

@@ -1,17 +1,14 @@
 //! How late root outputs are in clocks.
-ghost use Rattle.std.specs.Prelude.{◌≡◌, ◌<◌, IfOk, Some, length, map};
+ghost use Rattle.std.specs.Prelude.{◌≡◌, ◌<◌, Some, length, map};
 ghost use Rattle.dg_waves.specs.Rounds.{numbers_from};
 ghost use Rattle.dg_model.specs.Attributes.{attributes_of};
 ghost use Rattle.dg_model.specs.Widths.{greatest};
 ghost use Rattle.hw_latency.specs.Latency.{AreLatencies};
-ghost use Rattle.hw_sched.specs.inner.Counted.{is_output as is_output_of, is_root_output as is_root_output_of, output_latency as output_latency_of};
+ghost use Rattle.hw_sched.specs.inner.Counted.{capped, is_output as is_output_of, is_root_output as is_root_output_of, output_latency as output_latency_of};
 
 use crate::drivers::width_into;
-use crate::edge_lines::times;
 use dg_model::{Block, Checked, Resolved};
-use fx_io::OutOfMemory;
 use hw_latency::{Latencies, block_at};
-use hw_slots::total;
 
 /// Whether a block is a root output.
 fn is_root_output(block: &Block) -> bool
@@ -29,49 +26,47 @@ fn is_output(checked: &Checked, place: u32) -> bool
     is_root_output(block_at(checked, place)) && width_into(checked, place) > 0
 }
 
-/// How late a block is in clocks as a root output, 0 where it is none.
+/// How late a block is in clocks as a root output, saturating; 0 where it is none.
 fn output_latency(
     checked: &Checked,
     plan: &Resolved,
     latencies: &Latencies,
     ready: &[u64],
     place: u32,
-) -> Result<u64, OutOfMemory>
+) -> u128
     requires latencies { AreLatencies checked.now.diagram plan.now latencies.now }
     requires ready { length ready.now ≡ length checked.now.diagram.blocks }
     requires there { place < length checked.now.diagram.blocks }
-    ensures { IfOk result (λ clocks.
-        clocks ≡ output_latency_of checked.now.diagram (attributes_of checked.now.diagram) plan.now
-        latencies.now.lat ready.now place) }
+    ensures { result ≡ capped (output_latency_of checked.now.diagram
+        (attributes_of checked.now.diagram) plan.now latencies.now.lat ready.now place) }
 {
     if !is_output(checked, place) {
-        return Ok(0);
+        return 0;
     }
-    let lat = latencies.lat.as_slice()[place as usize];
-    let clocks = times(lat, u64::from(plan.cycles))?;
-    total(clocks, ready[place as usize])
+    let lat = u128::from(latencies.lat.as_slice()[place as usize]);
+    let clocks = lat.saturating_mul(u128::from(plan.cycles));
+    clocks.saturating_add(u128::from(ready[place as usize]))
 }
 
-/// The greatest latency of root outputs in clocks, 0 where there are none.
+/// The greatest latency of root outputs in clocks, saturating; 0 where there are none.
 pub fn latest_output(
     checked: &Checked,
     plan: &Resolved,
     latencies: &Latencies,
     ready: &[u64],
-) -> Result<u64, OutOfMemory>
+) -> u128
     requires latencies { AreLatencies checked.now.diagram plan.now latencies.now }
     requires ready { length ready.now ≡ length checked.now.diagram.blocks }
-    ensures { IfOk result (λ clocks.
-        clocks ≡ greatest (map (output_latency_of checked.now.diagram
+    ensures { result ≡ capped (greatest (map (output_latency_of checked.now.diagram
         (attributes_of checked.now.diagram) plan.now latencies.now.lat ready.now)
         (numbers_from 0 (length checked.now.diagram.blocks)))) }
 {
     checked.keeps_rules();
     let blocks = checked.diagram().blocks.as_slice();
-    let mut latest = 0u64;
+    let mut latest = 0u128;
     for place in 0..blocks.len() {
-        let clocks = output_latency(checked, plan, latencies, ready, place as u32)?;
+        let clocks = output_latency(checked, plan, latencies, ready, place as u32);
         latest = latest.max(clocks);
     }
-    Ok(latest)
+    latest
 }

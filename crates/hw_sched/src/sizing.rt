@@ -1,8 +1,8 @@
-ghost use Rattle.std.specs.Prelude.{◌≡◌, IfErr, IfOk, length};
+ghost use Rattle.std.specs.Prelude.{◌≡◌, ℕ, IfErr, IfOk, length};
 ghost use Rattle.hw_latency.specs.Latency.{AreLatencies};
 ghost use Rattle.dg_model.specs.PlanOf.{IsPlanOf};
 ghost use Rattle.hw_sched.specs.Sizing.{ForTimes, IsKeptSize, IsSizeFault};
-ghost use Rattle.hw_sched.specs.inner.Counted.{are_within};
+ghost use Rattle.hw_sched.specs.inner.Counted.{are_within, capped};
 
 use crate::block_registers::blocks_in_all;
 use crate::edge_lines::lines_in_all;
@@ -10,10 +10,9 @@ use crate::output_latency::latest_output;
 use dg_model::{Checked, Resolved, root_elements_are_listed};
 use fx_io::OutOfMemory;
 use hw_latency::Latencies;
-use hw_slots::total;
 
 /// How large a module is (own).
-#[derive(Clone, Copy, PartialEq, Eq)]
+#[derive(Clone, Copy)]
 pub struct Sizing {
     /// Its registers at the most, one for each element.
     pub storage: u64,
@@ -47,6 +46,18 @@ const MOST_STORAGE: u64 = 400_000;
 /// The greatest latency of a module, in clocks.
 const MOST_LATENCY: u64 = 16_777_216;
 
+/// A count in 64 bits; one of 2^64 or more is want of memory.
+fn word(count: u128) -> Result<u64, OutOfMemory>
+    ensures { IfOk result (λ word. (number : ℕ) → count ≡ capped number → word ≡ number) }
+{
+    if count <= 0xffff_ffff_ffff_ffff {
+        Ok(count as u64)
+    } else {
+        // word: a count, of 64 bits
+        Err(OutOfMemory)
+    }
+}
+
 /// Whether a module of this size has few enough registers and isn't too late.
 fn is_within(sizing: Sizing) -> bool
     ensures { result ≡ are_within sizing }
@@ -77,10 +88,10 @@ pub fn check_size(
 {
     checked.keeps_rules();
     root_elements_are_listed();
-    let lines = lines_in_all(checked, plan, latencies)?;
-    let blocks = blocks_in_all(checked, plan)?;
-    let storage = total(lines, blocks)?;
-    let latency = latest_output(checked, plan, latencies, ready)?;
+    let lines = lines_in_all(checked, plan, latencies);
+    let blocks = blocks_in_all(checked, plan);
+    let storage = word(lines.saturating_add(blocks))?;
+    let latency = word(latest_output(checked, plan, latencies, ready))?;
     let sizing = Sizing { storage, latency };
     if is_within(sizing) {
         Ok(sizing)

@@ -1,5 +1,5 @@
 -- What is counted of a module line by line and block by block (own).
-use Rattle.std.specs.Prelude.{ℕ, ◌+◌, ◌-◌, ◌*◌, ◌≤◌, ◌<◌, ◌&&◌, nat_lt, nat_le, is_some, Bool, false, if◌then◌else◌, List, [], length, map, Option, None, Some, slice_get, slice_index, slice_index_or}
+use Rattle.std.specs.Prelude.{ℕ, ◌+◌, ◌-◌, ◌*◌, ◌^◌, ◌≤◌, ◌<◌, ◌&&◌, min, nat_lt, nat_le, is_some, Bool, false, if◌then◌else◌, List, [], length, map, Option, None, Some, slice_get, slice_index, slice_index_or}
 use Rattle.std.specs.List.{sum}
 use Rattle.dg_model.specs.declared.diagram.Diagram.{Diagram}
 use Rattle.dg_model.specs.declared.diagram.Block.{Block}
@@ -27,6 +27,10 @@ use Rattle.hw_sched.specs.Storage.{kept_by_role, line_of, most_latency, most_sto
 pub record HasLatencies (diagram : Diagram) (plan : Resolved) (latencies : Latencies) : Type 0 where
   pub planned : IsPlanOf diagram plan
   pub known : AreLatencies diagram plan latencies
+
+-- a number of 128 bits, or the greatest of them where it is greater
+abbrev pub capped : ℕ → ℕ
+capped number = min number (2 ^ 128 - 1)
 
 -- ---- lines
 

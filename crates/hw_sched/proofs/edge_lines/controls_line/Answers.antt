@@ -1,12 +1,11 @@
-use Rattle.std.proofs.Common.{◌≡◌, ℕ, [], slice_get, refl, sym, ◌∙◌}
+use Rattle.std.proofs.Common.{[], refl, sym, ap, ◌∙◌}
 use Rattle.dg_model.specs.Attributes.{attributes_of}
 use Rattle.dg_model.specs.LatencyEdges.{LatencyEdge, asks_ever}
 use Rattle.dg_model.specs.Library.{row_of}
 use Rattle.hw_sched.specs.Answer.{timing_of}
 use Rattle.hw_sched.proofs.Reading.{control_parts}
-use Rattle.hw_sched.specs.inner.Counted.{controls_line as lines_to, edge_of, line_at}
+use Rattle.hw_sched.specs.inner.Counted.{capped, edge_of, line_at}
 use Rattle.hw_sched.proofs.Counting.{control_none, control_some}
-use Rattle.std.proofs.lemmas.Result.{IfOk-weaker}
 use Rattle.hw_sched.proofs.Widths.{control_line_there}
 use Rattle.hw_sched.proofs.edge_lines.controls_line.Goals as goal
 
@@ -21,7 +20,7 @@ line_registers-requires c =
 
 pub returns-in_default : goal.returns-in_default
 returns-in_default c =
-    control_none c.args.checked.now.diagram (attributes_of c.args.checked.now.diagram) c.args.plan.now (timing_of c.args.latencies.now []) c.args.place c.block_at.result.now c.control_of.result c.block_at.ensures c.control_of.ensures c.in_default.is
+    ap capped (control_none c.args.checked.now.diagram (attributes_of c.args.checked.now.diagram) c.args.plan.now (timing_of c.args.latencies.now []) c.args.place c.block_at.result.now c.control_of.result c.block_at.ensures c.control_of.ensures c.in_default.is)
 
 pub returns : goal.returns
 returns c =
@@ -29,6 +28,6 @@ returns c =
     let attributes = attributes_of diagram in
     let timing = timing_of c.args.latencies.now [] in
     let edge : LatencyEdge = edge_of (record { from = c.in-Some.control; from_port = 1; to = c.args.place }) in
-    IfOk-weaker c.line_registers.result (λ (count : ℕ). count ≡ line_at diagram attributes c.args.plan.now timing edge) (λ (count : ℕ). count ≡ lines_to diagram attributes c.args.plan.now timing c.args.place (slice_get diagram.blocks c.args.place))
-    (λ count is. control_some diagram attributes c.args.plan.now timing c.args.place c.in-Some.control count c.block_at.result.now c.control_of.result edge c.block_at.ensures c.control_of.ensures c.in-Some.is refl is)
     c.line_registers.ensures
+    ∙ ap capped (control_some diagram attributes c.args.plan.now timing c.args.place c.in-Some.control (line_at diagram attributes c.args.plan.now timing edge) c.block_at.result.now c.control_of.result edge
+    c.block_at.ensures c.control_of.ensures c.in-Some.is refl refl)
