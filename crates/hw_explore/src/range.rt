@@ -9,7 +9,7 @@ pub struct Ends {
 
 /// Numbers of clocks for a base sample and numbers of multipliers, each from the lowest to the
 /// highest (own).
-#[derive(Clone, Copy, PartialEq, Eq)]
+#[derive(Clone, Copy)]
 pub struct Range {
     /// The least number of clocks, at least 1.
     pub low_cycles: u32,

@@ -67,11 +67,22 @@ impl BySharing {
     pub fn of(alloc: Global, checked: &Checked) -> Result<BySharing, OutOfMemory>
         ensures { IfOk result (AreTimed checked.now.diagram) }
     {
-        Ok(BySharing {
-            none: timed_by(alloc, checked, 1, 0)?,
-            slower: timed_by(alloc, checked, 1, 1)?,
-            all: timed_by(alloc, checked, 2, 1)?,
-        })
+        let none = timed_by(alloc, checked, 1, 0)?;
+        let slower = match timed_by(alloc, checked, 1, 1) {
+            Ok(slower) => slower,
+            Err(wanting) => {
+                drop(none);
+                return Err(wanting);
+            }
+        };
+        match timed_by(alloc, checked, 2, 1) {
+            Ok(all) => Ok(BySharing { none, slower, all }),
+            Err(wanting) => {
+                drop(none);
+                drop(slower);
+                Err(wanting)
+            }
+        }
     }
 
     /// Those by the plan of these clocks and multipliers.
