@@ -54,8 +54,7 @@ fn put_cell(
     };
     let rule = rule_by_kind(roots, cursors, program, turn)?;
     let period = checked.period(place.block);
-    program.cells.push(Cell { period, rule })?;
-    Ok(())
+    program.cells.push(Cell { period, rule })
 }
 
 /// The cells of all entries.

@@ -38,8 +38,7 @@ pub fn put_argument<'a>(
 {
     let number = offered_entry(turn, places, port, element);
     args.push(number)?;
-    types.push(kind)?;
-    Ok(())
+    types.push(kind)
 }
 
 /// Puts what the input ports of the block offer to the entry's element behind the arguments, with

@@ -1,5 +1,6 @@
 use Rattle.std.proofs.Common.{◌≡◌, ◌<◌, ◌∙◌, List, length, Some, slice_get, get_or, ap, sym, subst}
 use Rattle.std.proofs.lemmas.Option.{slice_get-get_or, slice_get_within}
+use Rattle.std.proofs.lemmas.Result.{on_ok_weaker}
 use Rattle.dg_model.specs.declared.diagram.Diagram.{Diagram}
 use Rattle.dg_model.specs.Attributes.{attributes_of}
 use Rattle.dg_tables.specs.declared.entries.Place.{Place}
@@ -47,4 +48,9 @@ period-period-requires c =
 pub returns-clause-filled : goal.returns-clause-filled
 returns-clause-filled c =
     let diagram = c.args.checked.now.diagram in
-    filled_more diagram (attributes_of diagram) c.args.program.now c.rule_by_kind.new.program c.args.k _ c.in_ok-rule.rule c.period-period.result c.push.new.self c.requires.filled (here (goal.at.returns-clause-filled c).After-as_slice _) c.in_ok-rule.ensures.made c.period-period.ensures c.in_ok-push.ensures.appended
+    on_ok_weaker c.push.result
+    (λ added. filled_more diagram (attributes_of diagram) c.args.program.now c.rule_by_kind.new.program c.args.k _ c.in_ok-rule.rule c.period-period.result c.push.new.self c.requires.filled (here (goal.at.returns-clause-filled c).After-as_slice _) c.in_ok-rule.ensures.made c.period-period.ensures added)
+    c.push.ensures.appended
+
+pub returns-clause-places : goal.returns-clause-places
+returns-clause-places c = on_ok_weaker c.push.result (λ added. c.in_ok-rule.ensures.made.grows.places) c.push.ensures.appended
