@@ -32,3 +32,12 @@ returns-in-Some c =
     let l = negated ∙ sym (ap (λ (s : Bool). least_end s c.args.kind) c.if-not-subtracted.false) in
     let h = to_z-of_z w128 c.in-Some.greatest fits ∙ some.1 ∙ ap neg_ℤ (low ∙ c.lowest-low.ensures) ∙ sym (ap (λ (s : Bool). greatest_end s c.args.kind) c.if-not-subtracted.false) in
     same_span c.shifted_span-in-Some.result _ _ _ _ (scaled_by _ _ _ _ l g) (scaled_by _ _ _ _ h g) c.shifted_span-in-Some.ensures
+
+pub overflow_sub-by : goal.overflow_sub-by
+overflow_sub-by c = omega (arith, ints, c.requires.least, c.requires.greatest, c.frac.ensures, frac_bounds c.args.kind c.requires.valid)
+
+pub overflow_cast-by : goal.overflow_cast-by
+overflow_cast-by c = omega (arith, ints, c.requires.least, c.requires.greatest, c.frac.ensures, frac_bounds c.args.kind c.requires.valid)
+
+pub overflow_sub-high : goal.overflow_sub-high
+overflow_sub-high c = omega (arith, ints, c.highest-high.ensures, highest_sign c.args.kind)
