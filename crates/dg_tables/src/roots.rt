@@ -138,8 +138,7 @@ fn put_port_on<'a>(
     checked.keeps_rules();
     let block = ports[(number - 1) as usize];
     let width = width_on(checked, side, block);
-    put_port(roots, number, block, width)?;
-    Ok(())
+    put_port(roots, number, block, width)
 }
 
 /// The elements of the root ports of a side.
@@ -149,10 +148,10 @@ fn roots_on<'a>(alloc: Global, checked: &Checked, side: Side<'a>) -> Result<Root
         (width_on checked.now.diagram (attributes_of checked.now.diagram) side.entry)
         checked.now.diagram (attributes_of checked.now.diagram))) }
 {
-    let mut roots = Roots::new(alloc);
     checked.keeps_rules();
     let blocks = checked.diagram().blocks.as_slice();
     let ports = ports_on(alloc, side, blocks)?;
+    let mut roots = Roots::new(alloc);
     for i in 0..ports.len() as u32 {
         put_port_on(&mut roots, checked, side, ports.as_slice(), i + 1)?;
     }

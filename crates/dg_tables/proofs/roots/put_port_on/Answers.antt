@@ -1,4 +1,5 @@
 use Rattle.std.proofs.Common.{◌++◌, List, ap, ◌∙◌}
+use Rattle.std.proofs.lemmas.Result.{on_ok_weaker}
 use Rattle.std.specs.List.{position}
 use Rattle.dg_model.specs.Attributes.{attributes_of}
 use Rattle.dg_model.specs.RootElements.{has_number}
@@ -13,8 +14,9 @@ returns c =
     let diagram = c.args.checked.now.diagram in
     let side = c.args.side in
     let read = port_read (root_on side) diagram.blocks (numbered_on diagram c.keeps_rules.ensures.checked.wired side) c.args.ports.now c.requires.ports c.args.number c.requires.number in
-    c.in_ok-put_port.ensures
-    ∙ ap (λ (xs : List Root). c.args.roots.now ++ xs) (port_roots (attributes_of diagram) (width_on diagram (attributes_of diagram) side) c.args.number _ c.width_on-width.result (position (has_number (root_on side) c.args.number) diagram.blocks) read.3 c.width_on-width.ensures)
+    on_ok_weaker c.put_port.result
+    (λ put. put ∙ ap (λ (xs : List Root). c.args.roots.now ++ xs) (port_roots (attributes_of diagram) (width_on diagram (attributes_of diagram) side) c.args.number _ c.width_on-width.result (position (has_number (root_on side) c.args.number) diagram.blocks) read.3 c.width_on-width.ensures))
+    c.put_port.ensures
 
 pub width_on-width-requires : goal.width_on-width-requires
 width_on-width-requires c =
