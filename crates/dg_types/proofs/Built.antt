@@ -1,10 +1,9 @@
 -- Rows that are filled edge by edge hold the readers of a diagram, and with the sources they are its links.
 use Rattle.std.proofs.Common.{◌≡◌, ℕ, zero, suc, ◌+◌, ◌<◌, ◌≤◌, Bool, true, false, List, [], ◌∷◌, ◌++◌, length, replicate, map, filter, cond, set, All, Some, Option, get_or, eqb, refl, sym, ap, subst, ◌∙◌, inl, inr, arith, append-nil}
 use Rattle.std.specs.Prelude.{slice_get, unwrap_or, ◌==◌}
-use Rattle.std.proofs.lemmas.Bool.{cases_lt, cases_Bool, eqb-true, eqb-false}
+use Rattle.std.proofs.lemmas.Bool.{cases_eq, cases_lt, cases_Bool, eqb-true, eqb-false}
 use Rattle.std.proofs.lemmas.Bool.Decides.{Decides-by_and, Decides-eqb, nat_tests}
-use Rattle.std.proofs.lemmas.List.{get_or-replicate, get_or_past, length-replicate, length-set, get_or-set_same, get_or-set_other, get_or_append_left, map-append}
-use Rattle.std.proofs.Math.Seq.{get_or-append_seam}
+use Rattle.std.proofs.lemmas.List.{get_or-replicate, get_or_past, length-replicate, length-set, get_or-set_same, get_or-set_other, map-append}
 use Rattle.std.proofs.lemmas.List.Elements.{filter-append}
 use Rattle.std.proofs.lemmas.Option.{unwrap_or-slice_get, slice_get_past, slice_get-get_or, none-some, same_Some}
 use Rattle.dg_model.specs.declared.diagram.Block.{Block}
@@ -12,7 +11,6 @@ use Rattle.dg_model.specs.declared.diagram.Edge.{Edge}
 use Rattle.dg_waves.specs.inner.Waves.{is_in}
 use Rattle.dg_waves.proofs.Waved.{is_in_push, is_in_last, pushed_at}
 use Rattle.dg_types.specs.declared.linked.Source.{Source}
-use Rattle.dg_types.specs.declared.linked.Form.{Form}
 use Rattle.dg_types.specs.inner.Linked.{AreLinked, is_shared_out}
 use Rattle.dg_model.specs.Widths.{are_open, list_length}
 use Rattle.dg_types.specs.inner.Shown.{source_of, form_of, shape_of, Mirrors}
@@ -26,52 +24,79 @@ all_push P [] x all here (suc k) d inside = absurd (omega arith)
 all_push P (y ∷ xs) x all here zero d inside = all 0 d (omega arith)
 all_push P (y ∷ xs) x all here (suc k) d inside = all_push P xs x (λ j e i. all (suc j) e (omega arith)) here k d (omega arith)
 
--- of rows that have their own number alone, and one more that has its own
-pub own_more : (rows : List (List ℕ)) (count : ℕ) (own : List ℕ) → length rows ≡ count → own ≡ count ∷ [] → ((k : ℕ) → k < count → get_or rows k [] ≡ k ∷ []) →
-    (k : ℕ) → k < count + 1 → get_or (rows ++ own ∷ []) k [] ≡ k ∷ []
-own_more rows count own size is before k below =
-    elim (cases_lt k count) [
-      | inl inner ↦ get_or_append_left rows (own ∷ []) [] k (omega (arith, inner, size)) ∙ before k inner
-      | inr past ↦
-          let last : length rows ≡ k = omega (arith, size, past, below) in
-          let same : count ≡ k = omega (arith, past, below) in
-          subst (λ (j : ℕ). get_or (rows ++ own ∷ []) j [] ≡ own) last (get_or-append_seam rows own [] []) ∙ is ∙ ap (λ (j : ℕ). j ∷ []) same
+-- the rows once a reader is put at the end of one
+abbrev noted : List (List ℕ) → ℕ → ℕ → List (List ℕ)
+noted rows at reader = set rows at (get_or rows at [] ++ reader ∷ [])
+
+noted_here : (rows : List (List ℕ)) (at reader : ℕ) → at < length rows → get_or (noted rows at reader) at [] ≡ get_or rows at [] ++ reader ∷ []
+noted_here rows at reader inside = get_or-set_same rows at (get_or rows at [] ++ reader ∷ []) [] inside
+
+noted_other : (rows : List (List ℕ)) (at reader k : ℕ) → (k ≡ at → ⊥) → get_or (noted rows at reader) k [] ≡ get_or rows k []
+noted_other rows at reader k other = get_or-set_other rows at k (get_or rows at [] ++ reader ∷ []) [] other
+
+still_in : (rows : List (List ℕ)) (at reader k old : ℕ) → at < length rows → is_in old (get_or rows k []) ≡ true → is_in old (get_or (noted rows at reader) k []) ≡ true
+still_in rows at reader k old inside is =
+    elim (cases_eq k at) [
+      | inl same ↦ subst (λ (j : ℕ). is_in old (get_or (noted rows at reader) j []) ≡ true) (sym same) (rw (noted_here rows at reader inside) (is_in_push (get_or rows at []) reader old (subst (λ (j : ℕ). is_in old (get_or rows j []) ≡ true) same is)))
+      | inr other ↦ rw (noted_other rows at reader k other) is
     ]
 
-pub known_more : (count : ℕ) (done : List Edge) (rows : List (List ℕ)) (edge : Edge) → edge.from < count → edge.to < count → Known count done rows →
-    Known count (done ++ edge ∷ []) (set rows edge.from (get_or rows edge.from [] ++ edge.to ∷ []))
-known_more count done rows edge inside to_inside before =
-    let old = get_or rows edge.from [] in
-    let added = old ++ edge.to ∷ [] in
-    let here : get_or (set rows edge.from added) edge.from [] ≡ added = get_or-set_same rows edge.from added [] (omega (arith, before.size)) in
-    let still : (k reader : ℕ) → is_in reader (get_or rows k []) ≡ true → is_in reader (get_or (set rows edge.from added) k []) ≡ true = λ k reader is.
-    elim (cases_Bool (eqb edge.from k)) [
-      | inl e ↦ subst (λ (j : ℕ). is_in reader (get_or rows j []) ≡ true → is_in reader (get_or (set rows edge.from added) j []) ≡ true) (eqb-true edge.from k e) (λ was. rw here (is_in_push old edge.to reader was)) is
-      | inr e ↦ ap (is_in reader) (get_or-set_other rows edge.from k added [] (λ s. eqb-false edge.from k e (sym s))) ∙ is
-    ] in
-    record {
-      size = length-set rows edge.from added ∙ before.size;
-      own = λ k there. still k k (before.own k there);
-      known = pushed_at (λ (e : Edge). is_in e.to (get_or (set rows edge.from added) e.from []) ≡ true) done edge (λ j e at. still e.from e.to (before.known j e at)) (rw here (is_in_last old edge.to edge.to refl));
-      there = λ k.
-          elim (cases_Bool (eqb edge.from k)) [
-            | inl e ↦ subst (λ (j : ℕ). All (λ reader. reader < count) (get_or (set rows edge.from added) j [])) (eqb-true edge.from k e) (rw here (all_push (λ reader. reader < count) old edge.to (before.there edge.from) to_inside))
-            | inr e ↦ rw (get_or-set_other rows edge.from k added [] (λ s. eqb-false edge.from k e (sym s))) (before.there k)
-          ];
-    }
+now_in : (rows : List (List ℕ)) (at reader : ℕ) → at < length rows → is_in reader (get_or (noted rows at reader) at []) ≡ true
+now_in rows at reader inside = rw (noted_here rows at reader inside) (is_in_last (get_or rows at []) reader reader refl)
+
+still_there : (count : ℕ) (rows : List (List ℕ)) (at reader : ℕ) → at < length rows → reader < count → ((k : ℕ) → All (λ r. r < count) (get_or rows k [])) → (k : ℕ) → All (λ r. r < count) (get_or (noted rows at reader) k [])
+still_there count rows at reader inside few before k =
+    elim (cases_eq k at) [
+      | inl same ↦ subst (λ (j : ℕ). All (λ (r : ℕ). r < count) (get_or (noted rows at reader) j [])) (sym same) (rw (noted_here rows at reader inside) (all_push (λ r. r < count) (get_or rows at []) reader (before at) few))
+      | inr other ↦ rw (noted_other rows at reader k other) (before k)
+    ]
+
+abbrev no_readers : ℕ → List (List ℕ)
+no_readers count = replicate count []
+
+none_at : (count k : ℕ) → get_or (no_readers count) k [] ≡ []
+none_at count k =
+    elim (cases_lt k count) [
+      | inl below ↦ get_or-replicate count k [] [] below
+      | inr past ↦ get_or_past (no_readers count) k [] (omega (arith, past, length-replicate {A = List ℕ} count []))
+    ]
 
 -- before the first edge
-pub known_none : (count : ℕ) (rows : List (List ℕ)) → length rows ≡ count → ((k : ℕ) → k < count → get_or rows k [] ≡ k ∷ []) → Known count [] rows
-known_none count rows size own = record {
-  size = size;
-  own = λ k below. subst (λ (row : List ℕ). is_in k row ≡ true) (sym (own k below)) (is_in_last [] k k refl);
+pub known_none : (count : ℕ) (rows : List (List ℕ)) → rows ≡ replicate count [] → Known count 0 [] rows
+known_none count rows empty = record {
+  size = ap length empty ∙ length-replicate count [];
+  own = λ k below. absurd (omega (arith, below));
   known = λ j edge at. absurd (none-some edge at);
-  there = λ k.
-      elim (cases_lt k count) [
-        | inl below ↦ rw (own k below) (all_push (λ reader. reader < count) [] k (λ i d none. absurd (omega (arith, none))) below)
-        | inr past ↦ rw (get_or_past rows k [] (omega (arith, past, size))) (λ i d inside. absurd (omega (arith, inside)))
-      ];
+  there = λ k. subst (λ (all : List (List ℕ)). All (λ (reader : ℕ). reader < count) (get_or all k [])) (sym empty) (rw (none_at count k) (λ i d inside. absurd (omega (arith, inside))));
 }
+
+pub known_more : (count selves : ℕ) (done : List Edge) (rows : List (List ℕ)) (edge : Edge) → edge.from < count → edge.to < count → Known count selves done rows
+    → Known count selves (done ++ edge ∷ []) (set rows edge.from (get_or rows edge.from [] ++ edge.to ∷ []))
+known_more count selves done rows edge from_inside to_inside before =
+    let inside : edge.from < length rows = omega (arith, before.size, from_inside) in
+    record {
+      size = length-set rows edge.from (get_or rows edge.from [] ++ edge.to ∷ []) ∙ before.size;
+      own = λ k there. still_in rows edge.from edge.to k k inside (before.own k there);
+      known = pushed_at (λ (e : Edge). is_in e.to (get_or (noted rows edge.from edge.to) e.from []) ≡ true) done edge
+          (λ j e at. still_in rows edge.from edge.to e.from e.to inside (before.known j e at)) (now_in rows edge.from edge.to inside);
+      there = still_there count rows edge.from edge.to inside to_inside before.there;
+    }
+
+-- one more block is its own reader
+pub own_more : (count own : ℕ) (done : List Edge) (rows : List (List ℕ)) → own < count → Known count own done rows
+    → Known count (own + 1) done (set rows own (get_or rows own [] ++ own ∷ []))
+own_more count own done rows below before =
+    let inside : own < length rows = omega (arith, before.size, below) in
+    record {
+      size = length-set rows own (get_or rows own [] ++ own ∷ []) ∙ before.size;
+      own = λ k there.
+          elim (cases_eq k own) [
+            | inl same ↦ subst (λ (j : ℕ). is_in j (get_or (noted rows own own) j []) ≡ true) (sym same) (now_in rows own own inside)
+            | inr other ↦ still_in rows own own k k inside (before.own k (omega (arith, there, other)))
+          ];
+      known = λ j edge at. still_in rows own own edge.from edge.to inside (before.known j edge at);
+      there = still_there count rows own own inside below before.there;
+    }
 
 pub gathered_none : {A : Type 0} (count : ℕ) (f : Edge → A) (rows : List (List A)) → rows ≡ replicate count [] → Gathered count f [] rows
 gathered_none {A} count f rows empty = record {
@@ -132,9 +157,13 @@ entries P blocks edges rows block gathered all k y at =
       | inr past ↦ absurd (none-some y (ap (λ (r : List Source). slice_get r k) (sym (no_row rows block (omega (arith, gathered.size)))) ∙ at))
     ]
 
-pub are_linked : (blocks : List Block) (edges : List Edge) (forms : List Form) (sources : List (List Source)) (readers : List (List ℕ)) → length forms ≡ length blocks → CanLink blocks edges → Gathered (length blocks) (source_of blocks) edges sources → Known (length blocks) edges readers → AreLinked forms sources readers
-are_linked blocks edges forms sources readers size can gathered known = record {
-  forms_size = size ∙ sym gathered.size;
+pub length_forms : (blocks : List Block) → length (all_forms blocks) ≡ length blocks
+length_forms [] = refl
+length_forms (block ∷ blocks) = ap suc (length_forms blocks)
+
+pub are_linked : (blocks : List Block) (edges : List Edge) (sources : List (List Source)) (readers : List (List ℕ)) → CanLink blocks edges → Gathered (length blocks) (source_of blocks) edges sources → Known (length blocks) (length blocks) edges readers → AreLinked (all_forms blocks) sources readers
+are_linked blocks edges sources readers can gathered known = record {
+  forms_size = length_forms blocks ∙ sym gathered.size;
   readers_size = known.size ∙ sym gathered.size;
   there = λ block. all_places (λ source. source.block < length sources) (get_or sources block []) (entries (λ source. source.block < length sources) blocks edges sources block gathered (λ j edge at same. omega (arith, can.ends j edge at, gathered.size)));
   shared_out = λ block. all_places (λ source. is_shared_out source.share ≡ true) (get_or sources block []) (entries (λ source. is_shared_out source.share ≡ true) blocks edges sources block gathered (λ j edge at same. can.shared_out j edge at));
@@ -143,20 +172,13 @@ are_linked blocks edges forms sources readers size can gathered known = record {
   known = λ block. entries (λ source. is_in block (get_or readers source.block []) ≡ true) blocks edges sources block gathered (λ j edge at same. subst (λ (b : ℕ). is_in b (get_or readers edge.from []) ≡ true) same (known.known j edge at));
 }
 
-pub length_forms : (blocks : List Block) → length (all_forms blocks) ≡ length blocks
-length_forms [] = refl
-length_forms (block ∷ blocks) = ap suc (length_forms blocks)
-
-form_at : (blocks : List Block) (k : ℕ) (block : Block) → slice_get blocks k ≡ Some block → get_or (all_forms blocks) k Single ≡ form_of (shape_of block.kind) (list_length block.kind)
+pub form_at : (blocks : List Block) (k : ℕ) (block : Block) → slice_get blocks k ≡ Some block → get_or (all_forms blocks) k Single ≡ form_of (shape_of block.kind) (list_length block.kind)
 form_at [] k block at = absurd (none-some block at)
 form_at (b ∷ blocks) zero block at = ap (λ (o : Block). form_of (shape_of o.kind) (list_length o.kind)) (same_Some b block at)
 form_at (b ∷ blocks) (suc k) block at = form_at blocks k block at
 
-pub mirrors_built : (diagram : Diagram) (forms : List Form) (sources : List (List Source)) → forms ≡ all_forms diagram.blocks → Gathered (length diagram.blocks) (source_of diagram.blocks) diagram.edges sources → Mirrors diagram forms sources
-mirrors_built diagram forms sources is gathered = record {
-  form = λ k block at. rw is (form_at diagram.blocks k block at);
-  source = gathered.row;
-}
+pub mirrors_built : (diagram : Diagram) (sources : List (List Source)) → Gathered (length diagram.blocks) (source_of diagram.blocks) diagram.edges sources → Mirrors diagram (all_forms diagram.blocks) sources
+mirrors_built diagram sources gathered = record { form = form_at diagram.blocks; source = gathered.row }
 
 -- where each size is fixed or none, the first tells which
 pub open_by_first : (sizes : List ℕ) (d : ℕ) → 0 < length sizes → AreAlike sizes → are_open sizes ≡ eqb (get_or sizes 0 d) 0

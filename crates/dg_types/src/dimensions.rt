@@ -6,12 +6,15 @@ ghost use Rattle.dg_model.specs.Faults.{IsRefusal, fault_of};
 ghost use Rattle.dg_model.specs.Dimension.{KeepsDimension, KeepsDimensions, BreaksDimension};
 ghost use Rattle.dg_model.specs.Widths.{widths_of};
 ghost use Rattle.dg_model.specs.Wired.{IsWired};
+ghost use Rattle.dg_types.specs.inner.Build.{all_forms};
 ghost use Rattle.dg_types.specs.inner.Scanned.{IsScan, KeepAllBelow};
+ghost use Rattle.dg_types.specs.inner.Shown.{Mirrors};
 
 use crate::build::width_round;
 use crate::elements::is_bounded;
 use crate::fitting::keeps;
-use crate::scanning::{Scan, scan_of};
+use crate::linked::WidthRound;
+use crate::scanning::{Scan, put_scan};
 use dg_model::{CheckFault, Diagram, PortWidths, Rule, RuleFault, Shown};
 use fx_io::{PortSizes, Text};
 use std::alloc::Global;
@@ -83,8 +86,35 @@ pub fn widths(alloc: Global, diagram: &Diagram) -> Result<PortWidths, CheckFault
     ensures refused { IfErr result (IsRefusal (BreaksDimension diagram.now)) }
 {
     let round = width_round(alloc, diagram)?;
-    let scan = scan_of(alloc, diagram, &round)?;
-    widths_in(alloc, diagram, &scan)
+    let mut scan = Scan {
+        widths: PortSizes::new(alloc),
+        again: PortSizes::new(alloc),
+        inputs: PortSizes::new(alloc),
+    };
+    let found = widths_by(alloc, diagram, &round, &mut scan);
+    drop(scan);
+    drop(round);
+    found
+}
+
+/// The widths of a diagram by its rounds, where they keep the rule.
+fn widths_by(
+    alloc: Global,
+    diagram: &Diagram,
+    round: &WidthRound<'_>,
+    scan: &mut Scan,
+) -> Result<PortWidths, CheckFault>
+    requires wired { IsWired diagram.now }
+    requires size { length round.now.sources ≡ length diagram.now.blocks }
+    requires mirrors { Mirrors diagram.now (all_forms round.now.blocks.now) round.now.sources }
+    requires widths { scan.old.widths ≡ [] }
+    requires again { scan.old.again ≡ [] }
+    ensures widths { IfOk result (λ widths. widths ≡ widths_of diagram.now) }
+    ensures kept { OnOk result (KeepsDimensions diagram.now) }
+    ensures refused { IfErr result (IsRefusal (BreaksDimension diagram.now)) }
+{
+    put_scan(alloc, diagram, round, scan)?;
+    widths_in(alloc, diagram, scan)
 }
 
 /// The widths of a diagram that a scan found, where they keep the rule.

@@ -1,8 +1,13 @@
 ghost use Rattle.std.specs.Prelude.{◌≡◌, true, ◌<◌, ◌≤◌, [], min, max, sum, All, length, slice_index_or};
-ghost use Rattle.dg_types.specs.inner.Linked.{width_through as width_through_of, is_shared_out, source_widths, next_held, AreLinked, CanTake};
+ghost use Rattle.dg_types.specs.inner.Linked.{width_through as width_through_of, is_shared_out, source_widths, taken_by as taken_by_form, next_held, AreLinked, CanTake};
 ghost use Rattle.dg_types.specs.inner.LinkedLaws.{is_local, stays};
-ghost use Rattle.dg_model.specs.Widths.{share as share_of, greatest, most_width};
+ghost use Rattle.dg_types.specs.inner.Build.{all_forms};
+ghost use Rattle.dg_types.specs.inner.Shown.{shape_of, form_of as form_of_shape};
+ghost use Rattle.dg_model.specs.Limits.{longest_list};
+ghost use Rattle.dg_model.specs.Widths.{share as share_of, greatest, list_length as list_length_of, most_width};
 
+use crate::kinds::list_length;
+use dg_model::{Block, Kind, Shape};
 use dg_waves::Round;
 use fx_io::{Sequence, Sizes};
 
@@ -42,11 +47,27 @@ pub enum Form {
 
 /// The blocks of a diagram, as the rounds of widths see them.
 #[derive(Drop)]
-pub struct WidthRound {
-    pub forms: Sequence<Form>,
+pub struct WidthRound<'a> {
+    pub blocks: &'a [Block],
     pub sources: Sequence<Sequence<Source>>,
     pub readers: Sequence<Sizes>,
-    pub ghost linked: { AreLinked forms sources readers },
+    pub ghost short: { All (λ block. list_length_of block.kind ≤ longest_list) blocks.now },
+    pub ghost linked: { AreLinked (all_forms blocks.now) sources readers },
+}
+
+/// How a block of this kind takes its width.
+fn form_of(kind: &Kind) -> Form
+    requires { list_length_of kind.now ≤ longest_list }
+    ensures { result ≡ form_of_shape (shape_of kind.now) (list_length_of kind.now) }
+{
+    match kind.shape() {
+        Shape::Elementwise => Form::Elementwise {
+            least: list_length(kind) as u32,
+        },
+        Shape::Joined { .. } => Form::Joined,
+        Shape::Parted { .. } => Form::Divided,
+        Shape::Single => Form::Single,
+    }
 }
 
 /// One of so many parts of a width, as even as can be.
@@ -107,7 +128,7 @@ fn sum_of_widths(values: &[u32], sources: &[Source]) -> u32
     together
 }
 
-impl WidthRound {
+impl WidthRound<'_> {
     /// What the inputs of a block read.
     pub fn sources_of(&self, block: u32) -> &[Source]
         requires inside { block < length self.now.sources }
@@ -119,36 +140,34 @@ impl WidthRound {
     }
 }
 
-impl Round for WidthRound {
+impl Round for WidthRound<'_> {
     type Value = u32;
 
     ghost count = { λ round. length round.sources };
 
     ghost IsValue = { λ round value. value ≤ 1026 };
 
-    ghost next = { λ round values block. next_held round.forms round.sources values block };
+    ghost next = { λ round values block.
+        next_held (all_forms round.blocks.now) round.sources values block };
 
     ghost readers_of = { λ round block. slice_index_or round.readers block [] };
 
     ghost readers_there = { λ round block there. round.linked.readers_there block };
 
     ghost fit = { λ round values block size there fit.
-        stays round.forms round.sources values block };
+        stays (all_forms round.blocks.now) round.sources values block };
 
     ghost local = { λ round old new block old_size new_size there same.
-        is_local round.forms round.sources round.readers old new block round.linked there same };
+        is_local (all_forms round.blocks.now) round.sources round.readers old new block
+        round.linked there same };
 
     fn next(&self, values: &[u32], block: u32) -> u32 {
-        let sources = self.sources_of(block);
-        let own = values[block as usize];
-        match self.forms.as_slice()[block as usize] {
-            Form::Elementwise { least } => greatest_width(values, sources, own.max(least)).min(
-                MOST,
-            ),
-            Form::Joined => sum_of_widths(values, sources),
-            Form::Divided => first_width(values, sources).min(MOST) + 1,
-            Form::Single => 1,
-        }
+        taken_by(
+            form_of(&self.blocks[block as usize].kind),
+            values[block as usize],
+            values,
+            self.sources_of(block),
+        )
     }
 
     fn readers(&self, block: u32) -> &[u32] {
@@ -168,5 +187,18 @@ fn first_width(values: &[u32], sources: &[Source]) -> u32
     match sources.first() {
         Some(source) => width_through(source.share, values[source.block as usize]),
         None => 0,
+    }
+}
+
+/// What a block of this form that holds so much takes from its sources.
+fn taken_by(form: Form, own: u32, values: &[u32], sources: &[Source]) -> u32
+    requires { CanTake values.now sources.now }
+    ensures { result ≡ taken_by_form form own (source_widths values.now sources.now) }
+{
+    match form {
+        Form::Elementwise { least } => greatest_width(values, sources, own.max(least)).min(MOST),
+        Form::Joined => sum_of_widths(values, sources),
+        Form::Divided => first_width(values, sources).min(MOST) + 1,
+        Form::Single => 1,
     }
 }

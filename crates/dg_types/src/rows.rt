@@ -1,4 +1,4 @@
-ghost use Rattle.std.specs.Prelude.{◌≡◌, ℕ, ◌<◌, ◌≤◌, ◌∷◌, [], All, length, map, IfOk};
+ghost use Rattle.std.specs.Prelude.{◌≡◌, ◌<◌, ◌≤◌, [], All, length, map, replicate, IfOk, OnOk};
 ghost use Rattle.dg_waves.specs.Rounds.{numbers_from};
 ghost use Rattle.dg_model.specs.KindRow.{Shape as ShapeOf};
 ghost use Rattle.dg_model.specs.Limits.{longest_list};
@@ -13,11 +13,11 @@ use dg_model::{Block, Edge, Kind, Shape};
 use fx_io::{OutOfMemory, PortSizes, Sizes, empty_rows, push_at};
 use std::alloc::Global;
 
-/// A row of ones, as long as another.
-fn ones(alloc: Global, sizes: &[u32]) -> Result<Sizes, OutOfMemory>
-    ensures { IfOk result (λ row. row ≡ map (λ (size : ℕ). 1) sizes.now) }
+/// A row of one width, so many times.
+fn repeated(alloc: Global, width: u32, count: usize) -> Result<Sizes, OutOfMemory>
+    ensures { IfOk result (λ row. row ≡ replicate count width) }
 {
-    Ok(Sizes::from_vec(vec![in alloc; 1; sizes.len()]?))
+    Ok(Sizes::from_vec(vec![in alloc; width; count]?))
 }
 
 /// The parts of a width, as even as can be.
@@ -39,21 +39,12 @@ fn parts_of(alloc: Global, sizes: &[u32], held: u32) -> Result<Sizes, OutOfMemor
     ensures { IfOk result (λ row. row ≡ outputs_of (ShapeOf.Parted sizes.now) held) }
 {
     if held == 0 {
-        ones(alloc, sizes)
+        repeated(alloc, 1, sizes.len())
     } else if are_open(sizes) {
         shares(alloc, held - 1, sizes.len() as u32)
     } else {
         Ok(Sizes::from_vec(Vec::from_slice(alloc, sizes)?))
     }
-}
-
-/// A row of one entry.
-pub fn one(alloc: Global, width: u32) -> Result<Sizes, OutOfMemory>
-    ensures { IfOk result (λ row. row ≡ width ∷ []) }
-{
-    let mut row = Sizes::new(alloc);
-    row.push(width)?;
-    Ok(row)
 }
 
 /// The widths at the outputs of a block of this kind that holds this.
@@ -64,23 +55,28 @@ fn outputs(alloc: Global, kind: &Kind, held: u32) -> Result<Sizes, OutOfMemory>
 {
     match kind.shape() {
         Shape::Parted { sizes } => parts_of(alloc, sizes, held),
-        Shape::Elementwise | Shape::Joined { .. } | Shape::Single => one(alloc, held),
+        Shape::Elementwise | Shape::Joined { .. } | Shape::Single => repeated(alloc, held, 1),
     }
 }
 
-/// The widths at the outputs of blocks that hold these.
-pub fn rows_of(alloc: Global, blocks: &[Block], held: &[u32]) -> Result<PortSizes, OutOfMemory>
+/// Puts the widths at the outputs of blocks that hold these.
+pub fn put_rows(
+    alloc: Global,
+    blocks: &[Block],
+    held: &[u32],
+    rows: &mut PortSizes,
+) -> Result<(), OutOfMemory>
     requires size { length held.now ≡ length blocks.now }
-    requires rows { All (λ block. HasRow (shape_of block.kind)) blocks.now }
+    requires few { All (λ block. HasRow (shape_of block.kind)) blocks.now }
     requires small { All (λ value. value ≤ 1026) held.now }
-    ensures { IfOk result (λ rows. rows ≡ shown blocks.now held.now) }
+    requires none { rows.old ≡ [] }
+    ensures { OnOk result (rows.new ≡ shown blocks.now held.now) }
 {
-    let mut rows = PortSizes::new(alloc);
     for place in 0..blocks.len() {
         let row = outputs(alloc, &blocks[place].kind, held[place])?;
         rows.push(row)?;
     }
-    Ok(rows)
+    Ok(())
 }
 
 /// The width of the signal on an edge, 0 where its port isn't there.

@@ -1,11 +1,12 @@
-ghost use Rattle.std.specs.Prelude.{◌≡◌, ℕ, ◌^◌, ◌<◌, Some, length, slice_get, IfOk};
+ghost use Rattle.std.specs.Prelude.{◌≡◌, ℕ, ◌^◌, ◌<◌, [], Some, length, slice_get, IfOk, OnOk};
 ghost use Rattle.dg_model.specs.declared.diagram.Block.{Block};
 ghost use Rattle.dg_model.specs.Wired.{IsWired};
 ghost use Rattle.dg_types.specs.inner.Shown.{shape_of, declared_width as declared_width_of, first_held as first_held_of, all_first as all_first_of, Mirrors};
+ghost use Rattle.dg_types.specs.inner.Build.{all_forms};
 ghost use Rattle.dg_types.specs.inner.Scanned.{IsScan};
 
 use crate::linked::WidthRound;
-use crate::rows::{input_rows, rows_of};
+use crate::rows::{input_rows, put_rows};
 use dg_model::{Block, Diagram, Kind, Shape};
 use fx_io::{OutOfMemory, PortSizes};
 use std::alloc::Global;
@@ -46,24 +47,27 @@ pub struct Scan {
     pub inputs: PortSizes,
 }
 
-/// Works out the rounds of a diagram that is linked so.
-pub fn scan_of(alloc: Global, diagram: &Diagram, round: &WidthRound) -> Result<Scan, OutOfMemory>
+/// Works out the rounds of a diagram that is linked so, and puts what they give.
+pub fn put_scan(
+    alloc: Global,
+    diagram: &Diagram,
+    round: &WidthRound<'_>,
+    scan: &mut Scan,
+) -> Result<(), OutOfMemory>
     requires wired { IsWired diagram.now }
     requires size { length round.now.sources ≡ length diagram.now.blocks }
-    requires mirrors { Mirrors diagram.now round.now.forms round.now.sources }
-    ensures { IfOk result (IsScan diagram.now) }
+    requires mirrors { Mirrors diagram.now (all_forms round.now.blocks.now) round.now.sources }
+    requires widths { scan.old.widths ≡ [] }
+    requires again { scan.old.again ≡ [] }
+    ensures { OnOk result (IsScan diagram.now scan.new) }
 {
     let blocks = diagram.blocks.as_slice();
     let first = all_first(alloc, blocks)?;
     let held = dg_waves::after_rounds(alloc, round, first, blocks.len() as u32)?;
-    let widths = rows_of(alloc, blocks, held.as_slice())?;
-    let held_again = dg_waves::after_rounds(alloc, round, held, 1)?;
-    let again = rows_of(alloc, blocks, held_again.as_slice())?;
-    drop(held_again);
-    let inputs = input_rows(alloc, diagram.edges.as_slice(), widths.as_slice())?;
-    Ok(Scan {
-        widths,
-        again,
-        inputs,
-    })
+    put_rows(alloc, blocks, held.as_slice(), &mut scan.widths)?;
+    let later = dg_waves::after_rounds(alloc, round, held, 1)?;
+    put_rows(alloc, blocks, later.as_slice(), &mut scan.again)?;
+    let inputs = input_rows(alloc, diagram.edges.as_slice(), scan.widths.as_slice())?;
+    scan.inputs = inputs;
+    Ok(())
 }

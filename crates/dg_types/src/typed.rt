@@ -1,5 +1,5 @@
 //! The types of a diagram, and the first block that breaks the rule of types.
-ghost use Rattle.std.specs.Prelude.{◌≡◌, ◌<◌, ◌↔◌, true, map, length, None, Some, slice_get, IfOk, IfErr, IfSome, OnOk};
+ghost use Rattle.std.specs.Prelude.{◌≡◌, ◌<◌, ◌↔◌, [], true, map, length, None, Some, slice_get, IfOk, IfErr, IfSome, OnOk};
 ghost use Rattle.dg_model.specs.declared.diagram.Block.{Block};
 ghost use Rattle.dg_model.specs.declared.fault.Shown.TheVariants.{Word};
 ghost use Rattle.dg_model.specs.declared.rule.Rule.{Rule};
@@ -9,9 +9,10 @@ ghost use Rattle.dg_model.specs.Faults.{AllKeep, BreaksAt, IsRefusal, fault_of};
 ghost use Rattle.dg_model.specs.TypeRounds.{types_of};
 ghost use Rattle.dg_model.specs.TypeRule.{KeepsTypes, BreaksType};
 ghost use Rattle.dg_model.specs.Wired.{IsWired};
+ghost use Rattle.dg_types.specs.inner.Build.{all_forms};
 ghost use Rattle.dg_types.specs.inner.Shown.{Mirrors};
 ghost use Rattle.dg_types.specs.inner.TypedScan.{KeepsPart, KeepBelow, word_of};
-ghost use Rattle.dg_types.specs.inner.TypedWith.{AreTyped};
+ghost use Rattle.dg_types.specs.inner.TypedWith.{AreFound, AreTyped};
 
 use crate::typed_round::{TypeRound, known_types, round_of};
 use crate::typed_rule::{agrees, has_types, is_narrow};
@@ -128,15 +129,17 @@ fn check<'a, 'b>(alloc: Global, part: Part, typed: Typed<'a, 'b>) -> Result<(), 
     Err(CheckFault::Broken(fault))
 }
 
-/// The types that are known, and Logical in place of each other.
-fn results_of(alloc: Global, types: &[Option<FxType>]) -> Result<FxTypes, OutOfMemory>
-    ensures { IfOk result (λ results. results ≡ map or_logical types.now) }
+/// Refuses a diagram that breaks the rule.
+fn check_all<'a, 'b>(alloc: Global, typed: Typed<'a, 'b>) -> Result<(), CheckFault>
+    requires wired { IsWired typed.diagram.now }
+    requires typed { AreTyped typed }
+    ensures kept { OnOk result (KeepsTypes typed.entry.diagram.now) }
+    ensures refused { IfErr result (IsRefusal (BreaksType typed.entry.diagram.now)) }
 {
-    let mut results = FxTypes::new(alloc);
-    for kind in types {
-        results.push(kind_or_logical(*kind))?;
-    }
-    Ok(results)
+    check(alloc, Part::Narrow, typed)?;
+    check(alloc, Part::Known, typed)?;
+    check(alloc, Part::Agree, typed)?;
+    Ok(())
 }
 
 /// A type that is known, and Logical in place of one that isn't.
@@ -161,17 +164,26 @@ fn param_at<'a, 'b>(typed: Typed<'a, 'b>, place: u32) -> FxType
     kind_or_logical(coefficient_type(&block.kind, typed.types, sources))
 }
 
-/// The types of the coefficients of all blocks.
-fn all_params<'a, 'b>(alloc: Global, typed: Typed<'a, 'b>) -> Result<FxTypes, OutOfMemory>
+/// Puts the types of all blocks, Logical in place of one that isn't known, and those of their
+/// coefficients.
+fn put_types<'a, 'b>(
+    typed: Typed<'a, 'b>,
+    results: &mut FxTypes,
+    params: &mut FxTypes,
+) -> Result<(), OutOfMemory>
     requires wired { IsWired typed.diagram.now }
     requires typed { AreTyped typed }
-    ensures { IfOk result (λ params. params ≡ params_of typed.entry.diagram.now) }
+    requires results { results.old ≡ [] }
+    requires params { params.old ≡ [] }
+    ensures results { OnOk result
+        (results.new ≡ map or_logical (types_of typed.entry.diagram.now)) }
+    ensures params { OnOk result (params.new ≡ params_of typed.entry.diagram.now) }
 {
-    let mut params = FxTypes::new(alloc);
     for place in 0..typed.diagram.blocks.as_slice().len() {
+        results.push(kind_or_logical(typed.types[place]))?;
         params.push(param_at(typed, place as u32))?;
     }
-    Ok(params)
+    Ok(())
 }
 
 /// The types of a diagram by its rounds, where it keeps all parts of the rule.
@@ -182,11 +194,9 @@ fn types_by(
 ) -> Result<BlockTypes, CheckFault>
     requires wired { IsWired diagram.now }
     requires blocks { round.now.blocks.now ≡ diagram.now.blocks }
-    requires mirrors { Mirrors diagram.now round.now.links.forms round.now.links.sources }
-    ensures results { IfOk result (λ types.
-        types.results ≡ map or_logical (types_of diagram.now)) }
-    ensures params { IfOk result (λ types. types.params ≡ params_of diagram.now) }
-    ensures kept { OnOk result (KeepsTypes diagram.now) }
+    requires mirrors { Mirrors diagram.now
+        (all_forms round.now.links.blocks.now) round.now.links.sources }
+    ensures found { IfOk result (AreFound diagram.now) }
     ensures refused { IfErr result (IsRefusal (BreaksType diagram.now)) }
 {
     let known = known_types(alloc, diagram, round)?;
@@ -196,11 +206,10 @@ fn types_by(
         round,
         types,
     };
-    check(alloc, Part::Narrow, typed)?;
-    check(alloc, Part::Known, typed)?;
-    check(alloc, Part::Agree, typed)?;
-    let results = results_of(alloc, types)?;
-    let params = all_params(alloc, typed)?;
+    check_all(alloc, typed)?;
+    let mut results = FxTypes::new(alloc);
+    let mut params = FxTypes::new(alloc);
+    put_types(typed, &mut results, &mut params)?;
     Ok(BlockTypes { results, params })
 }
 
@@ -228,5 +237,7 @@ pub fn types(
     ensures refused { IfErr result (IsRefusal (BreaksType diagram.now)) }
 {
     let round = round_of(alloc, diagram)?;
-    types_by(alloc, diagram, &round)
+    let types = types_by(alloc, diagram, &round);
+    drop(round);
+    types
 }

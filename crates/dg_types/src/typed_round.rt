@@ -3,6 +3,7 @@
 ghost use Rattle.std.specs.Prelude.{◌≡◌, [], length, slice_index_or, IfOk};
 ghost use Rattle.dg_model.specs.TypeRounds.{explicit_type as explicit_type_of};
 ghost use Rattle.dg_model.specs.Wired.{IsWired};
+ghost use Rattle.dg_types.specs.inner.Build.{all_forms};
 ghost use Rattle.dg_types.specs.inner.Shown.{Mirrors};
 ghost use Rattle.dg_types.specs.inner.TypedInputs.{IsKnownValid, AreReady, FullTypesAreValid, next_typed};
 ghost use Rattle.dg_types.specs.inner.TypedScan.{IsTyped};
@@ -21,7 +22,7 @@ use std::alloc::{AllocError, Global};
 #[derive(Drop)]
 pub struct TypeRound<'a> {
     pub blocks: &'a [Block],
-    pub links: WidthRound,
+    pub links: WidthRound<'a>,
     pub ghost ready: { AreReady blocks.now links.sources },
     pub ghost valid: { FullTypesAreValid },
 }
@@ -44,7 +45,7 @@ impl Round for TypeRound<'_> {
         typed_stays round.blocks.now round.links.sources values block round.ready round.valid fit };
 
     ghost local = { λ round old new block old_size new_size there same.
-        typed_is_local round.blocks.now round.links.forms round.links.sources
+        typed_is_local round.blocks.now (all_forms round.links.blocks.now) round.links.sources
         round.links.readers old new block round.links.linked there same };
 
     fn next(&self, values: &[Option<FxType>], block: u32) -> Option<FxType> {
@@ -93,7 +94,7 @@ pub fn round_of(alloc: Global, diagram: &Diagram) -> Result<TypeRound<'_>, OutOf
     requires { IsWired diagram.now }
     ensures blocks { IfOk result (λ round. round.blocks.now ≡ diagram.now.blocks) }
     ensures mirrors { IfOk result (λ round.
-        Mirrors diagram.now round.links.forms round.links.sources) }
+        Mirrors diagram.now (all_forms round.links.blocks.now) round.links.sources) }
 {
     fx_type::full_sum_is_one();
     fx_type::union_is_one();
@@ -112,9 +113,9 @@ pub fn known_types(
 ) -> Result<Vec<Option<FxType>>, OutOfMemory>
     requires wired { IsWired diagram.now }
     requires blocks { round.now.blocks.now ≡ diagram.now.blocks }
-    requires mirrors { Mirrors diagram.now round.now.links.forms round.now.links.sources }
+    requires mirrors { Mirrors diagram.now (all_forms round.now.links.blocks.now) round.now.links.sources }
     ensures { IfOk result (λ types. IsTyped diagram.now round.now.blocks.now
-        round.now.links.forms round.now.links.sources types.items) }
+        (all_forms round.now.links.blocks.now) round.now.links.sources types.items) }
 {
     let first = all_explicit(alloc, round.blocks)?;
     let rounds = round.blocks.len() as u32;

@@ -37,9 +37,9 @@ pub record Gathered {A : Type 0} (count : ℕ) (entry_of : Edge → A) (done : L
   pub size : length rows ≡ count
   pub row : (k : ℕ) → k < count → slice_index_or rows k [] ≡ map entry_of (filter (λ edge. edge.to == k) done)
 
--- each block is its own reader, and the ends of these edges are readers
-pub record Known (count : ℕ) (done : List Edge) (rows : List (List ℕ)) : Type 0 where
+-- so many blocks are readers of themselves, and the ends of these edges are readers
+pub record Known (count selves : ℕ) (done : List Edge) (rows : List (List ℕ)) : Type 0 where
   pub size : length rows ≡ count
-  pub own : (k : ℕ) → k < count → is_in k (slice_index_or rows k []) ≡ true
+  pub own : (k : ℕ) → k < selves → is_in k (slice_index_or rows k []) ≡ true
   pub known : (j : ℕ) (edge : Edge) → slice_get done j ≡ Some edge → is_in edge.to (slice_index_or rows edge.from []) ≡ true
   pub there : (k : ℕ) → All (λ reader. reader < count) (slice_index_or rows k [])

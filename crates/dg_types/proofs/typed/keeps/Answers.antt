@@ -9,6 +9,7 @@ use Rattle.dg_types.specs.declared.linked.Form.{Form}
 use Rattle.dg_types.specs.declared.linked.Source.{Source}
 use Rattle.dg_types.specs.inner.TypedInputs.{source_types}
 use Rattle.dg_types.specs.inner.TypedScan.{IsTyped}
+use Rattle.dg_types.specs.inner.Build.{all_forms}
 use Rattle.dg_types.proofs.TypedParts.{ready_at, is_narrow_part, is_known_part, is_agree_part}
 use Rattle.dg_types.proofs.TypedWired.{inputs_are_typed}
 use Rattle.dg_types.proofs.typed.keeps.Goals as goal
@@ -42,17 +43,17 @@ agrees-requires c = record { there = rw (c.requires.typed.types_size ∙ sym c.r
 pub returns-in-Narrow : goal.returns-in-Narrow
 returns-in-Narrow c block at =
     let links = c.args.typed.round.now.links in
-    let is = read c.args.typed.diagram.now c.args.typed.round.now.blocks.now links.forms links.sources c.args.typed.types.now c.args.place c.index-typed-place.result block c.sources_of-sources.result.now c.requires.typed c.requires.there at c.sources_of-sources.ensures.value in
+    let is = read c.args.typed.diagram.now c.args.typed.round.now.blocks.now (all_forms links.blocks.now) links.sources c.args.typed.types.now c.args.place c.index-typed-place.result block c.sources_of-sources.result.now c.requires.typed c.requires.there at c.sources_of-sources.ensures.value in
     is_narrow_part c.args.typed.diagram.now c.args.place c.args.part _ block is.here _ is.inputs_are c.is_narrow.result c.in-Narrow.is c.is_narrow.ensures
 
 pub returns-in-Known : goal.returns-in-Known
 returns-in-Known c block at =
     let links = c.args.typed.round.now.links in
-    let is = read c.args.typed.diagram.now c.args.typed.round.now.blocks.now links.forms links.sources c.args.typed.types.now c.args.place c.index-typed-place.result block c.sources_of-sources.result.now c.requires.typed c.requires.there at c.sources_of-sources.ensures.value in
+    let is = read c.args.typed.diagram.now c.args.typed.round.now.blocks.now (all_forms links.blocks.now) links.sources c.args.typed.types.now c.args.place c.index-typed-place.result block c.sources_of-sources.result.now c.requires.typed c.requires.there at c.sources_of-sources.ensures.value in
     is_known_part c.args.typed.diagram.now c.args.place c.args.part _ block is.here _ is.inputs_are c.has_types.result (known_at c.args.typed.types.now c.args.place) (ap (λ (ts : Types). known_at ts c.args.place) c.requires.typed.types_are) c.in-Known.is c.has_types.ensures
 
 pub returns-in-Agree : goal.returns-in-Agree
 returns-in-Agree c block at =
     let links = c.args.typed.round.now.links in
-    let is = read c.args.typed.diagram.now c.args.typed.round.now.blocks.now links.forms links.sources c.args.typed.types.now c.args.place c.index-typed-place.result block c.sources_of-sources.result.now c.requires.typed c.requires.there at c.sources_of-sources.ensures.value in
+    let is = read c.args.typed.diagram.now c.args.typed.round.now.blocks.now (all_forms links.blocks.now) links.sources c.args.typed.types.now c.args.place c.index-typed-place.result block c.sources_of-sources.result.now c.requires.typed c.requires.there at c.sources_of-sources.ensures.value in
     is_agree_part c.args.typed.diagram.now c.args.place c.args.part _ block is.here _ is.inputs_are c.agrees.result c.in-Agree.is c.agrees.ensures

@@ -9,6 +9,7 @@ use Rattle.dg_model.specs.Periods.{known_at}
 use Rattle.dg_model.specs.TypeRounds.{Types, input_types, types_of}
 use Rattle.dg_types.specs.declared.linked.Source.{Source}
 use Rattle.dg_types.specs.inner.TypedInputs.{source_types}
+use Rattle.dg_types.specs.inner.Build.{all_forms}
 use Rattle.dg_types.proofs.TypedParts.{ready_at}
 use Rattle.dg_types.proofs.TypedSums.{known_step}
 use Rattle.dg_types.proofs.TypedWired.{inputs_are_typed}
@@ -31,7 +32,7 @@ returns c =
     let there : slice_get diagram.blocks place ≡ Some own = slice_get-get_or diagram.blocks place none c.requires.there in
     let inputs : source_types types c.sources_of-sources.result.now ≡ input_types diagram (types_of diagram) place =
     ap (λ (ss : List Source). source_types types ss) c.sources_of-sources.ensures.value ∙ ap (λ (ts : Types). source_types ts (get_or sources place [])) c.requires.typed.types_are
-    ∙ inputs_are_typed diagram c.args.typed.round.now.links.forms sources (types_of diagram) place c.requires.typed.mirrors c.requires.there in
+    ∙ inputs_are_typed diagram (all_forms c.args.typed.round.now.links.blocks.now) sources (types_of diagram) place c.requires.typed.mirrors c.requires.there in
     c.kind_or_logical.ensures
     ∙ ap or_logical (c.coefficient_type.ensures
     ∙ ap (λ (bs : List Block). coefficient_type (row_of (get_or bs place none).kind).types.full (known_at (source_types types c.sources_of-sources.result.now) 0)) c.requires.typed.blocks_are

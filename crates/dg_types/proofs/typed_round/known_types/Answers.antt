@@ -4,6 +4,7 @@ use Rattle.dg_model.specs.declared.diagram.Block.{Block}
 use Rattle.dg_model.specs.TypeRounds.{Types, explicit_type}
 use Rattle.dg_waves.specs.Rounds.{after_rounds}
 use Rattle.dg_types.specs.inner.TypedInputs.{next_typed}
+use Rattle.dg_types.specs.inner.Build.{all_forms}
 use Rattle.dg_types.proofs.TypedWired.{types_agree, first_valid, is_typed}
 use Rattle.dg_types.proofs.typed_round.known_types.Goals as goal
 
@@ -15,7 +16,7 @@ returns c =
     let diagram = c.args.diagram.now in
     let round = c.args.round.now in
     let blocks = round.blocks.now in
-    let forms = round.links.forms in
+    let forms = all_forms round.links.blocks.now in
     let sources = round.links.sources in
     let are =
     c.in_ok-types.ensures.values

@@ -2,7 +2,10 @@ use Rattle.std.proofs.Common.{◌≡◌, ℕ, ◌+◌, List, [], ◌∷◌, ◌+
 use Rattle.std.proofs.lemmas.List.{append-nil, append_assoc, drop_all, drop_more}
 use Rattle.dg_model.specs.declared.diagram.Block.{Block}
 use Rattle.dg_types.specs.inner.Shown.{shown}
-use Rattle.dg_types.proofs.rows.rows_of.Goals as goal
+use Rattle.dg_types.proofs.rows.put_rows.Goals as goal
+
+pub loop-place-init : goal.loop-place-init
+loop-place-init c = ap (λ (rows : List (List ℕ)). rows ++ shown c.args.blocks.now c.args.held.now) c.requires.none
 
 pub loop-place-preserved : goal.loop-place-preserved
 loop-place-preserved c =

@@ -1,8 +1,0 @@
-use Rattle.std.proofs.Common.{◌≡◌, map}
-use Rattle.dg_waves.specs.Rounds.{numbers_from}
-use Rattle.dg_model.specs.Attributes.{or_logical, param_type_at}
-use Rattle.dg_model.specs.TypeRounds.{types_of}
-use Rattle.dg_types.proofs.typed.all_params.Given as goal
-
-abbrev pub invariant-loop-place : goal.invariant-loop-place
-invariant-loop-place l = l.params ≡ map (λ place. or_logical (param_type_at l.typed.diagram.now (types_of l.typed.diagram.now) place)) (numbers_from 0 l.place)
