@@ -63,10 +63,6 @@ pub control_same : (done : List NestedLine) (line : NestedLine) (count : ℕ) (t
 control_same done line count table not is =
     table_same count (control_drivers done) (control_drivers (done ++ line ∷ [])) table (λ k below. driven_same done line k is_enable_end (no_end line k is_enable_end not)) is
 
-pub not_to_control : (target : Target) → (target ≡ ToEnable → ⊥) → is_enable_end target ≡ false
-not_to_control (Port port) not = refl
-not_to_control ToEnable not = absurd (not refl)
-
 pub port_more : (done : List NestedLine) (line : NestedLine) (port cell : ℕ) (lengths table : List ℕ) → line.target ≡ Port port → HasCell lengths line.to port → cell ≡ cell_at lengths line.to port →
     IsRowTable lengths (port_drivers done) table → IsRowTable lengths (port_drivers (done ++ line ∷ [])) (set table cell (one_more (get_or table cell 0)))
 port_more done line port cell lengths table target has cell_is is =
@@ -95,10 +91,6 @@ pub port_none : (done : List NestedLine) (line : NestedLine) (lengths table : Li
     IsRowTable lengths (port_drivers done) table → IsRowTable lengths (port_drivers (done ++ line ∷ [])) table
 port_none done line lengths table not is =
     rows_same lengths (port_drivers done) (port_drivers (done ++ line ∷ [])) table (λ r n its. driven_same done line r (is_port n) (no_end line r (is_port n) (not n))) is
-
-pub not_to_port : (target : Target) → ((port : ℕ) → target ≡ Port port → ⊥) → (n : ℕ) → is_port n target ≡ false
-not_to_port (Port port) not n = absurd (not port refl)
-not_to_port ToEnable not n = refl
 
 -- ---- marks
 

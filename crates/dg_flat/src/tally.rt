@@ -1,8 +1,8 @@
-ghost use Rattle.std.specs.Prelude.{◌≡◌, ◌<◌, ◌≤◌, ◌||◌, false, length, set, slice_index, slice_index_or, IfOk, All};
+ghost use Rattle.std.specs.Prelude.{◌≡◌, ◌<◌, ◌≤◌, ◌||◌, false, [], length, set, slice_index, slice_index_or, IfOk};
 ghost use Rattle.dg_model.specs.Limits.{most_blocks};
-ghost use Rattle.dg_flat.specs.inner.Ports.{inputs_at, is_lacking, one_more, port_drivers as port_drivers_of, control_drivers};
+ghost use Rattle.dg_flat.specs.inner.Ports.{inputs_at, one_more};
 ghost use Rattle.dg_flat.specs.inner.Systems.{AreSystems};
-ghost use Rattle.dg_flat.specs.inner.Tables.{IsTable, IsRowTable, AreRows};
+ghost use Rattle.dg_flat.specs.inner.Tables.{IsTable};
 ghost use Rattle.dg_flat.specs.inner.Tally.{HaveEnds, IsTally};
 
 use crate::numbering::Side;
@@ -66,64 +66,35 @@ fn mark(marks: &mut Vec<bool>, at: usize, lacks: bool)
     marks[at] = marks[at] | lacks;
 }
 
-/// Marks the blocks that lack a port that a line meets.
-fn lacking(
-    alloc: Global,
-    systems: &Systems,
-    blocks: &[NestedBlock],
-    lines: &[NestedLine],
-) -> Result<Vec<bool>, OutOfMemory>
+/// Counts what the lines drive, and marks the blocks that lack a port that one of them meets.
+fn put_lines(systems: &Systems, blocks: &[NestedBlock], lines: &[NestedLine], tally: &mut Tally)
     requires systems { AreSystems blocks.now systems.now }
     requires ends { HaveEnds blocks.now lines.now }
-    ensures { IfOk result (λ marks.
-        IsTable (length blocks.now) (is_lacking blocks.now lines.now) marks.items) }
+    requires tally { IsTally blocks.now [] tally.old }
+    ensures { IsTally blocks.now lines.now tally.new }
 {
-    let mut marks = vec![in alloc; false; blocks.len()]?;
     for line in lines {
+        let line = *line;
+        let place = line.to as usize;
         mark(
-            &mut marks,
+            &mut tally.lacks,
             line.from as usize,
-            systems.lacks_output(blocks, *line),
+            systems.lacks_output(blocks, line),
         );
         mark(
-            &mut marks,
-            line.to as usize,
+            &mut tally.lacks,
+            place,
             systems.lacks_end(blocks, line.to, line.target),
         );
-    }
-    Ok(marks)
-}
-
-/// Counts the lines into each input port.
-fn port_drivers(alloc: Global, rows: &Rows, lines: &[NestedLine]) -> Result<Vec<u8>, OutOfMemory>
-    requires rows { AreRows rows.now }
-    requires ends { All (λ line. line.to < length rows.now.lengths.items) lines.now }
-    ensures { IfOk result (λ drivers.
-        IsRowTable rows.now.lengths.items (port_drivers_of lines.now) drivers.items) }
-{
-    let mut drivers = vec![in alloc; 0; rows.cells]?;
-    for line in lines {
-        if let Target::Port(port) = line.target {
-            if let Some(cell) = rows.cell(line.to as usize, port) {
-                count_one(&mut drivers, cell);
+        match line.target {
+            Target::Port(port) => {
+                if let Some(cell) = tally.rows.cell(place, port) {
+                    count_one(&mut tally.drivers, cell);
+                }
             }
+            Target::Enable => count_one(&mut tally.enables, place),
         }
     }
-    Ok(drivers)
-}
-
-/// Counts the lines into the control of each block.
-fn enable_drivers(alloc: Global, count: usize, lines: &[NestedLine]) -> Result<Vec<u8>, OutOfMemory>
-    requires { All (λ line. line.to < count) lines.now }
-    ensures { IfOk result (λ drivers. IsTable count (control_drivers lines.now) drivers.items) }
-{
-    let mut drivers = vec![in alloc; 0; count]?;
-    for line in lines {
-        if let Target::Enable = line.target {
-            count_one(&mut drivers, line.to as usize);
-        }
-    }
-    Ok(drivers)
 }
 
 impl Tally {
@@ -140,14 +111,16 @@ impl Tally {
         ensures { IfOk result (IsTally blocks.now lines.now) }
     {
         let rows = Rows::of(alloc, input_counts(alloc, systems, blocks)?)?;
-        let drivers = port_drivers(alloc, &rows, lines)?;
-        let enables = enable_drivers(alloc, blocks.len(), lines)?;
-        let lacks = lacking(alloc, systems, blocks, lines)?;
-        Ok(Tally {
+        let drivers = vec![in alloc; 0; rows.cells]?;
+        let enables = vec![in alloc; 0; blocks.len()]?;
+        let lacks = vec![in alloc; false; blocks.len()]?;
+        let mut tally = Tally {
             rows,
             drivers,
             enables,
             lacks,
-        })
+        };
+        put_lines(systems, blocks, lines, &mut tally);
+        Ok(tally)
     }
 }

@@ -1,10 +1,14 @@
-use Rattle.std.proofs.Common.{◌≡◌, ℕ, Bool, true, false, not, eqb, List, Option, Some, None, refl, sym, subst, ap, ◌∙◌}
+use Rattle.std.proofs.Common.{◌≡◌, ℕ, Bool, true, false, not, eqb, List, Option, Some, None, inl, inr, refl, sym, subst, ap, ◌∙◌}
+use Rattle.std.specs.Prelude.{◌⊎◌}
 use Rattle.std.specs.Option.{option_eq, is_some}
 use Rattle.std.proofs.lemmas.Bool.{true≢false, eqb-true, eq-eqb}
 use Rattle.dg_model.specs.declared.nested.NestedBlock.{NestedBlock}
+use Rattle.dg_model.specs.declared.diagram.Block.{Block}
 use Rattle.dg_model.specs.declared.nested.Part.{Part}
+use Rattle.dg_model.specs.declared.nested.Part.TheVariants.{In, Out, SubSystem}
+use Rattle.dg_model.specs.Library.{row_of}
 use Rattle.dg_flat.specs.Parts.{enable_port, control_of, system_around}
-use Rattle.dg_flat.specs.Rules.{MayStandAt}
+use Rattle.dg_flat.specs.Rules.{MayStand, MayStandAt}
 use Rattle.dg_flat.proofs.enables.keeps_enable.Goals as goal
 
 -- what the comparisons tell
@@ -52,3 +56,45 @@ returns-else-eq-clause-broken c fails keeps =
     let system = c.args.block.now.parent in
     let kept = subst (λ (part : Part). MayStandAt blocks c.args.place system part) c.in-Enable.is keeps in
     other_place c.enable.result c.args.place c.if-eq.ensures (c.enable.ensures ∙ ap (λ (bs : List NestedBlock). enable_port bs system) c.as_slice-blocks.ensures ∙ kept.0)
+
+-- what an Inport, an Outport and a subsystem may always
+free : (blocks : List NestedBlock) (place : ℕ) (system : Option ℕ) (part : Part) → (((own : Block) × (number : ℕ) × (part ≡ In own number)) ⊎ (((own : Block) × (number : ℕ) × (part ≡ Out own number)) ⊎ (part ≡ SubSystem))) → MayStandAt blocks place system part
+free blocks place system part is =
+    elim is [
+      | inl inner ↦ subst (λ (p : Part). MayStandAt blocks place system p) (sym inner.2) tt
+      | inr other ↦ elim other [ inl outer ↦ subst (λ (p : Part). MayStandAt blocks place system p) (sym outer.2) tt | inr holds ↦ subst (λ (p : Part). MayStandAt blocks place system p) (sym holds) tt ]
+    ]
+
+pub returns-in-In-clause-kept : goal.returns-in-In-clause-kept
+returns-in-In-clause-kept c _ = free c.args.nested.now.blocks c.args.place c.args.block.now.parent c.args.block.now.part c.in-In.is
+
+pub returns-in-In-clause-broken : goal.returns-in-In-clause-broken
+returns-in-In-clause-broken c fails = absurd (true≢false fails)
+
+pub returns-in-In-2-clause-kept : goal.returns-in-In-2-clause-kept
+returns-in-In-2-clause-kept c _ = free c.args.nested.now.blocks c.args.place c.args.block.now.parent c.args.block.now.part c.in-In.is
+
+pub returns-in-In-2-clause-broken : goal.returns-in-In-2-clause-broken
+returns-in-In-2-clause-broken c fails = absurd (true≢false fails)
+
+pub returns-in-In-3-clause-kept : goal.returns-in-In-3-clause-kept
+returns-in-In-3-clause-kept c _ = free c.args.nested.now.blocks c.args.place c.args.block.now.parent c.args.block.now.part c.in-In.is
+
+pub returns-in-In-3-clause-broken : goal.returns-in-In-3-clause-broken
+returns-in-In-3-clause-broken c fails = absurd (true≢false fails)
+
+pub returns-in-Plain-clause-kept : goal.returns-in-Plain-clause-kept
+returns-in-Plain-clause-kept c stands =
+    let blocks = c.args.nested.now.blocks in
+    let system = c.args.block.now.parent in
+    let control : c.control.result ≡ control_of blocks system = c.control.ensures ∙ ap (λ (bs : List NestedBlock). control_of bs system) c.as_slice-blocks.ensures in
+    subst (λ (part : Part). MayStandAt blocks c.args.place system part) (sym c.in-Plain.is)
+    (subst (λ (o : Option ℕ). MayStand (row_of c.in-Plain.plain.kind).place.stands o) control (c.may_stand.ensures.0 stands))
+
+pub returns-in-Plain-clause-broken : goal.returns-in-Plain-clause-broken
+returns-in-Plain-clause-broken c fails keeps =
+    let blocks = c.args.nested.now.blocks in
+    let system = c.args.block.now.parent in
+    let control : c.control.result ≡ control_of blocks system = c.control.ensures ∙ ap (λ (bs : List NestedBlock). control_of bs system) c.as_slice-blocks.ensures in
+    let kept = subst (λ (part : Part). MayStandAt blocks c.args.place system part) c.in-Plain.is keeps in
+    true≢false (sym (c.may_stand.ensures.1 (subst (λ (o : Option ℕ). MayStand (row_of c.in-Plain.plain.kind).place.stands o) (sym control) kept)) ∙ fails)
