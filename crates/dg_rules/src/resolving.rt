@@ -89,6 +89,15 @@ fn look_at_all(
     Ok(Walk { standings, stages })
 }
 
+/// Looks at all blocks in order for the lines of a plan.
+fn walk_of(alloc: Global, checked: &Checked, plan: &Plan) -> Result<Walk, OutOfMemory>
+    requires { AreDifferent plan.now.pipelines }
+    ensures { IfOk result (λ walk. IsWalked checked.now.diagram plan.now walk) }
+{
+    let lines = Lines::of(alloc, plan.pipelines.as_slice())?;
+    look_at_all(alloc, checked, plan, &lines)
+}
+
 /// The first line that isn't found, if there is one.
 fn first_missing(standings: &[Standing]) -> Option<usize>
     ensures there { IfSome result (λ number. number < length standings.now) }
@@ -104,15 +113,18 @@ fn first_missing(standings: &[Standing]) -> Option<usize>
     None
 }
 
-/// The fault of a line that isn't found.
-fn fault_at(alloc: Global, pipeline: &Pipeline) -> Result<RuleFault, OutOfMemory>
-    ensures { IfOk result (λ fault. fault ≡ fault_of Rule.Plan pipeline.now.path Nothing) }
+/// The refusal at a line that isn't found.
+fn refusal(alloc: Global, pipeline: &Pipeline) -> CheckFault
+    ensures { IsRefusal (λ fault. fault ≡ fault_of Rule.Plan pipeline.now.path Nothing) result }
 {
-    Ok(RuleFault {
-        rule: Rule::Plan,
-        place: Text::copy(alloc, pipeline.path.bytes())?,
-        shown: Shown::Nothing,
-    })
+    match Text::copy(alloc, pipeline.path.bytes()) {
+        Ok(place) => CheckFault::Broken(RuleFault {
+            rule: Rule::Plan,
+            place,
+            shown: Shown::Nothing,
+        }),
+        Err(OutOfMemory) => CheckFault::OutOfMemory,
+    }
 }
 
 /// Finds the blocks that a plan names, and gives each block the registers that the plan sets behind it
@@ -131,11 +143,9 @@ pub fn resolve(alloc: Global, checked: &Checked, plan: &Plan) -> Result<Resolved
         (BreaksPlan checked.now.diagram (attributes_of checked.now.diagram) plan.now)) }
 {
     let pipelines = plan.pipelines.as_slice();
-    let lines = Lines::of(alloc, pipelines)?;
-    let walk = look_at_all(alloc, checked, plan, &lines)?;
+    let walk = walk_of(alloc, checked, plan)?;
     if let Some(number) = first_missing(walk.standings.as_slice()) {
-        let fault = fault_at(alloc, &pipelines[number])?;
-        return Err(CheckFault::Broken(fault));
+        return Err(refusal(alloc, &pipelines[number]));
     }
     Ok(Resolved {
         cycles: plan.cycles,

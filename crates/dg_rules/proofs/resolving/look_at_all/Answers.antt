@@ -9,7 +9,7 @@ use Rattle.dg_model.specs.PlanNames.{count_of}
 use Rattle.dg_rules.specs.declared.standing.Standing.{Standing}
 use Rattle.dg_rules.specs.inner.Standings.{AreStandings, looked_at, count_in}
 use Rattle.dg_rules.specs.inner.Lines.{number_of, paths_in}
-use Rattle.dg_rules.proofs.PlanLines.{number_is, count_is, has}
+use Rattle.dg_rules.proofs.PlanLines.{number_is, count_is, has, within}
 use Rattle.dg_rules.proofs.LineStates.{one_looked_at}
 use Rattle.dg_rules.proofs.resolving.look_at_all.Goals as goal
 
@@ -61,3 +61,14 @@ returns c =
       standings = subst (λ n. AreStandings diagram (attributes_of diagram) n c.args.plan.now.pipelines c.loop-place.standings.items) all c.loop-place.invariant.standings;
       stages = c.loop-place.invariant.stages ∙ ap (map (λ (b : Block). count_of c.args.plan.now b.path)) (take_all c.loop-place.place diagram.blocks past);
     }
+
+pub look_at-count-requires-clause-within : goal.look_at-count-requires-clause-within
+look_at-count-requires-clause-within c = λ k at.
+    let lines = c.args.plan.now.pipelines in
+    let path = c.deref.result.now in
+    rw c.as_slice-pipelines.ensures (within lines path k (sym (number_is (paths_in c.args.lines.now) lines path c.requires.lines) ∙ sym c.number-number.ensures ∙ at))
+
+pub may_be_pipelined-may-requires : goal.may_be_pipelined-may-requires
+may_be_pipelined-may-requires c =
+    let blocks = c.as_slice-blocks.ensures ∙ ap (λ (d : Diagram). d.blocks) c.diagram.ensures in
+    subst (λ (bs : List Block). c.loop-place.place < length bs) blocks c.loop-place-test.true

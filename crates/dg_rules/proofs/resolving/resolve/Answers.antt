@@ -2,10 +2,15 @@ use Rattle.std.proofs.Common.{◌≡◌, ◌<◌, Some, List, length, refl, sym,
 use Rattle.std.specs.Prelude.{slice_get, slice_index_or}
 use Rattle.std.proofs.lemmas.Option.{slice_get-get_or}
 use Rattle.dg_model.specs.declared.plan.Pipeline.{Pipeline}
+use Rattle.dg_model.specs.declared.fault.Shown.TheVariants.{Nothing}
+use Rattle.dg_model.specs.declared.rule.Rule.{Rule}
 use Rattle.dg_model.specs.Attributes.{attributes_of}
+use Rattle.dg_model.specs.Faults.{fault_of}
+use Rattle.dg_model.specs.PlanNames.{BreaksPlan}
 use Rattle.dg_rules.specs.declared.standing.Standing.{Standing}
 use Rattle.dg_rules.specs.declared.standing.Standing.TheVariants.{Unseen, Found}
 use Rattle.dg_rules.specs.inner.Standings.{AllFound}
+use Rattle.dg_model.proofs.Refused.{refused_as}
 use Rattle.dg_rules.proofs.LineStates.{plan_kept, plan_broken}
 use Rattle.dg_rules.proofs.PlanOf.{plan_of}
 use Rattle.dg_rules.proofs.resolving.resolve.Goals as goal
@@ -22,8 +27,8 @@ returns-in-Some-clause-refused c =
     let at : slice_get c.args.plan.now.pipelines c.in-Some.number ≡ Some line =
     subst (λ (ls : List Pipeline). slice_get ls c.in-Some.number ≡ Some line) c.as_slice-pipelines.ensures
     (slice_get-get_or c.as_slice-pipelines.result.now c.in-Some.number _ number ∙ ap Some (sym c.index-pipelines-number.is)) in
-    plan_broken diagram (attributes_of diagram) c.args.plan.now c.in_ok-walk.walk.standings.items c.in_ok-walk.ensures.standings
-    c.in-Some.number line c.in_ok-fault.fault at missing before c.in_ok-fault.ensures
+    refused_as (λ fault. fault ≡ fault_of Rule.Plan line.path Nothing) (BreaksPlan diagram (attributes_of diagram) c.args.plan.now) c.refusal.result
+    (λ fault is. plan_broken diagram (attributes_of diagram) c.args.plan.now c.in_ok-walk.walk.standings.items c.in_ok-walk.ensures.standings c.in-Some.number line fault at missing before is) c.refusal.ensures
 
 pub returns-clause-kept : goal.returns-clause-kept
 returns-clause-kept c =
