@@ -16,7 +16,6 @@ use Rattle.hw_sched.specs.Ready.{declared_latency}
 use Rattle.hw_sched.specs.Slots.{Timing as Times}
 use Rattle.hw_build.specs.declared.design.Design.{Design}
 use Rattle.hw_build.specs.declared.blocks.Setting.{Setting}
-use Rattle.hw_build.specs.declared.spots.Spots.{Spots}
 use Rattle.hw_names.specs.declared.names.Names.{Names}
 use Rattle.hw_build.specs.declared.operands.Operands.{Operands}
 use Rattle.hw_names.specs.Names.{own_names}
@@ -33,6 +32,7 @@ use Rattle.hw_build.specs.inner.Operands.{offered_at}
 use Rattle.hw_build.specs.inner.Outgoing.{IsSmall, AreOutputBlocks, AddsOutputs}
 use Rattle.hw_build.specs.inner.ResultNets.{AreProducts}
 use Rattle.hw_build.specs.inner.Porting.{ArePortsFor, AddsInputPorts}
+use Rattle.hw_build.specs.inner.Spotted.{Spots}
 use Rattle.hw_names.specs.Taken.{AreTaken}
 use Rattle.hw_build.proofs.Filling.{filled as stand_filled}
 use Rattle.hw_build.proofs.Handing.{begun}
@@ -69,7 +69,7 @@ steps_fill setting start hubbed now spots set ordered inputs outputs hubs has = 
 }
 
 -- as many ports as elements
-pub counted_blocks : (elements : List RootElement) (blocks : List ℕ) → blocks ≡ map (λ (e : RootElement). e.block) elements → length blocks ≡ length elements
+counted_blocks : (elements : List RootElement) (blocks : List ℕ) → blocks ≡ map (λ (e : RootElement). e.block) elements → length blocks ≡ length elements
 counted_blocks elements blocks are = ap (λ (xs : List ℕ). length xs) are ∙ length-map elements (λ (e : RootElement). e.block)
 
 -- and with the ports

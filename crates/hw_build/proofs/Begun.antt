@@ -1,5 +1,5 @@
 -- The loops over blocks begin with the nets of root inputs, which are elements themselves, and at their end all elements stand.
-use Rattle.std.proofs.Common.{List, ◌≡◌, ℕ, zero, suc, ◌+◌, ◌<◌, ◌≤◌, inl, inr, Bool, true, false, [], ◌∷◌, length, IsTrue, ap, sym, ◌∙◌, subst, refl, length-append, arith}
+use Rattle.std.proofs.Common.{List, ◌≡◌, ℕ, zero, suc, ◌+◌, ◌<◌, ◌≤◌, inl, inr, Bool, true, false, [], ◌∷◌, length, slice_index_or, IsTrue, ap, sym, ◌∙◌, subst, refl, length-append, arith}
 use Rattle.std.specs.Prelude.{slice_get, nat_lt, not, ◌&&◌, if◌then◌else◌}
 use Rattle.std.proofs.lemmas.Bool.{cond-true, lt-ltb, false≢true, cases_lt, cases_Bool}
 use Rattle.std.proofs.lemmas.Option.{none-some, slice_get_within}
@@ -21,13 +21,12 @@ use Rattle.hw_sched.proofs.Periods.{readable_at}
 use Rattle.hw_shows.specs.Waves.{IsMadeAs}
 use Rattle.hw_build.specs.Places.{Places, waves_of}
 use Rattle.hw_build.specs.declared.blocks.Setting.{Setting}
-use Rattle.hw_build.specs.declared.spots.Spots.{Spots}
 use Rattle.hw_build.specs.inner.Designed.{timing_for, times_for}
 use Rattle.hw_build.specs.inner.Facts.{IsElementMade, IsElementPiped}
 use Rattle.hw_build.specs.inner.Growth.{InLater}
 use Rattle.hw_build.specs.inner.HubPlaces.{before, owner_of, hub_start, hubs_in_all, hub_at, is_input_role, start_level}
-use Rattle.hw_build.specs.inner.Looping.{place_in, IsSet, Fits, IsGoingBy, Reaches, AreInputSpots, IsBegun, HasElements}
-use Rattle.hw_build.specs.inner.Spotted.{with_spot, AreSpotted}
+use Rattle.hw_build.specs.inner.Looping.{place_in, IsSet, Fits, IsGoingBy, Reaches, IsBegun, HasElements}
+use Rattle.hw_build.specs.inner.Spotted.{Spots, with_spot, AreEven, AreSpotted}
 use Rattle.hw_build.specs.inner.Tally.{AreLabelled, AreTallied, hub_registers, hub_products, products_by, registers_by}
 use Rattle.hw_build.proofs.Beginning.{level_other, place_input, place_other}
 use Rattle.hw_build.proofs.Closed.{unpiped_by}
@@ -53,6 +52,13 @@ unmultiplied_input _ input = absurd (false≢true input)
 made_input : (P : (kind : Kind) → Type 0) (kind : Kind) → is_input_role (row_of kind).place.role ≡ true → ((number width : ℕ) → kind ≡ Inport number width → P (Inport number width)) → P kind
 made_input P (Inport number width) input gives = gives number width refl
 made_input P _ input gives = absurd (false≢true input)
+
+-- the first places are those of so many root inputs
+pub record AreInputSpots (spots : Spots) (inputs : ℕ) : Type 0 where
+  pub even : AreEven spots
+  pub size : length spots.entries ≡ inputs
+  pub entries : (k : ℕ) → k < inputs → slice_index_or spots.entries k 0 ≡ k
+  pub stages : (k : ℕ) → k < inputs → slice_index_or spots.stages k 0 ≡ k
 
 module _ (setting : Setting) (listed : InputsAreListed) (valid : TypesAreValid) (ordered : IsOrdered setting.design.checked.now.diagram setting.design.checked.now.order) (set : IsSet setting) (now : Circuit) (begun : IsBegun setting now) (spots : Spots)
     (inputs : AreInputSpots spots (length (root_inputs setting.design.checked.now.diagram (attributes_of setting.design.checked.now.diagram)))) where
@@ -202,10 +208,11 @@ module _ (setting : Setting) (listed : InputsAreListed) (valid : TypesAreValid) 
         multiplied = λ block b element shown early owns. absurd (no_product block b element shown (omega (arith, early, size)) owns);
       }
 
-  pub begun_reaches : Reaches setting now spots (hub_start drawn 0)
+  pub begun_reaches : Reaches setting now (hub_start drawn 0)
   begun_reaches =
       let size = inputs.size in
       record {
+        spots = spots;
         going = record {
           even = inputs.even;
           cycles = begun.cycles;
@@ -220,16 +227,16 @@ module _ (setting : Setting) (listed : InputsAreListed) (valid : TypesAreValid) 
 
 -- ---- the end
 
-module _ (setting : Setting) (listed : InputsAreListed) (ordered : IsOrdered setting.design.checked.now.diagram setting.design.checked.now.order) (set : IsSet setting) (now : Circuit) (spots : Spots)
-    (reaches : Reaches setting now spots (hubs_in_all setting.design.checked.now.diagram)) where
+module _ (setting : Setting) (listed : InputsAreListed) (ordered : IsOrdered setting.design.checked.now.diagram setting.design.checked.now.order) (set : IsSet setting) (now : Circuit)
+    (reaches : Reaches setting now (hubs_in_all setting.design.checked.now.diagram)) where
   abbrev named_places : Places
-  named_places = own_places setting listed ordered spots
+  named_places = own_places setting listed ordered reaches.spots
 
   -- all elements stand, by the places that were gathered
-  pub all_stand : HasElements setting now spots
+  pub all_stand : HasElements setting now reaches.spots
   all_stand =
-      let fits = own_fit setting listed ordered spots (λ k e there. set.stood.has.of_inputs k e there) in
-      let spotted = own_spotted setting listed ordered spots in
+      let fits = own_fit setting listed ordered reaches.spots (λ k e there. set.stood.has.of_inputs k e there) in
+      let spotted = own_spotted setting listed ordered reaches.spots in
       let going = reaches.going.each named_places fits spotted in
       let at = reaches.at in
       let closed = subst (λ (n : ℕ). IsGoingBy setting named_places reaches.going.start n now going.0) at going.1 in
@@ -264,23 +271,30 @@ module _ (setting : Setting) (listed : InputsAreListed) (ordered : IsOrdered set
 
 -- ---- the places of root inputs, one by one
 
-pub no_spots : AreInputSpots (record { entries = []; states = []; stages = [] }) 0
+no_spots : AreInputSpots (record { entries = []; states = []; stages = [] }) 0
 no_spots = record { even = record { states = refl; stages = refl }; size = refl; entries = λ k below. absurd (omega (arith, below)); stages = λ k below. absurd (omega (arith, below)) }
 
-pub spots_next : (spots : Spots) (input number : ℕ) → number ≡ input → AreInputSpots spots input → AreInputSpots (with_spot spots number number number) (input + 1)
-spots_next spots input number same are =
-    let sum = length-append spots.entries (number ∷ []) in
+spots_next : (spots : Spots) (input : ℕ) → AreInputSpots spots input → AreInputSpots (with_spot spots input input input) (input + 1)
+spots_next spots input are =
+    let sum = length-append spots.entries (input ∷ []) in
     let size = are.size in
     let stages = are.even.stages in
     record {
-      even = even_next spots number number number are.even;
+      even = even_next spots input input input are.even;
       size = omega (arith, sum, size);
       entries = λ k below. elim (cases_lt k input) [
-        | inl less ↦ front_read spots.entries number k (omega (arith, less, size)) ∙ are.entries k less
-        | inr past ↦ at_last spots.entries number k (omega (arith, past, below, size)) ∙ omega (arith, same, past, below)
+        | inl less ↦ front_read spots.entries input k (omega (arith, less, size)) ∙ are.entries k less
+        | inr past ↦ at_last spots.entries input k (omega (arith, past, below, size)) ∙ omega (arith, past, below)
       ];
       stages = λ k below. elim (cases_lt k input) [
-        | inl less ↦ front_read spots.stages number k (omega (arith, less, size, stages)) ∙ are.stages k less
-        | inr past ↦ at_last spots.stages number k (omega (arith, past, below, size, stages)) ∙ omega (arith, same, past, below)
+        | inl less ↦ front_read spots.stages input k (omega (arith, less, size, stages)) ∙ are.stages k less
+        | inr past ↦ at_last spots.stages input k (omega (arith, past, below, size, stages)) ∙ omega (arith, past, below)
       ];
     }
+
+pub input_spots : (inputs : ℕ) → (spots : Spots) × AreInputSpots spots inputs
+input_spots zero = (record { entries = []; states = []; stages = [] }, no_spots)
+input_spots (suc inputs) =
+    let rest = input_spots inputs in
+    let next : inputs + 1 ≡ suc inputs = omega arith in
+    (with_spot rest.0 inputs inputs inputs, subst (AreInputSpots (with_spot rest.0 inputs inputs inputs)) next (spots_next rest.0 inputs rest.1))

@@ -33,12 +33,11 @@ use Rattle.hw_build.specs.Serving.{others, own_factors, unit_factors}
 use Rattle.hw_build.specs.declared.blocks.Setting.{Setting}
 use Rattle.hw_build.specs.declared.entry.Entry.{Entry}
 use Rattle.hw_build.specs.declared.pipelines.Piped.{Piped}
-use Rattle.hw_build.specs.declared.spots.Spots.{Spots}
 use Rattle.hw_build.specs.inner.Designed.{timing_for}
 use Rattle.hw_build.specs.inner.HubPlaces.{before, own_hubs, hub_at, owner_of, is_input_role}
 use Rattle.hw_build.specs.inner.Looping.{IsSet, IsBegun, IsEntered}
 use Rattle.hw_build.specs.inner.Piping.{stage_labels, IsPipedBy}
-use Rattle.hw_build.specs.inner.Spotted.{with_spot, AreEven}
+use Rattle.hw_build.specs.inner.Spotted.{Spots, with_spot, AreEven}
 use Rattle.hw_build.specs.inner.Tally.{ReadThere, IsPipelineAt, AreLabelled, AreTallied, product_labels, hub_registers, hub_products, products_by, registers_by}
 use Rattle.hw_build.proofs.Apart.{one_hub}
 use Rattle.hw_build.proofs.Beginning.{owner_is, place_other}

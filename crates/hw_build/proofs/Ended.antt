@@ -24,7 +24,6 @@ use Rattle.hw_build.specs.Multiplied.{multiplication_name, AreMultiplied}
 use Rattle.hw_build.specs.Pipelined.{stage_name, ArePipelined}
 use Rattle.hw_build.specs.Places.{Places}
 use Rattle.hw_build.specs.declared.blocks.Setting.{Setting}
-use Rattle.hw_build.specs.declared.spots.Spots.{Spots}
 use Rattle.hw_build.specs.inner.Designed.{timing_for}
 use Rattle.hw_build.specs.inner.HubPlaces.{hub_at, hubs_in_all}
 use Rattle.hw_build.specs.inner.Looping.{places_of, IsSet, HasElements}
@@ -32,6 +31,7 @@ use Rattle.hw_build.specs.inner.Piping.{own_frame, wire_of, stage_net}
 use Rattle.hw_build.specs.inner.ResultNets.{product_net}
 use Rattle.hw_build.specs.inner.Tally.{IsPipelineAt, products_by}
 use Rattle.hw_build.specs.inner.Unread.{AreReadInTurn}
+use Rattle.hw_build.specs.inner.Spotted.{Spots}
 use Rattle.hw_build.proofs.Unread.{alone}
 use Rattle.fx_io.proofs.Tests.{some_there}
 use Rattle.fx_io.proofs.Places.{get_some}

@@ -12,7 +12,6 @@ use Rattle.hw_sched.specs.Chained.{chained, registers_of_lines, uses_in_all}
 use Rattle.hw_sched.specs.Slots.{shared_operations, unit_of}
 use Rattle.hw_sched.specs.Storage.{registers_in_all}
 use Rattle.hw_build.specs.declared.blocks.Setting.{Setting}
-use Rattle.hw_build.specs.declared.spots.Spots.{Spots}
 use Rattle.hw_build.specs.Built.{counter_count}
 use Rattle.hw_build.specs.Places.{Places}
 use Rattle.hw_build.specs.Serving.{Factors}
@@ -25,6 +24,7 @@ use Rattle.hw_build.specs.inner.Marked.{hub_of_mark}
 use Rattle.hw_build.specs.inner.ResultNets.{product_net}
 use Rattle.hw_build.specs.inner.Tally.{hub_products, hub_registers}
 use Rattle.hw_build.specs.inner.Units.{HaveUnits}
+use Rattle.hw_build.specs.inner.Spotted.{Spots}
 use Rattle.hw_build.proofs.Ended.{pipelines_stand, multiplications_stand}
 use Rattle.hw_build.proofs.Framing.{frame_stands, more_goes, registers_then, few_registers}
 use Rattle.hw_build.proofs.Growth.{later_on}

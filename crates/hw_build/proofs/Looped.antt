@@ -22,7 +22,6 @@ use Rattle.hw_sched.proofs.Periods.{readable_at}
 use Rattle.hw_build.specs.Places.{Places}
 use Rattle.hw_build.specs.declared.blocks.Setting.{Setting}
 use Rattle.hw_build.specs.declared.entry.Entry.{Entry}
-use Rattle.hw_build.specs.declared.spots.Spots.{Spots}
 use Rattle.hw_build.specs.inner.Designed.{timing_for, times_for}
 use Rattle.hw_build.specs.inner.Entries.{IsEntryAt}
 use Rattle.hw_build.specs.inner.HubPlaces.{hub_of, own_hubs, hubs_in_all, hub_at, is_input_role}
@@ -30,7 +29,7 @@ use Rattle.hw_build.specs.inner.Marked.{AreMarked}
 use Rattle.hw_build.specs.inner.Looping.{place_in, places_of, IsSet, Fits, IsGoingBy, Reaches, IsEntered}
 use Rattle.hw_build.specs.inner.Operands.{first_not}
 use Rattle.hw_build.specs.inner.ResultNets.{product_net}
-use Rattle.hw_build.specs.inner.Spotted.{with_spot, AreEven, AreSpotted, PutsElement}
+use Rattle.hw_build.specs.inner.Spotted.{Spots, with_spot, AreEven, AreSpotted, IsClosedBy}
 use Rattle.hw_build.specs.inner.Tally.{AreTallied, product_labels}
 use Rattle.hw_build.proofs.Apart.{one_hub}
 use Rattle.hw_build.proofs.Beginning.{before_up, place_other}
@@ -160,10 +159,17 @@ module _ (setting : Setting) (listed : InputsAreListed) (valid : TypesAreValid) 
   abbrev drawn : Diagram
   drawn = setting.design.checked.now.diagram
 
+  -- the net that readers name has a number of 32 bits
+  pub hub_fits : (block : ℕ) (b : Block) (port element : ℕ) → IsShown drawn (attributes_of drawn) block b port element → is_input_role (row_of b.kind).place.role ≡ false → hub_at setting.firsts.now block port element < 2 ^ 32
+  hub_fits block b port element shown other =
+      let place = place_other drawn set.stood.earlier set.stood.later setting.firsts.now set.stood.has block b port element shown other in
+      (set.stood.has.fresh block b (hub_at setting.firsts.now block port element) shown.block_is place.0 place.1).1
+
   -- before its pipeline is there the net that readers name waits
-  pub element_waits : (block : ℕ) (b : Block) (port element : ℕ) → IsShown drawn (attributes_of drawn) block b port element → (before middle : Circuit) (spots : Spots) (entry : Entry) → Reaches setting before spots (hub_at setting.firsts.now block port element)
-      → IsEntered setting before middle block b port element entry → IsResize middle.nets (length spots.entries)
-  element_waits block b port element shown before middle spots entry reaches entered =
+  pub element_waits : (block : ℕ) (b : Block) (port element : ℕ) → IsShown drawn (attributes_of drawn) block b port element → (before middle : Circuit) (entry : Entry) (reaches : Reaches setting before (hub_at setting.firsts.now block port element))
+      → IsEntered setting before middle block b port element entry → IsResize middle.nets (length reaches.spots.entries)
+  element_waits block b port element shown before middle entry reaches entered =
+      let spots : Spots = reaches.spots in
       let more : Spots = with_spot spots entry.net entry.state 0 in
       let places : Places = own_places setting listed ordered more in
       let fits = own_fit setting listed ordered more (λ k e there. set.stood.has.of_inputs k e there) in
@@ -181,9 +187,12 @@ module _ (setting : Setting) (listed : InputsAreListed) (valid : TypesAreValid) 
       let waits = is.going.waits block b port element shown (omega (arith, at)) in
       record { net = hub_of ((attributes_of drawn).type_at block 1); args = []; is = ap (slice_get middle.nets) at ∙ waits.at; resizes = refl }
 
-  module _ (block : ℕ) (b : Block) (port element : ℕ) (shown : IsShown drawn (attributes_of drawn) block b port element) (other : is_input_role (row_of b.kind).place.role ≡ false) (before middle after final : Circuit) (spots more : Spots) (entry : Entry)
-      (reaches : Reaches setting before spots (hub_at setting.firsts.now block port element)) (entered : IsEntered setting before middle block b port element entry) (put : PutsElement drawn (timing_for setting.design) middle after spots more block element entry.net entry.state)
+  module _ (block : ℕ) (b : Block) (port element : ℕ) (shown : IsShown drawn (attributes_of drawn) block b port element) (other : is_input_role (row_of b.kind).place.role ≡ false) (before middle after final : Circuit) (entry : Entry)
+      (reaches : Reaches setting before (hub_at setting.firsts.now block port element)) (entered : IsEntered setting before middle block b port element entry) (put : IsClosedBy drawn (timing_for setting.design) middle after (length reaches.spots.entries) block element entry.net)
       (names : final ≡ with_labels after (product_labels block element entry.multiply)) (small_block : block < 2 ^ 64) (small_element : element < 2 ^ 64) where
+    abbrev spots : Spots
+    spots = reaches.spots
+
     here : hub_at setting.firsts.now block port element ≡ length spots.entries
     here = sym reaches.at
 
@@ -204,11 +213,11 @@ module _ (setting : Setting) (listed : InputsAreListed) (valid : TypesAreValid) 
 
     next_tally : AreTallied drawn setting.design.plan.now (timing_for setting.design) setting.firsts.now reaches.going.start final (with_spot spots entry.net entry.state put.piped.begin)
     next_tally =
-        tallied_next setting listed valid above ordered set block b port element shown other before middle put.closed.middle after reaches.going.start spots entry put.piped reaches.going.even here reaches.going.begun reaches.going.tally entered
-        (type-word ((attributes_of drawn).type_at block 1) (valid drawn setting.design.checked.now.order block b ordered shown.block_is).0) inside put.closed.put
-        (resize_kept drawn (timing_for setting.design) middle put.closed.middle block element entry.net (length spots.entries) put.piped (λ p is. above drawn block p ordered.checked is) put.closed.put
-        (element_waits block b port element shown before middle spots entry reaches entered))
-        put.closed.connected final names small_block small_element
+        tallied_next setting listed valid above ordered set block b port element shown other before middle put.middle after reaches.going.start spots entry put.piped reaches.going.even here reaches.going.begun reaches.going.tally entered
+        (type-word ((attributes_of drawn).type_at block 1) (valid drawn setting.design.checked.now.order block b ordered shown.block_is).0) inside put.put
+        (resize_kept drawn (timing_for setting.design) middle put.middle block element entry.net (length spots.entries) put.piped (λ p is. above drawn block p ordered.checked is) put.put
+        (element_waits block b port element shown before middle entry reaches entered))
+        put.connected final names small_block small_element
 
     next_marks : AreMarked drawn setting.design.plan.now (times_for setting.design) setting.firsts.now reaches.going.start final (suc (length spots.entries))
     next_marks =
@@ -217,8 +226,8 @@ module _ (setting : Setting) (listed : InputsAreListed) (valid : TypesAreValid) 
         let within = slice_get_within drawn.blocks block b shown.block_is in
         let few = ordered.checked.wired.size in
         let ports = (readable_at drawn ordered.checked.wired block b shown.block_is).ports in
-        marked_next drawn setting.design.plan.now (times_for setting.design) setting.firsts.now reaches.going.start before middle put.closed.middle after final (length spots.entries) block element entry.net put.piped.end put.piped entry.multiply reaches.going.marks entered.appends.extends entered.own_frames
-        (λ m e. let own = entered.own_number m e in (own.1, own.2, first_hub (single_multiplying b.kind b.inputs b.outputs ports own.0))) put.closed.put put.closed.connected names (omega (arith, more, low)) within
+        marked_next drawn setting.design.plan.now (times_for setting.design) setting.firsts.now reaches.going.start before middle put.middle after final (length spots.entries) block element entry.net put.piped.end put.piped entry.multiply reaches.going.marks entered.appends.extends entered.own_frames
+        (λ m e. let own = entered.own_number m e in (own.1, own.2, first_hub (single_multiplying b.kind b.inputs b.outputs ports own.0))) put.put put.connected names (omega (arith, more, low)) within
         (λ some stage. first_hub (pipelining_shows b.kind b.inputs b.outputs (set.designed.scheduled.planned.allowed.each block b shown.block_is some).kind ports)) (λ some. some_period ((attributes_of drawn).period_at block) (set.designed.scheduled.planned.allowed.each block b shown.block_is some).period) (omega (arith, within, few)) element_fits
         (few_stages block within)
       where
@@ -231,8 +240,7 @@ module _ (setting : Setting) (listed : InputsAreListed) (valid : TypesAreValid) 
 
         element_fits : element < 2 ^ 64
         element_fits =
-            let place = place_other drawn set.stood.earlier set.stood.later setting.firsts.now set.stood.has block b port element shown other in
-            let small = (set.stood.has.fresh block b (hub_at setting.firsts.now block port element) shown.block_is place.0 place.1).1 in
+            let small = hub_fits block b port element shown other in
             let is = set.stood.has.of_others block b port element shown other in
             omega (arith, small, is)
 
@@ -259,20 +267,20 @@ module _ (setting : Setting) (listed : InputsAreListed) (valid : TypesAreValid) 
         } in
         let is = entered.each places reaches.going.start (length spots.entries) going.0 fits at (reaches.going.begun.each places fits).products going.1 in
         let closes =
-        going_closed drawn (timing_for setting.design) places (place_in setting.design.checked.now.order) (length (root_inputs drawn (attributes_of drawn))) reaches.going.start (length spots.entries) (hubs_in_all drawn) middle put.closed.middle after is.next block b port element entry.net put.piped is.going shown
+        going_closed drawn (timing_for setting.design) places (place_in setting.design.checked.now.order) (length (root_inputs drawn (attributes_of drawn))) reaches.going.start (length spots.entries) (hubs_in_all drawn) middle put.middle after is.next block b port element entry.net put.piped is.going shown
         (fits.lines.after block b port element shown ∙ here) high (type-word ((attributes_of drawn).type_at block 1) (valid drawn setting.design.checked.now.order block b ordered shown.block_is).0) entered.word is.low is.made entry_is
         (last_stage drawn setting.firsts.now spots entry.net entry.state put.piped.begin even places spotted block b port element shown here)
         (λ also q outer member shows same.
         one_hub drawn setting.design.checked.now.order set.stood.earlier set.stood.later setting.firsts.now set.stood.has listed valid ordered block b port element also q outer member shown shows other (sym (fits.lines.after also q outer member shows) ∙ same ∙ sym here))
-        put.closed.connected (λ p period. above drawn block p ordered.checked period) put.closed.put
+        put.connected (λ p period. above drawn block p ordered.checked period) put.put
         in (
           closes.0,
           going_same drawn (timing_for setting.design) places (place_in setting.design.checked.now.order) (hubs_in_all drawn) (length (root_inputs drawn (attributes_of drawn))) reaches.going.start (suc (length spots.entries)) after final closes.0
               (ap (λ (c : Circuit). c.nets) names) (ap (λ (c : Circuit). c.cycles) names) (ap (λ (c : Circuit). c.inputs) names) closes.1,
         )
 
-    pub next_reached : Reaches setting final (with_spot spots entry.net entry.state put.piped.begin) (suc (hub_at setting.firsts.now block port element))
-    next_reached =
+    pub element_reached : Reaches setting final (suc (hub_at setting.firsts.now block port element))
+    element_reached =
         let sum : length (with_spot spots entry.net entry.state put.piped.begin).entries ≡ suc (length spots.entries) = let e = length-append spots.entries (entry.net ∷ []) in omega (arith, e) in
         let at = here in
         let even = even_next spots entry.net entry.state put.piped.begin reaches.going.even in
@@ -280,6 +288,7 @@ module _ (setting : Setting) (listed : InputsAreListed) (valid : TypesAreValid) 
         let spotted = own_spotted setting listed ordered (with_spot spots entry.net entry.state put.piped.begin) in
         let going = next_each (own_places setting listed ordered (with_spot spots entry.net entry.state put.piped.begin)) fits spotted in
         record {
+          spots = with_spot spots entry.net entry.state put.piped.begin;
           going = record {
             even = even;
             cycles = going.1.way.facts.cycles;
@@ -291,6 +300,3 @@ module _ (setting : Setting) (listed : InputsAreListed) (valid : TypesAreValid) 
           };
           at = omega (arith, sum, at);
         }
-
-    pub element_reached : Reaches setting final more (suc (hub_at setting.firsts.now block port element))
-    element_reached = subst (λ (s : Spots). Reaches setting final s (suc (hub_at setting.firsts.now block port element))) (sym put.kept) next_reached

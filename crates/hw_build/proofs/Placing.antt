@@ -35,6 +35,13 @@ fresh_then earlier now later one two type is more = record {
       ];
 }
 
+pub fresh_none : (now : Circuit) (count : ℕ) (type : FxType) → count ≡ 0 → AddsFresh now now count type
+fresh_none now count type none = record {
+  extends = extends-self now;
+  size = omega (arith, none);
+  each = λ k past below. absurd (omega (arith, past, below));
+}
+
 pub fresh_one : (now later : Circuit) (number : ℕ) (type : FxType) → number ≡ length now.nets → number < 2 ^ 32 → later ≡ with_net now (hub_of type) → AddsFresh now later 1 type
 fresh_one now later number type at fits grown = record {
   extends = extends-one now later (hub_of type) grown;
@@ -54,6 +61,13 @@ front_read firsts first port below =
 
 last_read : (firsts : List ℕ) (first : ℕ) → slice_index_or (firsts ++ first ∷ []) (length firsts) 0 ≡ first
 last_read firsts first = get_or_from_slice_get (firsts ++ first ∷ []) (length firsts) first 0 (last-of firsts first)
+
+pub ports_none : (now : Circuit) (type : FxType) (size : ℕ → ℕ) (firsts : List ℕ) → firsts ≡ [] → AddsPorts now now type size firsts 0
+ports_none now type size firsts none = record {
+  adds = fresh_none now 0 type refl;
+  count = ap (λ (xs : List ℕ). length xs) none;
+  places = λ port below. absurd (omega (arith, below));
+}
 
 pub ports_more : (earlier now later : Circuit) (type : FxType) (size : ℕ → ℕ) (firsts : List ℕ) (ports first : ℕ) → AddsPorts earlier now type size firsts ports → first ≡ length now.nets → AddsFresh now later (size ports) type
     → AddsPorts earlier later type size (firsts ++ first ∷ []) (ports + 1)
@@ -99,6 +113,15 @@ front_list lists list place below =
 
 last_list : (lists : List (List ℕ)) (list : List ℕ) → slice_index_or (lists ++ list ∷ []) (length lists) [] ≡ list
 last_list lists list = get_or_from_slice_get (lists ++ list ∷ []) (length lists) list [] (last-of lists list)
+
+pub blocks_none : (diagram : Diagram) (now : Circuit) (columns : List ℕ) (firsts : List (List ℕ)) → firsts ≡ [] → length now.nets ≡ hub_start diagram 0 → AddsBlocks diagram now now columns firsts 0
+blocks_none diagram now columns firsts none size = record {
+  count = ap (λ (xs : List (List ℕ)). length xs) none;
+  extends = extends-self now;
+  size = size;
+  fresh = λ block b k below at low high. absurd (omega (arith, below));
+  are = λ block b below at. absurd (omega (arith, below));
+}
 
 pub blocks_more : (diagram : Diagram) (earlier now later : Circuit) (columns : List ℕ) (firsts : List (List ℕ)) (place : ℕ) (one : Block) (mine : List ℕ) → AddsBlocks diagram earlier now columns firsts place → slice_get diagram.blocks place ≡ Some one
     → AddsBlock diagram now later (slice_index_or columns place 0) place one mine → AddsBlocks diagram earlier later columns (firsts ++ mine ∷ []) (place + 1)

@@ -27,17 +27,8 @@ pub struct Asks {
 /// What is asked stands behind the other asks, or want of memory.
 pub type Asked = Result<(), OutOfMemory>;
 
-/// Asks for a net as it is.
-fn ask_now(asks: &mut Asks, hub: u32) -> Asked
-    ensures { OnOk result (AsksOne asks.old.list.items asks.new.list.items
-        asks.old.wants.items asks.new.wants.items hub None) }
-{
-    asks.list.push(Ask { hub, want: None })?;
-    Ok(())
-}
-
 /// Asks for a net that is shown later.
-fn ask_later(asks: &mut Asks, want: Want) -> Asked
+pub fn ask_later(asks: &mut Asks, want: Want) -> Asked
     ensures { OnOk result (AsksOne asks.old.list.items asks.new.list.items
         asks.old.wants.items asks.new.wants.items want.feed.hub (Some want)) }
 {
@@ -60,7 +51,10 @@ pub fn ask_signal(asks: &mut Asks, first: u32, width: u32) -> Asked
         asks.old.wants.items asks.new.wants.items (hub_from first) unasked width) }
 {
     for element in 0..width {
-        ask_now(asks, first + element)?;
+        asks.list.push(Ask {
+            hub: first + element,
+            want: None,
+        })?;
     }
     Ok(())
 }
@@ -81,22 +75,6 @@ pub fn ask_plain(asks: &mut Asks, first: u32, width: u32, frame: Frame, to: Use)
         ask_later(asks, Want { feed, to })?;
     }
     Ok(())
-}
-
-/// Asks for a net that registers show later, which have this first.
-pub fn ask_registered(asks: &mut Asks, hub: u32, frame: Frame, first: i128, to: Use) -> Asked
-    ensures { OnOk result (AsksOne asks.old.list.items asks.new.list.items
-        asks.old.wants.items asks.new.wants.items hub (Some (record {
-          feed = record { hub = hub; frame = frame; first = Some first };
-          to = to;
-        }))) }
-{
-    let feed = Feed {
-        hub,
-        frame,
-        first: Some(first),
-    };
-    ask_later(asks, Want { feed, to })
 }
 
 /// The nets of asks, where those of the wants have these numbers.

@@ -1,10 +1,10 @@
 //! What all elements of a block read.
-ghost use Rattle.std.specs.Prelude.{◌≡◌, ◌≤◌, ◌-◌, ℕ, IfOk, OnOk, List, Some, slice_get};
+ghost use Rattle.std.specs.Prelude.{◌≡◌, ◌≤◌, ◌-◌, [], ℕ, OnOk, List, Some, slice_get};
 ghost use Rattle.dg_model.specs.declared.kind.Kind.{Kind};
 ghost use Rattle.dg_model.specs.Attributes.{attributes_of};
 ghost use Rattle.dg_model.specs.Wires.{types_into, width_into as width_into_of};
 ghost use Rattle.dg_model.specs.Solves.{shown_ports as shown_ports_of};
-ghost use Rattle.hw_build.specs.inner.Offers.{AreBegins, ArePartsTo, AreReadBy, IsBlockAt};
+ghost use Rattle.hw_build.specs.inner.Offers.{AreBare, AreBegins, ArePartsTo, AreReadBy, IsBlockAt};
 
 use crate::blocks::Setting;
 use crate::full_types::type_into;
@@ -13,7 +13,6 @@ use crate::operands::line_into;
 use dg_model::{Block, Checked, Kind};
 use fx_io::{OutOfMemory, Sizes};
 use fx_type::FxType;
-use std::alloc::Global;
 
 /// A block whose elements are put in.
 #[derive(Clone, Copy)]
@@ -34,22 +33,22 @@ pub struct BlockInputs {
     pub begins: Sizes,
 }
 
-/// The types of what a block reads at its input ports.
-fn types_of(
-    alloc: Global,
+/// Puts the types of what a block reads at its input ports into an empty list.
+fn put_types(
+    types: &mut Vec<FxType>,
     checked: &Checked,
     block: u32,
     one: &Block,
-) -> Result<Vec<FxType>, OutOfMemory>
+) -> Result<(), OutOfMemory>
     requires is { slice_get checked.now.diagram.blocks block ≡ Some one.now }
-    ensures { IfOk result (λ types. types.items ≡ types_into checked.now.diagram
+    requires none { types.old.items ≡ [] }
+    ensures { OnOk result (types.new.items ≡ types_into checked.now.diagram
         (attributes_of checked.now.diagram) block one.now.inputs) }
 {
-    let mut types = Vec::new(alloc);
     for input in 0..one.inputs {
         types.push(type_into(checked, block, input + 1, one))?;
     }
-    Ok(types)
+    Ok(())
 }
 
 /// How many elements the line into an input port, from 1, of a block has.
@@ -83,35 +82,37 @@ fn put_part<'a>(parts: &mut Sizes, owner: BlockAt<'a>, port: u32) -> Result<(), 
     Ok(())
 }
 
-/// The nets that the elements of a Mux are offered; none of a block of another kind.
-fn parts_of<'a>(alloc: Global, owner: BlockAt<'a>) -> Result<Sizes, OutOfMemory>
-    requires { IsBlockAt owner }
-    ensures { IfOk result (λ parts. (sizes : List ℕ) → owner.entry.one.now.kind ≡ Kind.Mux sizes
+/// Puts the nets that the elements of a Mux are offered into an empty list; none of a block of another
+/// kind.
+fn put_parts<'a>(parts: &mut Sizes, owner: BlockAt<'a>) -> Result<(), OutOfMemory>
+    requires is { IsBlockAt owner }
+    requires none { parts.old ≡ [] }
+    ensures { OnOk result ((sizes : List ℕ) → owner.entry.one.now.kind ≡ Kind.Mux sizes
         → ArePartsTo owner.entry.setting owner.entry.block owner.entry.one.now owner.entry.one.now.inputs 0
-        parts) }
+        parts.new) }
 {
-    let mut parts = Sizes::new(alloc);
     if let Kind::Mux { .. } = &owner.one.kind {
         for input in 0..owner.one.inputs {
-            put_part(&mut parts, owner, input + 1)?;
+            put_part(parts, owner, input + 1)?;
         }
     }
-    Ok(parts)
+    Ok(())
 }
 
-/// How many elements a Demux shows before those of each port; none of a block of another kind.
-fn begins_of(
-    alloc: Global,
+/// Puts how many elements a Demux shows before those of each port into an empty list; none of a block of
+/// another kind.
+fn put_begins(
+    begins: &mut Sizes,
     checked: &Checked,
     block: u32,
     one: &Block,
-) -> Result<Sizes, OutOfMemory>
+) -> Result<(), OutOfMemory>
     requires is { slice_get checked.now.diagram.blocks block ≡ Some one.now }
-    ensures { IfOk result (λ begins. (sizes : List ℕ) → one.now.kind ≡ Kind.Demux sizes
+    requires none { begins.old ≡ [] }
+    ensures { OnOk result ((sizes : List ℕ) → one.now.kind ≡ Kind.Demux sizes
         → AreBegins checked.now.diagram block one.now (shown_ports_of one.now.kind one.now.outputs)
-        begins) }
+        begins.new) }
 {
-    let mut begins = Sizes::new(alloc);
     if let Kind::Demux { .. } = &one.kind {
         let mut total: u32 = 0;
         for port in 0..shown_ports(one) {
@@ -124,20 +125,18 @@ fn begins_of(
             total = next;
         }
     }
-    Ok(begins)
+    Ok(())
 }
 
-/// What all elements of a block read.
-pub fn inputs_of<'a>(alloc: Global, owner: BlockAt<'a>) -> Result<BlockInputs, OutOfMemory>
-    requires { IsBlockAt owner }
-    ensures { IfOk result (AreReadBy owner.entry.setting owner.entry.block owner.entry.one.now) }
+/// Puts what all elements of a block read where nothing is yet.
+pub fn put_inputs<'a>(inputs: &mut BlockInputs, owner: BlockAt<'a>) -> Result<(), OutOfMemory>
+    requires is { IsBlockAt owner }
+    requires bare { AreBare inputs.old }
+    ensures { OnOk result
+        (AreReadBy owner.entry.setting owner.entry.block owner.entry.one.now inputs.new) }
 {
-    let types = types_of(alloc, owner.setting.design.checked, owner.block, owner.one)?;
-    let parts = parts_of(alloc, owner)?;
-    let begins = begins_of(alloc, owner.setting.design.checked, owner.block, owner.one)?;
-    Ok(BlockInputs {
-        types,
-        parts,
-        begins,
-    })
+    let checked = owner.setting.design.checked;
+    put_types(&mut inputs.types, checked, owner.block, owner.one)?;
+    put_parts(&mut inputs.parts, owner)?;
+    put_begins(&mut inputs.begins, checked, owner.block, owner.one)
 }

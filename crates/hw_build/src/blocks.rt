@@ -2,29 +2,28 @@
 ghost use Rattle.std.specs.Prelude.{◌≡◌, ◌++◌, ◌-◌, ◌≤◌, false, suc, IfOk, OnOk};
 ghost use Rattle.dg_model.specs.Library.{row_of};
 ghost use Rattle.dg_model.specs.Solves.{shown_ports as shown_ports_of};
-ghost use Rattle.hw_build.specs.declared.spots.Spots.{Spots};
-ghost use Rattle.hw_build.specs.inner.HubPlaces.{hub_at, hub_start, hubs_in_all, is_input_role};
-ghost use Rattle.hw_build.specs.inner.Offers.{AreReadBy, IsAtHand, IsBlockAt};
+ghost use Rattle.hw_build.specs.inner.HubPlaces.{hub_at as hub_at_of, hub_start, is_input_role};
+ghost use Rattle.hw_build.specs.inner.Offers.{AreBare, AreReadBy, IsAtHand, IsBlockAt};
+ghost use Rattle.hw_build.specs.inner.Spotted.{Spots};
 ghost use Rattle.hw_build.specs.inner.Tally.{product_labels};
-ghost use Rattle.hw_build.specs.inner.Looping.{AreInputSpots, HasElements, IsBegun, IsEntered, IsKnown, IsSet, Reaches, Stands, port_start, roots_of};
+ghost use Rattle.hw_build.specs.inner.Looping.{HasElements, IsBegun, IsEntered, IsKnown, IsSet, Reaches, Stands, port_start};
 
-use crate::block_inputs::{BlockAt, BlockInputs, inputs_of};
-use crate::closing::close;
+use crate::block_inputs::{BlockAt, BlockInputs, put_inputs};
 use crate::design::Design;
 use crate::entries::put_entry;
 use crate::entry::Made;
 use crate::full_types::full_type;
-use crate::hubs::{is_input, shown_ports, shown_width};
-use crate::labels::product_name;
-use crate::offers::{Element, operands_of};
+use crate::hubs::{hub_at, is_input, shown_ports, shown_width};
+use crate::labels::label;
+use crate::offers::{Element, put_operands};
 use crate::operands::Operands;
+use crate::pipelines::put_pipeline;
 use crate::products::Products;
 use crate::site::Site;
-use crate::spots::Spots;
 use crate::worked::put_shared;
 use dg_model::PortWidths;
 use dg_tables::{Place, operations_prepare};
-use fx_io::OutOfMemory;
+use fx_io::{OutOfMemory, Sizes};
 use hw_net::{NetLabel, Netlist};
 use hw_sched::{lines_are_edges, periods_are_above};
 use std::alloc::Global;
@@ -68,7 +67,14 @@ fn put_one<'a>(alloc: Global, net: &mut Netlist, element: Element<'a>, inputs: &
         let full = full_type(design.checked, place.block, one);
         return put_shared(alloc, net, design, place, one, full, product);
     }
-    let operands = operands_of(alloc, element, inputs)?;
+    let mut operands = Sizes::new(alloc);
+    match put_operands(&mut operands, element, inputs) {
+        Ok(()) => {}
+        Err(wanting) => {
+            drop(operands);
+            return Err(wanting);
+        }
+    }
     let site = Site {
         design,
         place,
@@ -96,7 +102,7 @@ fn name_product(
     let Some(number) = multiply else {
         return Ok(());
     };
-    let name = product_name(alloc, block, element)?;
+    let name = label(alloc, b"fx_m", block, element, None)?;
     net.add_label(NetLabel { net: number, name })
 }
 
@@ -104,33 +110,32 @@ fn name_product(
 fn put_element<'a>(
     alloc: Global,
     net: &mut Netlist,
-    spots: &mut Spots,
     element: Element<'a>,
     inputs: &BlockInputs,
 ) -> Result<(), OutOfMemory>
     requires set { IsSet element.setting }
     requires hand { IsAtHand element inputs.now }
-    requires before { Reaches element.setting net.old spots.old
-        (hub_at element.setting.firsts.now element.place.block element.place.port
+    requires before { Reaches element.setting net.old
+        (hub_at_of element.setting.firsts.now element.place.block element.place.port
         element.place.element) }
-    ensures { OnOk result (Reaches element.entry.setting net.new spots.new
-        (suc (hub_at element.entry.setting.firsts.now element.entry.place.block
+    ensures { OnOk result (Reaches element.entry.setting net.new
+        (suc (hub_at_of element.entry.setting.firsts.now element.entry.place.block
         element.entry.place.port element.entry.place.element))) }
 {
     let (setting, place) = (element.setting, element.place);
     setting_is_known(setting);
     periods_are_above();
     let entry = put_one(alloc, net, element, inputs)?;
-    close(
+    let piped = put_pipeline(
         alloc,
         net,
-        spots,
         setting.design,
         place.block,
         place.element,
         entry.net,
-        entry.state,
     )?;
+    let hub = hub_at(setting.firsts, place.block, place.port, place.element);
+    net.connect(alloc, hub, piped.end)?;
     name_product(alloc, net, place.block, place.element, entry.multiply)
 }
 
@@ -138,7 +143,6 @@ fn put_element<'a>(
 fn put_port<'a>(
     alloc: Global,
     net: &mut Netlist,
-    spots: &mut Spots,
     owner: BlockAt<'a>,
     inputs: &BlockInputs,
     port: u32,
@@ -149,9 +153,9 @@ fn put_port<'a>(
     requires other { is_input_role (row_of owner.one.now.kind).place.role ≡ false }
     requires from { 1 ≤ port }
     requires to { port ≤ shown_ports_of owner.one.now.kind owner.one.now.outputs }
-    requires before { Reaches owner.setting net.old spots.old
+    requires before { Reaches owner.setting net.old
         (port_start owner.setting.design.checked.now.diagram owner.block owner.one.now (port - 1)) }
-    ensures { OnOk result (Reaches owner.entry.setting net.new spots.new
+    ensures { OnOk result (Reaches owner.entry.setting net.new
         (port_start owner.entry.setting.design.checked.now.diagram owner.entry.block
         owner.entry.one.now port)) }
 {
@@ -168,55 +172,67 @@ fn put_port<'a>(
             place,
             one,
         };
-        put_element(alloc, net, spots, to, inputs)?;
+        put_element(alloc, net, to, inputs)?;
+    }
+    Ok(())
+}
+
+/// Puts in the elements of a block that is no root input, of which nothing is read yet.
+fn put_ports<'a>(
+    alloc: Global,
+    net: &mut Netlist,
+    owner: BlockAt<'a>,
+    inputs: &mut BlockInputs,
+) -> Result<(), OutOfMemory>
+    requires set { IsSet owner.setting }
+    requires is { IsBlockAt owner }
+    requires other { is_input_role (row_of owner.one.now.kind).place.role ≡ false }
+    requires bare { AreBare inputs.old }
+    requires before { Reaches owner.setting net.old
+        (hub_start owner.setting.design.checked.now.diagram owner.block) }
+    ensures { OnOk result (Reaches owner.entry.setting net.new
+        (hub_start owner.entry.setting.design.checked.now.diagram (suc owner.entry.block))) }
+{
+    put_inputs(inputs, owner)?;
+    for port in 0..shown_ports(owner.one) {
+        put_port(alloc, net, owner, inputs, port + 1)?;
     }
     Ok(())
 }
 
 /// Puts in the elements of a block.
-fn put_block<'a>(
-    alloc: Global,
-    net: &mut Netlist,
-    spots: &mut Spots,
-    owner: BlockAt<'a>,
-) -> Result<(), OutOfMemory>
+fn put_block<'a>(alloc: Global, net: &mut Netlist, owner: BlockAt<'a>) -> Result<(), OutOfMemory>
     requires set { IsSet owner.setting }
     requires is { IsBlockAt owner }
-    requires before { Reaches owner.setting net.old spots.old
+    requires before { Reaches owner.setting net.old
         (hub_start owner.setting.design.checked.now.diagram owner.block) }
-    ensures { OnOk result (Reaches owner.entry.setting net.new spots.new
+    ensures { OnOk result (Reaches owner.entry.setting net.new
         (hub_start owner.entry.setting.design.checked.now.diagram (suc owner.entry.block))) }
 {
     if is_input(&owner.one.kind) {
         return Ok(());
     }
-    let inputs = inputs_of(alloc, owner)?;
-    for port in 0..shown_ports(owner.one) {
-        match put_port(alloc, net, spots, owner, &inputs, port + 1) {
-            Ok(()) => {}
-            Err(wanting) => {
-                drop(inputs);
-                return Err(wanting);
-            }
-        }
-    }
+    let mut inputs = BlockInputs {
+        types: Vec::new(alloc),
+        parts: Sizes::new(alloc),
+        begins: Sizes::new(alloc),
+    };
+    let put = put_ports(alloc, net, owner, &mut inputs);
     drop(inputs);
-    Ok(())
+    put
 }
 
-/// Puts in the elements of all blocks but root inputs, whose places stand first.
-pub fn put_blocks<'a>(
+/// Puts in the elements of all blocks but root inputs, whose nets are elements themselves.
+pub fn put_elements<'a>(
     alloc: Global,
     net: &mut Netlist,
-    spots: &mut Spots,
     setting: Setting<'a>,
 ) -> Result<(), OutOfMemory>
     requires set { IsSet setting }
-    requires before { Reaches setting net.old spots.old
-        (hub_start setting.design.checked.now.diagram 0) }
-    ensures { OnOk result (Reaches setting.entry net.new spots.new
-        (hubs_in_all setting.entry.design.checked.now.diagram)) }
+    requires begun { IsBegun setting net.old }
+    ensures { OnOk result ((spots : Spots) × HasElements setting.entry net.new spots) }
 {
+    setting_is_known(setting);
     let blocks = setting.design.checked.diagram().blocks.as_slice();
     for block in 0..blocks.len() {
         let owner = BlockAt {
@@ -224,41 +240,7 @@ pub fn put_blocks<'a>(
             block: block as u32,
             one: &blocks[block],
         };
-        put_block(alloc, net, spots, owner)?;
+        put_block(alloc, net, owner)?;
     }
     Ok(())
-}
-
-/// The places of root inputs, whose nets are elements themselves.
-fn input_spots(alloc: Global, inputs: usize) -> Result<Spots, OutOfMemory>
-    ensures { IfOk result (λ spots. AreInputSpots spots inputs) }
-{
-    let Ok(count) = u32::try_from(inputs) else {
-        // word: how many root input elements there are, of 32 bits
-        return Err(OutOfMemory);
-    };
-    let mut spots = Spots::new(alloc);
-    for input in 0..count {
-        spots.put(input, input, input)?;
-    }
-    Ok(spots)
-}
-
-/// Puts in the elements of all blocks, where so many are those of root inputs.
-pub fn put_elements<'a>(
-    alloc: Global,
-    net: &mut Netlist,
-    setting: Setting<'a>,
-    inputs: usize,
-) -> Result<(), OutOfMemory>
-    requires set { IsSet setting }
-    requires inputs { inputs ≡ roots_of setting }
-    requires begun { IsBegun setting net.old }
-    ensures { OnOk result ((spots : Spots) × HasElements setting.entry net.new spots) }
-{
-    setting_is_known(setting);
-    let mut spots = input_spots(alloc, inputs)?;
-    let put = put_blocks(alloc, net, &mut spots, setting);
-    drop(spots);
-    put
 }

@@ -28,19 +28,16 @@ use hw_net::Netlist;
 use hw_sched::{SizeFault, Slots, check_size};
 use std::alloc::Global;
 
-/// Puts in all nets behind those that readers name, which begin here. These are the blocks of the root
-/// inputs.
+/// Puts in all nets behind those that readers name, which begin here.
 fn put_nets<'a>(
     alloc: Global,
     net: &mut Netlist,
     design: Design<'a>,
     firsts: &PortWidths,
-    inputs: &[u32],
 ) -> Result<(), OutOfMemory>
     requires can { CanBuild design }
     requires hubs { HasHubs design.checked.now.diagram (empty_circuit design.plan.now.cycles) net.old
         firsts.now }
-    requires inputs { AreInputBlocks design inputs.now }
     ensures { OnOk result (IsFilledFor design.entry net.new firsts.now) }
 {
     design.checked.keeps_rules();
@@ -68,7 +65,7 @@ fn put_nets<'a>(
         operands: &operands,
         products: &products,
     };
-    let put = put_elements(alloc, net, setting, inputs.len());
+    let put = put_elements(alloc, net, setting);
     drop(products);
     drop(operands);
     put
@@ -121,7 +118,7 @@ fn put_netlist<'a>(
     ensures { OnOk result (IsDoneFor design.entry net.new) }
 {
     let firsts = hubs_of(alloc, net, design.checked, inputs)?;
-    match put_nets(alloc, net, design, &firsts, inputs) {
+    match put_nets(alloc, net, design, &firsts) {
         Ok(()) => {
             let put = put_ports(alloc, net, design, &firsts, inputs, outputs);
             drop(firsts);

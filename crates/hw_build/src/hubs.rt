@@ -70,24 +70,24 @@ fn put_port(alloc: Global, net: &mut Netlist, kind: FxType, width: u32) -> Resul
     Ok(first)
 }
 
-/// Puts in the nets of a block, and gives the first of each port. Those of a root input port are its
-/// inputs, from this column on.
+/// Puts in the nets of a block, and puts the first of each port into an empty list. Those of a root
+/// input port are its inputs, from this column on.
 fn put_block(
     alloc: Global,
     net: &mut Netlist,
+    firsts: &mut Sizes,
     checked: &Checked,
     column: u32,
     block: u32,
     one: &Block,
-) -> Result<Sizes, OutOfMemory>
-    requires { slice_get checked.now.diagram.blocks block ≡ Some one.now }
-    ensures { IfOk result (λ firsts.
-        AddsBlock checked.now.diagram net.old net.new column block one.now firsts) }
+) -> Result<(), OutOfMemory>
+    requires is { slice_get checked.now.diagram.blocks block ≡ Some one.now }
+    requires none { firsts.old ≡ [] }
+    ensures { OnOk result
+        (AddsBlock checked.now.diagram net.old net.new column block one.now firsts.new) }
 {
-    let mut firsts = Sizes::new(alloc);
     if is_input(&one.kind) {
-        firsts.push(column)?;
-        return Ok(firsts);
+        return firsts.push(column);
     }
     let kind = checked.result(block);
     for port in 0..shown_ports(one) {
@@ -95,34 +95,44 @@ fn put_block(
         let first = put_port(alloc, net, kind, width)?;
         firsts.push(first)?;
     }
-    Ok(firsts)
+    Ok(())
 }
 
-/// Puts in the nets of all blocks, behind those of the root inputs, and gives the first of each port.
-/// By block, the columns are where those of a root input port begin.
+/// Puts in the nets of all blocks, behind those of the root inputs, and puts the first of each port into
+/// an empty list. By block, the columns are where those of a root input port begin.
 fn put_blocks(
     alloc: Global,
     net: &mut Netlist,
+    firsts: &mut PortSizes,
     checked: &Checked,
     columns: &[u32],
-) -> Result<PortSizes, OutOfMemory>
+) -> Result<(), OutOfMemory>
     requires size { length net.old.nets ≡ hub_start checked.now.diagram 0 }
     requires columns { length columns.now ≡ length checked.now.diagram.blocks }
-    ensures { IfOk result (λ firsts. AddsBlocks checked.now.diagram net.old net.new columns.now
-        firsts (length checked.now.diagram.blocks)) }
+    requires none { firsts.old ≡ [] }
+    ensures { OnOk result (AddsBlocks checked.now.diagram net.old net.new columns.now
+        firsts.new (length checked.now.diagram.blocks)) }
 {
     let blocks = checked.diagram().blocks.as_slice();
     let Ok(count) = u32::try_from(blocks.len()) else {
         // word: how many blocks there are, of 32 bits
         return Err(OutOfMemory);
     };
-    let mut firsts = PortSizes::new(alloc);
     for block in 0..count {
         let column = columns[block as usize];
-        let own = put_block(alloc, net, checked, column, block, &blocks[block as usize])?;
+        let mut own = Sizes::new(alloc);
+        put_block(
+            alloc,
+            net,
+            &mut own,
+            checked,
+            column,
+            block,
+            &blocks[block as usize],
+        )?;
         firsts.push(own)?;
     }
-    Ok(firsts)
+    Ok(())
 }
 
 /// Puts in a net for each root input element, whose blocks these are.
@@ -166,10 +176,18 @@ pub fn hubs_of(
     dg_model::root_elements_are_listed();
     put_inputs(alloc, net, checked, inputs)?;
     let columns = columns_of(alloc, checked.diagram().blocks.as_slice().len(), inputs)?;
-    let firsts = put_blocks(alloc, net, checked, columns.as_slice())?;
-    let widths = PortWidths::of(alloc, &firsts);
-    drop(firsts);
-    widths
+    let mut firsts = PortSizes::new(alloc);
+    match put_blocks(alloc, net, &mut firsts, checked, columns.as_slice()) {
+        Ok(()) => {
+            let widths = PortWidths::of(alloc, &firsts);
+            drop(firsts);
+            widths
+        }
+        Err(wanting) => {
+            drop(firsts);
+            Err(wanting)
+        }
+    }
 }
 
 /// The net of an element at a port, from 1, of a block.

@@ -1,38 +1,44 @@
 //! The names of nets.
-ghost use Rattle.std.specs.Prelude.{◌≡◌, ◌++◌, codes, decimal, IfOk, OnOk};
-ghost use Rattle.hw_build.specs.Multiplied.{multiplication_name};
-ghost use Rattle.hw_build.specs.Pipelined.{stage_name as stage_name_of};
+ghost use Rattle.std.specs.Prelude.{◌≡◌, ◌++◌, IfOk, OnOk};
+ghost use Rattle.hw_build.specs.inner.Labelled.{place_name};
 
 use fx_io::{OutOfMemory, Text};
 use hw_names::put_number;
 use std::alloc::Global;
 
-/// Puts the number of a block and that of its element behind a name.
-fn put_element(name: &mut Vec<u8>, block: u32, element: u32) -> Result<(), OutOfMemory>
-    ensures { OnOk result (name.new.items
-        ≡ name.old.items ++ (decimal block ++ (codes "_" ++ decimal element))) }
+/// Puts the numbers of a block and of its element behind a name, and that of a stage where it is of one.
+fn put_place(
+    name: &mut Vec<u8>,
+    block: u32,
+    element: u32,
+    stage: Option<u32>,
+) -> Result<(), OutOfMemory>
+    ensures { OnOk result (name.new.items ≡ name.old.items ++ place_name block element stage) }
 {
     put_number(name, block)?;
     name.push(b'_')?;
-    put_number(name, element)
+    put_number(name, element)?;
+    match stage {
+        None => Ok(()),
+        Some(stage) => {
+            name.push(b'_')?;
+            put_number(name, stage)
+        }
+    }
 }
 
-/// The name of the multiplication of an element of a block.
-pub fn product_name(alloc: Global, block: u32, element: u32) -> Result<Text, OutOfMemory>
-    ensures { IfOk result (λ name. name ≡ multiplication_name block element) }
+/// The name of a net of an element of a block, which begins with these bytes: of a register of its
+/// pipeline with the number of that, from 1.
+pub fn label(
+    alloc: Global,
+    begin: &[u8],
+    block: u32,
+    element: u32,
+    stage: Option<u32>,
+) -> Result<Text, OutOfMemory>
+    ensures { IfOk result (λ name. name ≡ begin.now ++ place_name block element stage) }
 {
-    let mut name = Vec::from_slice(alloc, b"fx_m")?;
-    put_element(&mut name, block, element)?;
-    Text::from_vec(alloc, name)
-}
-
-/// The name of a register of the pipeline of an element of a block, by its number from 1.
-pub fn stage_name(alloc: Global, block: u32, element: u32, stage: u32) -> Result<Text, OutOfMemory>
-    ensures { IfOk result (λ name. name ≡ stage_name_of block element stage) }
-{
-    let mut name = Vec::from_slice(alloc, b"fx_p")?;
-    put_element(&mut name, block, element)?;
-    name.push(b'_')?;
-    put_number(&mut name, stage)?;
+    let mut name = Vec::from_slice(alloc, begin)?;
+    put_place(&mut name, block, element, stage)?;
     Text::from_vec(alloc, name)
 }

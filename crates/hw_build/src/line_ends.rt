@@ -4,8 +4,9 @@ ghost use Rattle.dg_model.specs.Attributes.{attributes_of};
 ghost use Rattle.dg_model.specs.Wires.{repeated};
 ghost use Rattle.hw_build.specs.inner.Seeking.{AsksAll, hub_spread, late_want};
 
-use crate::asks::{Asked, Asks, ask_registered};
+use crate::asks::{Asked, Asks, ask_later};
 use crate::firsts::first_entry;
+use crate::wants::{Feed, Want};
 use dg_model::{Block, Checked};
 use hw_lines::Use;
 use hw_net::Frame;
@@ -42,7 +43,12 @@ pub fn ask_late(
     for element in 0..own_width(checked, block) {
         let hub = first + element_in(width, element);
         let initial = first_entry(checked, block, one, element);
-        ask_registered(asks, hub, frame, initial, to)?;
+        let feed = Feed {
+            hub,
+            frame,
+            first: Some(initial),
+        };
+        ask_later(asks, Want { feed, to })?;
     }
     Ok(())
 }

@@ -39,10 +39,7 @@ pub fn put_comb(
     ensures grown { OnOk result (net.new ≡ with_net net.old
         (record { signed = word.signed; width = word.width; kind = Comb op reads.now })) }
 {
-    let mut args = Sizes::new(alloc);
-    for read in reads {
-        args.push(*read)?;
-    }
+    let args = Sizes::from_vec(Vec::from_slice(alloc, reads)?);
     net.add(Net {
         signed: word.signed,
         width: word.width,

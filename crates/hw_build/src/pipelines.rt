@@ -5,7 +5,7 @@ ghost use Rattle.hw_build.specs.inner.Designed.{IsDesigned, timing_for};
 ghost use Rattle.hw_build.specs.inner.Piping.{own_frame, stage_labels, stage_net, stage_nets, IsPipedBy};
 
 use crate::design::Design;
-use crate::labels::stage_name;
+use crate::labels::label;
 use crate::parts::{put_comb, word_of};
 use fx_io::OutOfMemory;
 use fx_type::FxType;
@@ -99,7 +99,7 @@ fn name_registers(
     }) }
 {
     for stage in 0..count {
-        let name = stage_name(alloc, block, element, stage + 1)?;
+        let name = label(alloc, b"fx_p", block, element, Some(stage + 1))?;
         net.add_label(NetLabel {
             net: begin + (stage + 1),
             name,

@@ -25,7 +25,6 @@ use Rattle.hw_build.specs.Serving.{multipliers, others}
 use Rattle.hw_build.specs.declared.blocks.Setting.{Setting}
 use Rattle.hw_build.specs.declared.entry.Entry.{Entry}
 use Rattle.hw_build.specs.declared.operands.Operands.{Operands}
-use Rattle.hw_build.specs.declared.spots.Spots.{Spots}
 use Rattle.hw_build.specs.inner.Designed.{IsDesigned, timing_for, times_for}
 use Rattle.hw_build.specs.inner.Entries.{IsEntryAt, kept_each}
 use Rattle.hw_build.specs.inner.ElementsPut.{ProductsAreLow}
@@ -36,7 +35,7 @@ use Rattle.hw_build.specs.inner.HubPlaces.{before, hub_at, hub_of, hub_start, hu
 use Rattle.hw_build.specs.inner.Marked.{AreMarked}
 use Rattle.hw_build.specs.inner.Operands.{AreLinePlaces, enabled_by, first_at, first_not, offered_at}
 use Rattle.hw_build.specs.inner.ResultNets.{AreProducts, HaveProducts, product_net}
-use Rattle.hw_build.specs.inner.Spotted.{AreEven, AreSpotted, IsGoing}
+use Rattle.hw_build.specs.inner.Spotted.{Spots, AreEven, AreSpotted, IsGoing}
 use Rattle.hw_build.specs.inner.Tally.{ReadThere, AreTallied, IsOwnProduct, products_by}
 use Rattle.hw_build.specs.inner.Readied.{IsReadied}
 use Rattle.hw_build.specs.inner.Units.{HaveUnits}
@@ -157,8 +156,9 @@ module _ (setting : Setting) where
     pub marks : AreMarked (diagram_of setting) setting.design.plan.now (times_for setting.design) setting.firsts.now start now (length spots.entries)
     pub each : (places : Places) → Fits setting places → AreSpotted (diagram_of setting) setting.firsts.now spots places → (level : ℕ → ℕ) × IsGoingBy places start (length spots.entries) now level
 
-  -- up to a net that readers name
-  pub record Reaches (now : Circuit) (spots : Spots) (closed : ℕ) : Type 0 where
+  -- up to a net that readers name, by the places of the elements before
+  pub record Reaches (now : Circuit) (closed : ℕ) : Type 0 where
+    pub spots : Spots
     pub going : AreGoing now spots
     pub at : length spots.entries ≡ closed
 
@@ -192,13 +192,6 @@ module _ (setting : Setting) where
   pub record Stands (now : Circuit) : Type 0 where
     pub spots : Spots
     pub going : AreGoing now spots
-
--- the first places are those of so many root inputs
-pub record AreInputSpots (spots : Spots) (inputs : ℕ) : Type 0 where
-  pub even : AreEven spots
-  pub size : length spots.entries ≡ inputs
-  pub entries : (k : ℕ) → k < inputs → slice_index_or spots.entries k 0 ≡ k
-  pub stages : (k : ℕ) → k < inputs → slice_index_or spots.stages k 0 ≡ k
 
 -- all elements stand, by the places that were gathered: what is left to do is no more than ports
 pub record HasElements (setting : Setting) (now : Circuit) (spots : Spots) : Type 0 where

@@ -45,6 +45,12 @@ pub record AreReadBy (setting : Setting) (block : ℕ) (b : Block) (inputs : Blo
   pub parts_are : (sizes : List ℕ) → b.kind ≡ Mux sizes → ArePartsTo setting block b b.inputs 0 inputs.parts
   pub begins_are : (sizes : List ℕ) → b.kind ≡ Demux sizes → AreBegins (diagram_of setting) block b (shown_ports b.kind b.outputs) inputs.begins
 
+-- nothing is read yet
+pub record AreBare (inputs : BlockInputs) : Type 0 where
+  pub types : inputs.types.items ≡ []
+  pub parts : inputs.parts ≡ []
+  pub begins : inputs.begins ≡ []
+
 -- the table shows the element
 abbrev pub IsShownAt : Element → Type 0
 IsShownAt to = IsShown (diagram_of to.setting) (attributes_of (diagram_of to.setting)) to.place.block to.one.now to.place.port to.place.element

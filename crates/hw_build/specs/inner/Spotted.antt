@@ -1,4 +1,4 @@
--- The places that are gathered while elements are put in, and what the netlist then keeps (own).
+-- The places of the elements that were put in, and what the netlist then keeps (own).
 use Rattle.std.specs.Prelude.{◌≡◌, ℕ, suc, ◌+◌, ◌<◌, ◌≤◌, ◌++◌, List, [], ◌∷◌, length, slice_get, slice_index_or, Some, true}
 use Rattle.fx_type.specs.declared.kind.FxType.{FxType}
 use Rattle.dg_model.specs.declared.diagram.Diagram.{Diagram}
@@ -17,12 +17,17 @@ use Rattle.hw_shows.specs.Timing.{Timing}
 use Rattle.hw_shows.specs.Timed.{lag_into}
 use Rattle.hw_build.specs.Places.{Places}
 use Rattle.hw_build.specs.declared.pipelines.Piped.{Piped}
-use Rattle.hw_build.specs.declared.spots.Spots.{Spots}
 use Rattle.hw_build.specs.inner.Facts.{line_count, IsElementMade, IsElementPiped}
 use Rattle.hw_build.specs.inner.Growth.{GoesOn}
 use Rattle.hw_build.specs.inner.HubPlaces.{hub_at, hub_of}
 use Rattle.hw_build.specs.inner.Piping.{IsPipedBy}
 use Rattle.hw_build.specs.inner.UnderWay.{IsUnderWay, hub_level}
+
+-- where the nets of elements stand, by the number of the net that their readers name: the element itself, the first register of its state, and what its pipeline begins with; the registers stand behind these
+pub record Spots : Type 0 where
+  pub entries : List ℕ
+  pub states : List ℕ
+  pub stages : List ℕ
 
 -- those of one more element
 abbrev pub with_spot : Spots → ℕ → ℕ → ℕ → Spots
@@ -72,13 +77,8 @@ pub record IsGoing (diagram : Diagram) (timing : Timing) (places : Places) (plac
       → places.after block port element < closed → IsElementPiped diagram timing places closed hubs now block port element
 
 -- a pipeline was put behind an element, and its end is what the net of this number passes on
-pub record IsClosedBy (diagram : Diagram) (timing : Timing) (before after : Circuit) (hub block element entry : ℕ) (piped : Piped) : Type 0 where
+pub record IsClosedBy (diagram : Diagram) (timing : Timing) (before after : Circuit) (hub block element entry : ℕ) : Type 0 where
+  pub piped : Piped
   pub middle : Circuit
   pub put : IsPipedBy diagram timing before middle block element entry piped
   pub connected : IsConnected middle after hub piped.end
-
--- so are the places of the element
-pub record PutsElement (diagram : Diagram) (timing : Timing) (before after : Circuit) (spots more : Spots) (block element entry state : ℕ) : Type 0 where
-  pub piped : Piped
-  pub closed : IsClosedBy diagram timing before after (length spots.entries) block element entry piped
-  pub kept : more ≡ with_spot spots entry state piped.begin

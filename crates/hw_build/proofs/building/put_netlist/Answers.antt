@@ -15,9 +15,6 @@ put_nets-requires-clause-can c = c.requires.can
 pub put_nets-requires-clause-hubs : goal.put_nets-requires-clause-hubs
 put_nets-requires-clause-hubs c = subst (λ (earlier : Circuit). HasHubs c.args.design.checked.now.diagram earlier c.hubs_of.new.net c.in_ok-firsts.firsts) c.requires.empty c.in_ok-firsts.ensures
 
-pub put_nets-requires-clause-inputs : goal.put_nets-requires-clause-inputs
-put_nets-requires-clause-inputs c = c.requires.inputs
-
 pub put_ports-put-requires-clause-filled : goal.put_ports-put-requires-clause-filled
 put_ports-put-requires-clause-filled c = c.in-Ok.ensures
 

@@ -1,10 +1,8 @@
 use Rattle.std.proofs.Common.{refl, ◌∙◌}
 use Rattle.std.proofs.lemmas.Result.{on_ok_weaker}
-use Rattle.dg_model.specs.Attributes.{attributes_of}
-use Rattle.dg_model.specs.RootElements.{root_inputs}
 use Rattle.hw_build.specs.inner.Building.{empty_circuit}
 use Rattle.hw_build.specs.inner.Designed.{times_for}
-use Rattle.hw_build.proofs.Assembling.{counted_blocks, words_stand, steps_begin, steps_set, steps_fill}
+use Rattle.hw_build.proofs.Assembling.{words_stand, steps_begin, steps_set, steps_fill}
 use Rattle.hw_build.proofs.Composed.{inputs_begin}
 use Rattle.hw_build.proofs.building.put_nets.Goals as goal
 
@@ -32,9 +30,6 @@ products_of-requires-clause-words c =
 
 pub put_elements-put-requires-clause-set : goal.put_elements-put-requires-clause-set
 put_elements-put-requires-clause-set c = steps_set _ (empty_circuit c.args.design.plan.now.cycles) c.args.net.now c.requires.can.designed c.requires.hubs c.in-Ok.ensures.which
-
-pub put_elements-put-requires-clause-inputs : goal.put_elements-put-requires-clause-inputs
-put_elements-put-requires-clause-inputs c = counted_blocks (root_inputs c.args.design.checked.now.diagram (attributes_of c.args.design.checked.now.diagram)) c.args.inputs.now c.requires.inputs
 
 pub put_elements-put-requires-clause-begun : goal.put_elements-put-requires-clause-begun
 put_elements-put-requires-clause-begun c =

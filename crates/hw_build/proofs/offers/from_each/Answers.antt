@@ -4,6 +4,9 @@ use Rattle.dg_tables.proofs.Lists.{map_last}
 use Rattle.hw_build.specs.inner.Operands.{offered_at}
 use Rattle.hw_build.proofs.offers.from_each.Goals as goal
 
+pub loop-input-init : goal.loop-input-init
+loop-input-init c = c.requires.none
+
 pub loop-input-preserved : goal.loop-input-preserved
 loop-input-preserved c =
     let f : ℕ → ℕ = λ input. offered_at c.args.to.setting.design.checked.now.diagram c.args.to.setting.operands.now c.args.to.place.block input c.args.to.place.element in

@@ -4,6 +4,9 @@ use Rattle.dg_waves.proofs.Waved.{numbers_more}
 use Rattle.hw_build.specs.inner.Operands.{offered_at}
 use Rattle.hw_build.proofs.offers.from_first.Goals as goal
 
+pub loop-element-init : goal.loop-element-init
+loop-element-init c = c.requires.none
+
 pub loop-element-preserved : goal.loop-element-preserved
 loop-element-preserved c =
     let f : ℕ → ℕ = offered_at c.args.to.setting.design.checked.now.diagram c.args.to.setting.operands.now c.args.to.place.block 1 in

@@ -1,8 +1,8 @@
-use Rattle.std.proofs.Common.{◌<◌, ℕ, List, length, sym, subst, arith}
+use Rattle.std.proofs.Common.{◌≡◌, ◌<◌, ◌++◌, ◌∷◌, [], ◌∙◌, ℕ, List, length, slice_index_or, ap, sym, subst, arith}
 use Rattle.hw_sched.proofs.Periods.{readable_at}
 use Rattle.hw_build.specs.inner.Offers.{Offer}
 use Rattle.hw_build.proofs.EnteringParts.{mux_inside}
-use Rattle.std.proofs.lemmas.Result.{IfOk-weaker}
+use Rattle.std.proofs.lemmas.Result.{on_ok_weaker}
 use Rattle.hw_build.proofs.offers.from_part.Goals as goal
 
 pub bounds-parts-to : goal.bounds-parts-to
@@ -22,7 +22,10 @@ returns c =
     let size = c.requires.parts.size in
     let below = inside.1 in
     let within : c.args.to.place.element < length c.args.parts.now = omega (arith, size, below) in
-    IfOk-weaker c.single.result _ _
-    (λ nets are. subst (λ (p : ℕ). Offer c.args.to.setting c.args.to.place.block c.args.to.one.now p c.args.to.place.element nets) (sym inside.0)
+    let net : ℕ = slice_index_or c.args.parts.now c.args.to.place.element 0 in
+    on_ok_weaker c.push.result
+    (λ (put : c.push.new.self ≡ c.args.nets.now ++ net ∷ []).
+    let are : c.push.new.self ≡ net ∷ [] = put ∙ ap (λ (nets : List ℕ). nets ++ net ∷ []) c.requires.none in
+    subst (λ (p : ℕ). Offer c.args.to.setting c.args.to.place.block c.args.to.one.now p c.args.to.place.element c.push.new.self) (sym inside.0)
     (subst (λ (ns : List ℕ). Offer c.args.to.setting c.args.to.place.block c.args.to.one.now 1 c.args.to.place.element ns) (sym are) (c.requires.parts.each c.args.to.place.element within)))
-    c.single.ensures
+    c.push.ensures.appended

@@ -4,7 +4,7 @@ use Rattle.dg_waves.specs.Rounds.{numbers_from}
 use Rattle.dg_model.specs.Attributes.{attributes_of}
 use Rattle.dg_model.specs.Wires.{type_into, types_into}
 use Rattle.dg_tables.proofs.Lists.{map_last}
-use Rattle.hw_build.proofs.block_inputs.types_of.Goals as goal
+use Rattle.hw_build.proofs.block_inputs.put_types.Goals as goal
 
 pub loop-input-preserved : goal.loop-input-preserved
 loop-input-preserved c =
@@ -13,7 +13,7 @@ loop-input-preserved c =
     (ap (λ (xs : List FxType). xs ++ c.type_into.result ∷ []) c.loop-input.invariant ∙ ap (λ (t : FxType). map f (numbers_from 1 c.loop-input.input) ++ t ∷ []) c.type_into.ensures ∙ sym (map_last f c.loop-input.input))
 
 pub loop-input-init : goal.loop-input-init
-loop-input-init c = c.new-types.ensures.items
+loop-input-init c = c.requires.none
 
 pub returns : goal.returns
 returns c =

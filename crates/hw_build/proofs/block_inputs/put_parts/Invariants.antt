@@ -1,5 +1,5 @@
 use Rattle.hw_build.specs.inner.Offers.{ArePartsTo}
-use Rattle.hw_build.proofs.block_inputs.parts_of.Given as goal
+use Rattle.hw_build.proofs.block_inputs.put_parts.Given as goal
 
 abbrev pub invariant-loop-input : goal.invariant-loop-input
 invariant-loop-input l = ArePartsTo l.owner.setting l.owner.block l.owner.one.now l.input 0 l.parts

@@ -3,7 +3,7 @@ use Rattle.dg_model.specs.Attributes.{attributes_of}
 use Rattle.dg_model.specs.Solves.{shown_width}
 use Rattle.dg_tables.proofs.Lists.{sum_last}
 use Rattle.hw_build.proofs.Parting.{begins_more}
-use Rattle.hw_build.proofs.block_inputs.begins_of.Goals as goal
+use Rattle.hw_build.proofs.block_inputs.put_begins.Goals as goal
 
 pub loop-port-preserved : goal.loop-port-preserved
 loop-port-preserved c =

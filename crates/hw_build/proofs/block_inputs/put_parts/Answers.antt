@@ -1,6 +1,6 @@
 use Rattle.std.proofs.Common.{◌≡◌, ◌+◌, ◌-◌, ℕ, arith, subst}
 use Rattle.hw_build.specs.inner.Offers.{ArePartsTo}
-use Rattle.hw_build.proofs.block_inputs.parts_of.Goals as goal
+use Rattle.hw_build.proofs.block_inputs.put_parts.Goals as goal
 
 pub put_part-requires-clause-kind : goal.put_part-requires-clause-kind
 put_part-requires-clause-kind c = (c.in-Mux.sizes, c.in-Mux.is)

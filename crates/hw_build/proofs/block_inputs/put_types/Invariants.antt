@@ -2,7 +2,7 @@ use Rattle.std.proofs.Common.{◌≡◌, map}
 use Rattle.dg_waves.specs.Rounds.{numbers_from}
 use Rattle.dg_model.specs.Attributes.{attributes_of}
 use Rattle.dg_model.specs.Wires.{type_into}
-use Rattle.hw_build.proofs.block_inputs.types_of.Given as goal
+use Rattle.hw_build.proofs.block_inputs.put_types.Given as goal
 
 abbrev pub invariant-loop-input : goal.invariant-loop-input
 invariant-loop-input l = l.types.items ≡ map (type_into l.checked.diagram (attributes_of l.checked.diagram) l.block) (numbers_from 1 l.input)

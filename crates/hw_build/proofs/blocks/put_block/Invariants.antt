@@ -1,5 +1,0 @@
-use Rattle.hw_build.specs.inner.Looping.{Reaches, port_start}
-use Rattle.hw_build.proofs.blocks.put_block.Given as goal
-
-abbrev pub invariant-loop-port : goal.invariant-loop-port
-invariant-loop-port l = Reaches l.owner.setting l.net l.spots (port_start l.owner.setting.design.checked.now.diagram l.owner.block l.owner.one.now l.port)

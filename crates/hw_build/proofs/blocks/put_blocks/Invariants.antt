@@ -1,6 +1,0 @@
-use Rattle.hw_build.specs.inner.HubPlaces.{hub_start}
-use Rattle.hw_build.specs.inner.Looping.{Reaches}
-use Rattle.hw_build.proofs.blocks.put_blocks.Given as goal
-
-abbrev pub invariant-loop-block : goal.invariant-loop-block
-invariant-loop-block l = Reaches l.setting l.net l.spots (hub_start l.setting.design.checked.now.diagram l.block)
