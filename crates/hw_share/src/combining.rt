@@ -20,10 +20,7 @@ pub fn combine(
     ensures grown { OnOk result (net.new ≡ with_net net.old
         (record { signed = signed; width = width; kind = Comb op reads.now })) }
 {
-    let mut args = Sizes::new(alloc);
-    for read in reads {
-        args.push(*read)?;
-    }
+    let args = Sizes::from_vec(Vec::from_slice(alloc, reads)?);
     net.add(Net {
         signed,
         width,

@@ -12,7 +12,6 @@ use crate::operation::Operation;
 use fx_io::OutOfMemory;
 use hw_net::Netlist;
 use std::alloc::Global;
-use std::collections::BTreeMap;
 
 /// The nets that a multiplier multiplies.
 #[derive(Clone, Copy)]
@@ -31,11 +30,11 @@ fn join(
 ) -> Result<Ends, OutOfMemory>
     requires can { (old : Ends) → known ≡ Some old → CanJoin net.old old one }
     requires tests { (before : Circuit) × Extends before net.old
-        × AreTests before net.old moments.old.list.items }
+        × AreTests before net.old moments.old.entries }
     ensures { IfOk result (λ end. (before : Circuit) → Extends before net.old
-        → AreTests before net.old moments.old.list.items
+        → AreTests before net.old moments.old.entries
         → IsJoined before net.old net.new known one end
-        × AreTests before net.new moments.new.list.items) }
+        × AreTests before net.new moments.new.entries) }
 {
     let Some(ends) = known else {
         return Ok(Ends {
@@ -77,10 +76,7 @@ pub fn ends_of(
 {
     let count = count_of(operations)?;
     let mut ends = vec![in alloc; None; count as usize]?;
-    let mut moments = Moments {
-        list: Vec::new(alloc),
-        places: BTreeMap::new(alloc),
-    };
+    let mut moments = Moments::new(alloc);
     for one in operations {
         let unit = one.unit as usize;
         let own = join(alloc, net, &mut moments, ends[unit], *one)?;

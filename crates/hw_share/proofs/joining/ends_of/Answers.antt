@@ -33,10 +33,9 @@ join-requires-clause-tests c = (c.args.net.now, c.loop-one.invariant.0.grown.app
 
 pub loop-one-init : goal.loop-one-init
 loop-one-init c =
-    let items : c.in_ok-ends.ends.items ≡ replicate c.in_ok-count.count None = search rules in
-    let none : c.new.result.items ≡ [] = search rules in (
+    let items : c.in_ok-ends.ends.items ≡ replicate c.in_ok-count.count None = search rules in (
       ends-begun c.args.net.now c.args.operations.now c.in_ok-ends.ends.items c.in_ok-count.count items c.in_ok-count.ensures (ap length items ∙ length-of-none c.in_ok-count.count),
-      subst (AreTests c.args.net.now c.args.net.now) (sym none) (no-tests c.args.net.now c.args.net.now),
+      subst (AreTests c.args.net.now c.args.net.now) (sym c.new-moments.ensures.empty) (no-tests c.args.net.now c.args.net.now),
     )
 
 pub loop-one-preserved : goal.loop-one-preserved

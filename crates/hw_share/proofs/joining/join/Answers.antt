@@ -40,5 +40,5 @@ returns c = λ before grew tests.
     let has = has-joined before c.args.net.now c.test_for.new.net c.choose.new.net c.choose-2.new.net c.in-Some.ends c.args.one c.in_ok-test.test c.in_ok-left.left c.in_ok-right.right can grew
     (is.test tests) c.in_ok-test.ensures.grown c.in_ok-left.ensures.chosen c.in_ok-left.ensures.grown c.in_ok-right.ensures.chosen c.in_ok-right.ensures.grown in (
       joined-part before c.args.net.now c.choose-2.new.net c.args.known c.in-Some.ends c.args.one (record { left = c.in_ok-left.left; right = c.in_ok-right.right }) c.in-Some.is has,
-      tests-later before c.test_for.new.net c.choose-2.new.net c.test_for.new.moments.list.items more (is.tests tests),
+      tests-later before c.test_for.new.net c.choose-2.new.net c.test_for.new.moments.entries more (is.tests tests),
     )
