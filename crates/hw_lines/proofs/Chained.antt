@@ -1,19 +1,19 @@
 -- One use after another. Crates above may cite this file.
 use Rattle.std.proofs.Common.{◌≡◌, ℕ, zero, suc, ◌+◌, ◌-◌, ◌*◌, ◌/◌, ◌<◌, ◌≤◌, ◌||◌, inl, inr, List, [], ◌∷◌, ◌++◌, take, drop, length, All, Contains, Option, None, Some, is_some, slice_get, slice_index_or, Bool, true, false, if◌then◌else◌, ap, sym, ◌∙◌, subst, arith, refl, length-append, mul-le-mul_right}
 use Rattle.std.proofs.Math.Seq.{take-suc, drop-cons}
-use Rattle.std.proofs.lemmas.Option.{slice_get_within, slice_get-get_or, get_or_from_slice_get}
+use Rattle.std.proofs.lemmas.Option.{none-some, same_Some, slice_get_within, slice_get-get_or, get_or_from_slice_get}
 use Rattle.hw_net.specs.declared.netlist.Frame.{Frame}
 use Rattle.hw_net.specs.Circuit.{Circuit}
 use Rattle.hw_net.specs.ByFrame.{is_same_frame, number_at_frame}
 use Rattle.hw_net.specs.Frames.{register_count}
 use Rattle.hw_net.proofs.Index.{same-is}
-use Rattle.hw_net.proofs.Growing.{split-last}
+use Rattle.hw_net.proofs.Growing.{extends-self, split-last}
 use Rattle.hw_lines.specs.declared.source.Source.{Source}
 use Rattle.hw_lines.specs.declared.source.Use.{Use}
 use Rattle.hw_lines.specs.Chain.{IsSource, IsAnswer, AreAnswers, IsChained, IsCountedIn, reader_of, is_among, different_after, different, most_frames}
 use Rattle.hw_lines.specs.Register.{CanHold, Grows}
 use Rattle.hw_lines.specs.inner.Parts.{AreTaps}
-use Rattle.hw_lines.specs.inner.Ends.{IsEndFor, IsDone, frames_of}
+use Rattle.hw_lines.specs.inner.Ends.{IsEnd, Ends, IsEndFor, PutsEnd, IsDone, frames_of}
 use Rattle.hw_lines.proofs.Steps.{tap-can-hold, taps-stay, answer-stays, grows-wider}
 use Rattle.fx_io.proofs.Places.{there_map}
 
@@ -28,6 +28,34 @@ among-more frame (other ∷ frames) one = by (is_same_frame other frame) (among-
     by : (is : Bool) → is_among frame (frames ++ one ∷ []) ≡ (is_among frame frames || is_same_frame one frame) → (is || is_among frame (frames ++ one ∷ [])) ≡ ((is || is_among frame frames) || is_same_frame one frame)
     by true rest = refl
     by false rest = rest
+
+-- ---- the end of a use
+
+-- a frame that has an end has it however it is asked
+known-put : (entries : List (Frame × ℕ)) (reader other : Frame) (number : ℕ) (is : Bool) → is_same_frame reader other ≡ is → number_at_frame entries reader ≡ Some number
+    → number_at_frame entries other ≡ (if is then Some number else number_at_frame entries other)
+known-put entries reader other number true same known = ap (number_at_frame entries) (sym (same-is reader other same)) ∙ known
+known-put entries reader other number false same known = refl
+
+pub known-end : (now : Circuit) (source : Source) (taps : List ℕ) (entries : List (Frame × ℕ)) (answers answered : List ℕ) (one : Use) (number : ℕ) → number_at_frame entries (reader_of source one) ≡ Some number
+    → answered ≡ answers ++ number ∷ [] → PutsEnd now now source taps entries entries answers answered one
+known-end now source taps entries answers answered one number known put = record {
+  number = number;
+  end = record {
+    extends = extends-self now;
+    stood = λ k is. (same_Some number k (sym known ∙ is), refl);
+    made = λ none. absurd (none-some number (sym none ∙ known));
+  };
+  put = λ other. known-put entries (reader_of source one) other number (is_same_frame (reader_of source one) other) refl known;
+  answers_are = put;
+}
+
+pub new-end : (now new : Circuit) (source : Source) (taps : List ℕ) (known : Option ℕ) (one : Use) (number : ℕ) → known ≡ None → IsEnd now new source taps one number → Ends now new source taps one → IsEndFor now new source taps known one number
+new-end now new source taps known one number none end ends = record {
+  extends = ends.extends;
+  stood = λ k is. absurd (none-some k (sym none ∙ is));
+  made = λ same. (end, ends);
+}
 
 pub most-of : (period : ℕ) (uses : List Use) (i : ℕ) (one : Use) → slice_get uses i ≡ Some one → one.shift / period ≤ most_frames period uses
 most-of period [] i one e = absurd (let f : None ≡ Some one = e in cc)

@@ -1,7 +1,7 @@
 //! The end of a line behind a tap: the tap itself, a register or a bridge.
 ghost use Rattle.std.specs.Prelude.{◌≡◌, ◌+◌, ◌<◌, ◌^◌, IfOk, OnOk};
 ghost use Rattle.hw_lines.specs.Chain.{reader_of};
-ghost use Rattle.hw_lines.specs.inner.Ends.{CanEnd, IsEnd, IsEndFor, Ends};
+ghost use Rattle.hw_lines.specs.inner.Ends.{CanEnd, IsEnd, Ends};
 
 use crate::laws::{bridge_meets, phase_register_meets, tap_holds, tap_meets};
 use crate::registers::{bridge_at, register_at};
@@ -23,7 +23,7 @@ pub fn reader_of(source: Source, one: Use) -> Frame
 /// The end of a line. Where the shift is of whole periods it is the tap, if the line is registered or
 /// its reader has the period of the source. Else it is a register behind the tap with a slot of its
 /// own, or for a plain line a bridge.
-fn end_of(net: &mut Netlist, source: Source, taps: &[u32], one: Use) -> Result<u32, OutOfMemory>
+pub fn end_of(net: &mut Netlist, source: Source, taps: &[u32], one: Use) -> Result<u32, OutOfMemory>
     requires { CanEnd net.old source taps.now one }
     ensures end { IfOk result (λ number. IsEnd net.old net.new source taps.now one number) }
     ensures ends { OnOk result (Ends net.old net.new source taps.now one) }
@@ -47,21 +47,4 @@ fn end_of(net: &mut Netlist, source: Source, taps: &[u32], one: Use) -> Result<u
     }
     let reader = reader_of(source, one);
     bridge_at(net, tap, reader, source.frame.period - rest)
-}
-
-/// The end of a line, which may be known.
-pub fn end_for(
-    net: &mut Netlist,
-    source: Source,
-    taps: &[u32],
-    known: Option<u32>,
-    one: Use,
-) -> Result<u32, OutOfMemory>
-    requires { CanEnd net.old source taps.now one }
-    ensures { IfOk result (λ number. IsEndFor net.old net.new source taps.now known one number) }
-{
-    match known {
-        Some(number) => Ok(number),
-        None => end_of(net, source, taps, one),
-    }
 }

@@ -1,38 +1,37 @@
 //! One chain of registers for all uses of a source.
 ghost use Rattle.std.specs.Prelude.{◌*◌, ◌<◌, ◌≤◌, ◌∷◌, [], All};
-ghost use Rattle.std.specs.Prelude.{IfOk, OnOk, ◌≡◌, Some, if◌then◌else◌};
-ghost use Rattle.hw_net.specs.declared.netlist.Frame.{Frame};
-ghost use Rattle.hw_net.specs.ByFrame.{is_same_frame, number_at_frame};
+ghost use Rattle.std.specs.Prelude.{IfOk, OnOk};
 ghost use Rattle.hw_lines.specs.Chain.{IsSource, IsUse, AreAnswers, IsChained, IsAnswer, source_of};
 ghost use Rattle.hw_lines.specs.Chain.{reader_of};
-ghost use Rattle.hw_lines.specs.inner.Ends.{CanEnd, IsEndFor};
+ghost use Rattle.hw_lines.specs.inner.Ends.{CanEnd, PutsEnd};
 
-use crate::ends::{end_for, reader_of};
+use crate::ends::{end_of, reader_of};
 use crate::source::{Source, Use};
 use crate::source_taps::{most_frames, taps_of};
 use fx_io::{OutOfMemory, Sizes};
 use hw_net::{Frame, FrameIndex, Netlist};
 use std::alloc::Global;
 
-/// The end of a line, by which later lines that are seen in its frame end too.
+/// Answers a use by the end of its line, by which later lines that are seen in its frame end too.
 fn end_at(
     net: &mut Netlist,
     source: Source,
     taps: &[u32],
     ends: &mut FrameIndex,
+    answers: &mut Sizes,
     one: Use,
-) -> Result<u32, OutOfMemory>
+) -> Result<(), OutOfMemory>
     requires { CanEnd net.old source taps.now one }
-    ensures end { IfOk result (λ number. IsEndFor net.old net.new source taps.now
-        (number_at_frame ends.old (reader_of source one)) one number) }
-    ensures put { IfOk result (λ number. (other : Frame) → number_at_frame ends.new other
-        ≡ (if is_same_frame (reader_of source one) other then Some number
-        else number_at_frame ends.old other)) }
+    ensures { OnOk result (PutsEnd net.old net.new source taps.now ends.old ends.new answers.old
+        answers.new one) }
 {
     let reader = reader_of(source, one);
-    let number = end_for(net, source, taps, ends.find(reader), one)?;
+    if let Some(number) = ends.find(reader) {
+        return answers.push(number);
+    }
+    let number = end_of(net, source, taps, one)?;
     ends.put(reader, number)?;
-    Ok(number)
+    answers.push(number)
 }
 
 /// The chain of a source: one register for each of its frames up to the last that is used, and
@@ -56,8 +55,7 @@ fn put_chain(
     let mut ends = FrameIndex::new(alloc);
     let mut answers = Sizes::new(alloc);
     for one in uses {
-        let number = end_at(net, source, taps, &mut ends, *one)?;
-        answers.push(number)?;
+        end_at(net, source, taps, &mut ends, &mut answers, *one)?;
     }
     Ok(answers)
 }

@@ -1,9 +1,10 @@
 -- The end of a line, behind a tap.
 use Rattle.std.specs.Prelude.{◌≡◌, ℕ, ◌+◌, ◌*◌, ◌/◌, ◌<◌, ◌≤◌, ◌^◌, List, map, take, drop, length}
 use Rattle.std.specs.Prelude.{All, Contains, slice_get, Option, None, Some, is_some, false}
+use Rattle.std.specs.Prelude.{◌++◌, ◌∷◌, [], if◌then◌else◌}
 use Rattle.hw_net.specs.declared.netlist.Frame.{Frame}
 use Rattle.hw_net.specs.Circuit.{Circuit}
-use Rattle.hw_net.specs.ByFrame.{number_at_frame}
+use Rattle.hw_net.specs.ByFrame.{is_same_frame, number_at_frame}
 use Rattle.hw_net.specs.Frames.{register_count}
 use Rattle.hw_net.specs.Growing.{Extends}
 use Rattle.hw_lines.specs.declared.source.Source.{Source}
@@ -49,6 +50,16 @@ pub record IsEndFor (now new : Circuit) (source : Source) (taps : List ℕ) (kno
   pub extends : Extends now new
   pub stood : (k : ℕ) → known ≡ Some k → (number ≡ k) × (new ≡ now)
   pub made : known ≡ None → IsEnd now new source taps one number × Ends now new source taps one
+
+-- it was put behind the answers, and into the index of ends by frame
+pub record PutsEnd (now new : Circuit) (source : Source) (taps : List ℕ)
+    (old more : List (Frame × ℕ)) (answers answered : List ℕ) (one : Use) : Type 0 where
+  pub number : ℕ
+  pub end : IsEndFor now new source taps (number_at_frame old (reader_of source one)) one number
+  pub put : (other : Frame) → number_at_frame more other
+      ≡ (if is_same_frame (reader_of source one) other then Some number
+      else number_at_frame old other)
+  pub answers_are : answered ≡ answers ++ number ∷ []
 
 abbrev pub frames_of : Source → List Use → List Frame
 frames_of source uses = map (reader_of source) uses

@@ -37,8 +37,9 @@ loop-one-preserved c =
     let one : Use = slice_index_or uses i (record { shift = 0; period = 0 }) in
     let at : slice_get uses i ≡ Some one = slice_get-get_or uses i (record { shift = 0; period = 0 }) c.loop-one-test.true in
     let bound : ℕ = register_count c.args.net.now.nets + most_frames source.frame.period uses + different (frames_of source uses) in
-    rw c.in_ok-push.ensures.appended
-    (done-more c.args.net.now c.loop-one.net c.end_at.new.net source uses bound c.as_slice-taps.result.now c.loop-one.ends c.end_at.new.ends c.loop-one.answers i c.in_ok-number.number one c.loop-one.invariant at c.in_ok-number.ensures.end c.in_ok-number.ensures.put)
+    let put = c.in_ok-end_at.ensures in
+    rw put.answers_are
+    (done-more c.args.net.now c.loop-one.net c.end_at.new.net source uses bound c.as_slice-taps.result.now c.loop-one.ends c.end_at.new.ends c.loop-one.answers i put.number one c.loop-one.invariant at put.end put.put)
 
 pub loop-one-init : goal.loop-one-init
 loop-one-init c =
