@@ -2,8 +2,7 @@
 ghost use Rattle.std.specs.Prelude.{◌≡◌, ◌≤◌, [], ◌∷◌, ◌++◌, IfOk, IsTrue, OnOk, length, map, slice_index_or, take};
 ghost use Rattle.std.specs.Fmt.{signed_decimal};
 ghost use Rattle.std.specs.List.{flat_map};
-ghost use Rattle.dg_model.specs.declared.fault.Shown.TheVariants.{Budget, Latency};
-ghost use Rattle.fx_model.specs.inner.Pieces.{piece_text};
+ghost use Rattle.fx_model.specs.inner.Values.{value_text};
 ghost use Rattle.fx_model.specs.RuleLine.{cycle_text, period_text, place_text, quoted_byte, quoted_path, rule_line, shown_text};
 
 use dg_model::{Block, Path, RuleFault, Shown};
@@ -18,18 +17,10 @@ pub fn rule_text(alloc: Global, fault: &RuleFault, blocks: &[Block]) -> Result<T
         (λ block. block.path) blocks.now) fault.now) }
 {
     let mut line = Vec::new(alloc);
-    push_pieces(
-        &mut line,
-        &[
-            Piece::Bytes(b"rule "),
-            Piece::Number(u64::from(fault.rule.number())),
-            Piece::Bytes(b" ("),
-            Piece::Bytes(fault.rule.word()),
-            Piece::Bytes(b"): "),
-        ],
-        blocks,
-    )?;
-    push_place(&mut line, fault.place.bytes())?;
+    let number = Value::Number(u64::from(fault.rule.number()));
+    push_value(&mut line, b"rule ", number, blocks)?;
+    push_value(&mut line, b" (", Value::Bytes(fault.rule.word()), blocks)?;
+    push_value(&mut line, b"): ", Value::Place(fault.place.bytes()), blocks)?;
     push_shown(&mut line, &fault.shown, blocks)?;
     push(&mut line, b"\n")?;
     Text::from_vec(alloc, line)
@@ -65,7 +56,8 @@ fn push_escaped(line: &mut Vec<u8>, path: &[u8]) -> Result<(), OutOfMemory>
     ensures { OnOk result (line.new.items ≡ line.old.items ++ flat_map quoted_byte path.now) }
 {
     for byte in path {
-        push_byte(line, *byte)?;
+        let (bytes, count) = quoted_byte(*byte);
+        push(line, &bytes[..count])?;
     }
     Ok(())
 }
@@ -109,14 +101,6 @@ pub fn quoted_byte(byte: u8) -> ([u8; 4], usize)
         }
         _ => ([byte, 0, 0, 0], 1),
     }
-}
-
-/// Adds a byte of a name as it stands between quotes.
-fn push_byte(line: &mut Vec<u8>, byte: u8) -> Result<(), OutOfMemory>
-    ensures { OnOk result (line.new.items ≡ line.old.items ++ quoted_byte byte) }
-{
-    let (bytes, count) = quoted_byte(byte);
-    push(line, &bytes[..count])
 }
 
 /// Adds the place of a broken rule.
@@ -171,98 +155,43 @@ pub fn push_shown(line: &mut Vec<u8>, shown: &Shown, blocks: &[Block]) -> Result
 {
     match shown {
         Shown::Nothing => Ok(()),
-        Shown::Word(word) => push_pieces(
-            line,
-            &[Piece::Bytes(b": "), Piece::Escaped(word.bytes())],
-            blocks,
-        ),
-        Shown::Periods { own, other } => push_pieces(
-            line,
-            &[
-                Piece::Bytes(b": periods "),
-                Piece::Period(*own),
-                Piece::Bytes(b" "),
-                Piece::Period(*other),
-            ],
-            blocks,
-        ),
-        Shown::Cycle { blocks: numbers } => push_pieces(
-            line,
-            &[Piece::Bytes(b": cycle"), Piece::Cycle(numbers.as_slice())],
-            blocks,
-        ),
+        Shown::Word(word) => push_value(line, b": ", Value::Escaped(word.bytes()), blocks),
+        Shown::Periods { own, other } => {
+            push_value(line, b": periods ", Value::Period(*own), blocks)?;
+            push_value(line, b" ", Value::Period(*other), blocks)
+        }
+        Shown::Cycle { blocks: numbers } => {
+            push_value(line, b": cycle", Value::Cycle(numbers.as_slice()), blocks)
+        }
         Shown::Latency {
             blocks: numbers,
             total,
-        } => push_latency(line, numbers.as_slice(), *total, blocks),
-        Shown::Budget { period, need, have } => push_budget(line, *period, *need, *have, blocks),
-        Shown::Size { storage, latency } => push_pieces(
-            line,
-            &[
-                Piece::Bytes(b": storage "),
-                Piece::Number(*storage),
-                Piece::Bytes(b" latency "),
-                Piece::Number(*latency),
-            ],
-            blocks,
-        ),
+        } => {
+            push_value(line, b": total ", Value::Signed(*total), blocks)?;
+            push_value(line, b" cycle", Value::Cycle(numbers.as_slice()), blocks)
+        }
+        Shown::Budget { period, need, have } => {
+            let period = u64::from(*period);
+            push_value(line, b": period ", Value::Number(period), blocks)?;
+            push_value(line, b" need ", Value::Number(*need), blocks)?;
+            push_value(line, b" have ", Value::Number(*have), blocks)
+        }
+        Shown::Size { storage, latency } => {
+            push_value(line, b": storage ", Value::Number(*storage), blocks)?;
+            push_value(line, b" latency ", Value::Number(*latency), blocks)
+        }
     }
 }
 
-/// Adds by how many samples the latencies along a cycle of blocks gain, and the blocks.
-fn push_latency(
-    line: &mut Vec<u8>,
-    numbers: &[u32],
-    total: i64,
-    blocks: &[Block],
-) -> Result<(), OutOfMemory>
-    ensures { OnOk result (line.new.items ≡ line.old.items
-        ++ shown_text (map (λ block. block.path) blocks.now) (Latency numbers.now total)) }
-{
-    push_pieces(
-        line,
-        &[
-            Piece::Bytes(b": total "),
-            Piece::Signed(total),
-            Piece::Bytes(b" cycle"),
-            Piece::Cycle(numbers),
-        ],
-        blocks,
-    )
-}
-
-/// Adds the slots that the operations of a period need, and those that they have.
-fn push_budget(
-    line: &mut Vec<u8>,
-    period: u32,
-    need: u64,
-    have: u64,
-    blocks: &[Block],
-) -> Result<(), OutOfMemory>
-    ensures { OnOk result (line.new.items ≡ line.old.items
-        ++ shown_text (map (λ block. block.path) blocks.now) (Budget period need have)) }
-{
-    push_pieces(
-        line,
-        &[
-            Piece::Bytes(b": period "),
-            Piece::Number(u64::from(period)),
-            Piece::Bytes(b" need "),
-            Piece::Number(need),
-            Piece::Bytes(b" have "),
-            Piece::Number(have),
-        ],
-        blocks,
-    )
-}
-
-/// A piece of a line.
+/// What stands behind a word of a line.
 #[derive(Clone, Copy)]
-pub enum Piece<'a> {
+pub enum Value<'a> {
     /// Bytes as they are.
     Bytes(&'a [u8]),
     /// Bytes of a name as they stand between quotes.
     Escaped(&'a [u8]),
+    /// The place of a broken rule.
+    Place(&'a [u8]),
     /// A number in decimal.
     Number(u64),
     /// A number in decimal, with a minus where it is below 0.
@@ -273,32 +202,24 @@ pub enum Piece<'a> {
     Cycle(&'a [u32]),
 }
 
-/// Adds pieces, one after another.
-fn push_pieces(
+/// Adds a word and what stands behind it.
+fn push_value(
     line: &mut Vec<u8>,
-    pieces: &[Piece<'_>],
+    word: &[u8],
+    value: Value<'_>,
     blocks: &[Block],
 ) -> Result<(), OutOfMemory>
     ensures { OnOk result (line.new.items ≡ line.old.items
-        ++ flat_map (piece_text (map (λ block. block.path) blocks.now)) pieces.now) }
+        ++ (word.now ++ value_text (map (λ block. block.path) blocks.now) value.entry)) }
 {
-    for piece in pieces {
-        push_piece(line, *piece, blocks)?;
-    }
-    Ok(())
-}
-
-/// Adds a piece.
-fn push_piece(line: &mut Vec<u8>, piece: Piece<'_>, blocks: &[Block]) -> Result<(), OutOfMemory>
-    ensures { OnOk result (line.new.items
-        ≡ line.old.items ++ piece_text (map (λ block. block.path) blocks.now) piece.entry) }
-{
-    match piece {
-        Piece::Bytes(bytes) => push(line, bytes),
-        Piece::Escaped(bytes) => push_escaped(line, bytes),
-        Piece::Number(number) => push_number(line, number),
-        Piece::Signed(number) => push_signed(line, number),
-        Piece::Period(period) => push_period(line, period),
-        Piece::Cycle(numbers) => push_cycle(line, numbers, blocks),
+    push(line, word)?;
+    match value {
+        Value::Bytes(bytes) => push(line, bytes),
+        Value::Escaped(bytes) => push_escaped(line, bytes),
+        Value::Place(path) => push_place(line, path),
+        Value::Number(number) => push_number(line, number),
+        Value::Signed(number) => push_signed(line, number),
+        Value::Period(period) => push_period(line, period),
+        Value::Cycle(numbers) => push_cycle(line, numbers, blocks),
     }
 }

@@ -9,7 +9,7 @@ loop-byte-preserved c =
     let path = c.args.path.now in
     let i = c.loop-byte.byte-index in
     let before = c.args.line.now.items in
-    c.in_ok-push_byte.ensures ∙ ap (λ (front : List ℕ). front ++ quoted_byte (get_or path i 0)) c.loop-byte.invariant
+    c.in_ok-push.ensures ∙ ap (λ (said : List ℕ). c.loop-byte.line.items ++ said) c.quoted_byte-count.ensures.is ∙ ap (λ (front : List ℕ). front ++ quoted_byte (get_or path i 0)) c.loop-byte.invariant
     ∙ flat_map_more quoted_byte before (take i path) (get_or path i 0)
     ∙ ap (λ (done : List ℕ). before ++ flat_map quoted_byte done) (sym (take_more path i 0 c.loop-byte-test.true))
 
