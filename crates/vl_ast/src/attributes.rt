@@ -1,5 +1,5 @@
 //! The numbers that a module and its ports carry as attributes.
-ghost use Rattle.std.specs.Prelude.{◌≡◌, ◌≤◌, ◌<◌, bytes_eq, find, option_map};
+ghost use Rattle.std.specs.Prelude.{◌≡◌, ◌≤◌, ◌<◌};
 ghost use Rattle.vl_ast.specs.Attributes.{attribute, cycles_of, latency_of, period_of};
 ghost use Rattle.vl_ast.specs.Attributes.{clocks_of, lateness_of, step_of};
 
@@ -14,32 +14,20 @@ const MOST_PERIOD: u64 = 4096;
 /// The greatest latency of an output, in clocks (own).
 const MOST_LATENCY: u64 = 16_777_216;
 
-fn find<'a>(attrs: &'a [Attr], name: &[u8]) -> Option<&'a Attr>
-    ensures { option_map (λ attr. attr.now) result
-        ≡ find (λ attr. bytes_eq attr.name name.now) attrs.now }
-{
-    for attr in attrs {
-        if attr.name.bytes() == name {
-            return Some(attr);
-        }
-    }
-    None
-}
-
 /// The number of the first attribute of a name. `None` where there is none or it is out of the range.
 fn attribute(attrs: &[Attr], name: &[u8], low: u64, high: u64) -> Option<u64>
     ensures { result ≡ attribute attrs.now name.now low high }
 {
-    let Some(attr) = find(attrs, name) else {
-        return None;
-    };
-    if attr.value < low {
-        return None;
+    for attr in attrs {
+        if attr.name.bytes() == name {
+            return if low <= attr.value && attr.value <= high {
+                Some(attr.value)
+            } else {
+                None
+            };
+        }
     }
-    if attr.value > high {
-        return None;
-    }
-    Some(attr.value)
+    None
 }
 
 /// How many clocks a base sample of the module takes (own).

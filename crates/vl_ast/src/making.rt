@@ -15,6 +15,14 @@ use std::alloc::Global;
 /// What is made of parts, where no memory was wanting.
 pub type Made<T> = Result<T, OutOfMemory>;
 
+/// Both of two parts, where no memory was wanting for either.
+fn both<A: Drop, B: Drop>(one: Made<A>, other: Made<B>) -> Made<(A, B)>
+    ensures { (first : A) (second : B) → IfOk one (λ made. made ≡ first)
+        → IfOk other (λ made. made ≡ second) → IfOk result (λ pair. pair ≡ (first, second)) }
+{
+    Ok((one?, other?))
+}
+
 /// An expression in its box. The only error is want of memory.
 pub fn in_box(alloc: Global, made: Made<Expr>) -> Made<Boxed<Expr>>
     ensures { (is : Expr) → IfOk made (λ e. e ≡ is) → IfOk result (λ e. e ≡ is) }
@@ -27,7 +35,8 @@ pub fn binary(op: BinOp, left: Made<Boxed<Expr>>, right: Made<Boxed<Expr>>) -> M
     ensures { (one other : Expr) → IfOk left (λ e. e ≡ one) → IfOk right (λ e. e ≡ other)
         → IfOk result (λ e. e ≡ Binary op one other) }
 {
-    Ok(Expr::Binary(op, left?, right?))
+    let (left, right) = both(left, right)?;
+    Ok(Expr::Binary(op, left, right))
 }
 
 /// `test ? chosen : other`. The only error is want of memory.
@@ -40,7 +49,8 @@ pub fn choose(
         → IfOk chosen (λ e. e ≡ second) → IfOk other (λ e. e ≡ third)
         → IfOk result (λ e. e ≡ Choose first second third) }
 {
-    Ok(Expr::Choose(test?, chosen?, other?))
+    let ((test, chosen), other) = both(both(test, chosen), other)?;
+    Ok(Expr::Choose(test, chosen, other))
 }
 
 /// The declaration of a register, or else of a wire.
@@ -86,20 +96,8 @@ pub fn assignment(name: Made<Text>, value: Made<Expr>) -> Made<ModItem>
     ensures { (text : List ℕ) (shown : Expr) → IfOk name (λ made. made ≡ text)
         → IfOk value (λ made. made ≡ shown) → IfOk result (λ item. item ≡ Assign text shown) }
 {
-    let name = match name {
-        Ok(name) => name,
-        Err(wanting) => {
-            drop(value);
-            return Err(wanting);
-        }
-    };
-    match value {
-        Ok(value) => Ok(ModItem::Assign { name, value }),
-        Err(wanting) => {
-            drop(name);
-            Err(wanting)
-        }
-    }
+    let (name, value) = both(name, value)?;
+    Ok(ModItem::Assign { name, value })
 }
 
 /// What a register takes, and on which condition, if there is one. The only error is want of memory.
@@ -114,35 +112,13 @@ pub fn clocked_item(
         → IfOk condition (λ made. made ≡ test) → IfOk value (λ made. made ≡ taken)
         → IfOk result (λ item. item ≡ Always text number test taken) }
 {
-    let name = match name {
-        Ok(name) => name,
-        Err(wanting) => {
-            drop(condition);
-            drop(value);
-            return Err(wanting);
-        }
-    };
-    let condition = match condition {
-        Ok(condition) => condition,
-        Err(wanting) => {
-            drop(name);
-            drop(value);
-            return Err(wanting);
-        }
-    };
-    match value {
-        Ok(value) => Ok(ModItem::Always {
-            name,
-            first,
-            condition,
-            value,
-        }),
-        Err(wanting) => {
-            drop(name);
-            drop(condition);
-            Err(wanting)
-        }
-    }
+    let ((name, condition), value) = both(both(name, condition), value)?;
+    Ok(ModItem::Always {
+        name,
+        first,
+        condition,
+        value,
+    })
 }
 
 fn some_condition(condition: Made<Expr>) -> Made<Option<Expr>>

@@ -4,9 +4,9 @@ ghost use Rattle.vl_ast.specs.Operators.{unary_text, binary_text, shift_text, un
 
 use crate::expressions::{BinOp, ShiftOp, UnOp};
 
-const UNARY: [UnOp; 3] = [UnOp::Negate, UnOp::Invert, UnOp::IsZero];
+const UNARY: &[UnOp] = &[UnOp::Negate, UnOp::Invert, UnOp::IsZero];
 
-const BINARY: [BinOp; 14] = [
+const BINARY: &[BinOp] = &[
     BinOp::Add,
     BinOp::Subtract,
     BinOp::Multiply,
@@ -23,7 +23,7 @@ const BINARY: [BinOp; 14] = [
     BinOp::Either,
 ];
 
-const SHIFTS: [ShiftOp; 3] = [ShiftOp::Left, ShiftOp::Right, ShiftOp::RightSigned];
+const SHIFTS: &[ShiftOp] = &[ShiftOp::Left, ShiftOp::Right, ShiftOp::RightSigned];
 
 impl UnOp {
     /// How the operator is written (IEEE 1364-2005, 5.1).
@@ -41,7 +41,7 @@ impl UnOp {
     pub fn of_text(text: &[u8]) -> Option<UnOp>
         ensures { result ≡ unary_of text.now }
     {
-        let ops: &[UnOp] = &UNARY;
+        let ops = UNARY;
         for op in ops {
             if text == op.text() {
                 return Some(*op);
@@ -79,7 +79,7 @@ impl BinOp {
     pub fn of_text(text: &[u8]) -> Option<BinOp>
         ensures { result ≡ infix_of text.now }
     {
-        let ops: &[BinOp] = &BINARY;
+        let ops = BINARY;
         for op in ops {
             if text == op.text() {
                 return Some(*op);
@@ -105,7 +105,7 @@ impl ShiftOp {
     pub fn of_text(text: &[u8]) -> Option<ShiftOp>
         ensures { result ≡ shift_of text.now }
     {
-        let ops: &[ShiftOp] = &SHIFTS;
+        let ops = SHIFTS;
         for op in ops {
             if text == op.text() {
                 return Some(*op);

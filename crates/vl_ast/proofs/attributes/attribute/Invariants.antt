@@ -1,6 +1,6 @@
 use Rattle.std.proofs.Common.{◌≡◌, bytes_eq, drop, find}
 use Rattle.vl_ast.specs.declared.modules.Attr.{Attr}
-use Rattle.vl_ast.proofs.attributes.find.Given as goal
+use Rattle.vl_ast.proofs.attributes.attribute.Given as goal
 
 abbrev pub invariant-loop-attr : goal.invariant-loop-attr
 invariant-loop-attr l =
