@@ -70,10 +70,10 @@ pub fn gather(alloc: Global, checked: &Checked, planned: &Planned) -> Result<Gat
 {
     checked.keeps_rules();
     dg_model::root_elements_are_listed();
-    let names = port_names(alloc, checked)?;
+    let room = vec![in alloc; 0u32; checked.diagram().blocks.as_slice().len()]?;
     let outputs = output_blocks(alloc, checked)?;
     let clocks = clocks_of_all(alloc, checked, planned, outputs.as_slice())?;
-    let room = vec![in alloc; 0u32; checked.diagram().blocks.as_slice().len()]?;
+    let names = port_names(alloc, checked)?;
     Ok(Gathered {
         names,
         outputs,

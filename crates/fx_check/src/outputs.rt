@@ -1,7 +1,7 @@
 //! The lines of root outputs.
 ghost use Rattle.std.specs.Prelude.{◌≡◌, ◌<◌, All, length, map};
 ghost use Rattle.hw_rules.specs.Times.{AreTimes, timing_in};
-ghost use Rattle.fx_check.specs.CheckText.{head_text, step_text, steps_text};
+ghost use Rattle.fx_check.specs.CheckText.{steps_text};
 ghost use Rattle.fx_check.specs.Handed.{Adds};
 ghost use Rattle.fx_check.specs.Gathered.{clocks_at};
 ghost use Rattle.fx_check.specs.inner.Listed.{PutsOutput, PutsOutputs};
@@ -15,36 +15,16 @@ use fx_io::{Sink, Text};
 use hw_latency::block_at;
 use hw_rules::Planned;
 
-/// Puts the path of a block behind a space.
-fn put_step<K: Sink>(out: &mut K, pending: &mut Pending, checked: &Checked, block: u32)
-    requires { block < length checked.now.diagram.blocks }
-    ensures { Adds K.taken K.faults out.old pending.old out.new pending.new
-        (step_text checked.now.diagram block) }
-{
-    put(out, pending, b" ");
-    put_path(out, pending, &block_at(checked, block).path);
-}
-
-/// Puts those of all blocks on a path.
+/// Puts the paths of all blocks on a path, each behind a space.
 fn put_steps<K: Sink>(out: &mut K, pending: &mut Pending, checked: &Checked, path: &[u32])
     requires { All (λ block. block < length checked.now.diagram.blocks) path.now }
     ensures { Adds K.taken K.faults out.old pending.old out.new pending.new
         (steps_text checked.now.diagram path.now) }
 {
     for block in path {
-        put_step(out, pending, checked, *block);
+        put(out, pending, b" ");
+        put_path(out, pending, &block_at(checked, *block).path);
     }
-}
-
-/// Puts what an output's line tells before its path.
-fn put_front<K: Sink>(out: &mut K, pending: &mut Pending, name: &[u8], clocks: u64)
-    ensures { Adds K.taken K.faults out.old pending.old out.new pending.new
-        (head_text name.now clocks) }
-{
-    put(out, pending, b"output ");
-    put(out, pending, name);
-    put_named(out, pending, b" clocks ", clocks);
-    put(out, pending, b" path");
 }
 
 /// Puts the line of an output, whose path is worked out in this room.
@@ -75,7 +55,10 @@ fn put_output<K: Sink>(
         block,
         room,
     );
-    put_front(out, pending, name, clocks);
+    put(out, pending, b"output ");
+    put(out, pending, name);
+    put_named(out, pending, b" clocks ", clocks);
+    put(out, pending, b" path");
     put_steps(out, pending, checked, &room[start..]);
     put(out, pending, b"\n");
 }

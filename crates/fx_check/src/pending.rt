@@ -48,7 +48,9 @@ fn put_behind<K: Sink>(out: &mut K, pending: &mut Pending, bytes: &[u8])
         return;
     }
     if let Err(_full) = pending.bytes.try_extend_from_slice(bytes) {
-        put_directly(out, pending, bytes);
+        if let Err(fault) = put_all(out, bytes) {
+            pending.fault = Some(fault);
+        }
     }
 }
 
@@ -61,17 +63,6 @@ fn put_waiting<K: Sink>(out: &mut K, pending: &mut Pending)
     match put_all(out, pending.bytes.as_slice()) {
         Ok(()) => pending.bytes.clear(),
         Err(fault) => pending.fault = Some(fault),
-    }
-}
-
-/// Puts bytes where none wait.
-fn put_directly<K: Sink>(out: &mut K, pending: &mut Pending, bytes: &[u8])
-    requires faultless { pending.old.fault ≡ None }
-    requires empty { pending.old.bytes.items ≡ [] }
-    ensures { Adds K.taken K.faults out.old pending.old out.new pending.new bytes.now }
-{
-    if let Err(fault) = put_all(out, bytes) {
-        pending.fault = Some(fault);
     }
 }
 

@@ -1,7 +1,7 @@
 //! The lines of blocks, and the whole text.
-ghost use Rattle.std.specs.Prelude.{◌≡◌, ◌+◌, ◌<◌, Some, length, slice_get};
+ghost use Rattle.std.specs.Prelude.{◌≡◌, ◌<◌, Some, length, slice_get};
 ghost use Rattle.hw_rules.specs.Times.{AreTimes, timing_in};
-ghost use Rattle.fx_check.specs.CheckText.{begun_block, block_line, blocks_text, front_text, port_text, ports_text};
+ghost use Rattle.fx_check.specs.CheckText.{block_line, blocks_text, ports_text};
 ghost use Rattle.fx_check.specs.Handed.{Adds};
 ghost use Rattle.fx_check.specs.Gathered.{IsGathered, WritesCheck};
 
@@ -10,32 +10,12 @@ use crate::outputs::put_outputs;
 use crate::pending::{Pending, none_pending, put, put_last};
 use crate::pieces::{put_named, put_period, put_type};
 use crate::quoting::put_path;
-use dg_model::{Block, Checked, Path, Resolved};
+use dg_model::{Block, Checked};
 use fx_io::{PutFault, Sink};
 use hw_latency::block_at;
 use hw_rules::Planned;
 
-/// Puts the type and the width of an output port of a block.
-fn put_port<K: Sink>(
-    out: &mut K,
-    pending: &mut Pending,
-    checked: &Checked,
-    place: u32,
-    block: &Block,
-    port: u32,
-)
-    requires is { slice_get checked.now.diagram.blocks place ≡ Some block.now }
-    requires there { port < block.now.outputs }
-    ensures { Adds K.taken K.faults out.old pending.old out.new pending.new
-        (port_text checked.now.diagram place (port + 1)) }
-{
-    checked.keeps_rules();
-    let width = checked.width(place, port + 1);
-    put_type(out, pending, checked.result(place));
-    put_named(out, pending, b" ", u64::from(width));
-}
-
-/// Puts those of all output ports of a block.
+/// Puts the types and the widths of all output ports of a block.
 fn put_ports<K: Sink>(
     out: &mut K,
     pending: &mut Pending,
@@ -43,33 +23,19 @@ fn put_ports<K: Sink>(
     place: u32,
     block: &Block,
 )
-    requires is { slice_get checked.now.diagram.blocks place ≡ Some block.now }
+    requires { slice_get checked.now.diagram.blocks place ≡ Some block.now }
     ensures { Adds K.taken K.faults out.old pending.old out.new pending.new
         (ports_text checked.now.diagram place block.now.outputs) }
 {
+    checked.keeps_rules();
     for port in 0..block.outputs {
-        put_port(out, pending, checked, place, block, port);
+        let width = checked.width(place, port + 1);
+        put_type(out, pending, checked.result(place));
+        put_named(out, pending, b" ", u64::from(width));
     }
 }
 
-/// Puts the path, the period and the latency of a block.
-fn put_begun<K: Sink>(
-    out: &mut K,
-    pending: &mut Pending,
-    path: &Path,
-    period: Option<u32>,
-    latency: u64,
-)
-    ensures { Adds K.taken K.faults out.old pending.old out.new pending.new
-        (begun_block path.now period latency) }
-{
-    put(out, pending, b"block ");
-    put_path(out, pending, path);
-    put_period(out, pending, period);
-    put_named(out, pending, b" latency ", latency);
-}
-
-/// Puts the line of a block.
+/// Puts the line of a block: its path, period and latency, and its output ports.
 fn put_block<K: Sink>(
     out: &mut K,
     pending: &mut Pending,
@@ -84,7 +50,10 @@ fn put_block<K: Sink>(
 {
     let block = block_at(checked, place);
     let latency = planned.times.latencies.lat.as_slice()[place as usize];
-    put_begun(out, pending, &block.path, checked.period(place), latency);
+    put(out, pending, b"block ");
+    put_path(out, pending, &block.path);
+    put_period(out, pending, checked.period(place));
+    put_named(out, pending, b" latency ", latency);
     put_ports(out, pending, checked, place, block);
     put(out, pending, b"\n");
 }
@@ -101,19 +70,9 @@ fn put_blocks<K: Sink>(out: &mut K, pending: &mut Pending, checked: &Checked, pl
     }
 }
 
-/// Puts the line of the plan.
-fn put_head<K: Sink>(out: &mut K, pending: &mut Pending, plan: &Resolved)
-    ensures { Adds K.taken K.faults out.old pending.old out.new pending.new
-        (front_text plan.now) }
-{
-    put_named(out, pending, b"accepted cycles ", u64::from(plan.cycles));
-    put_named(out, pending, b" multipliers ", u64::from(plan.multipliers));
-    put(out, pending, b"\n");
-}
-
-/// Puts what is worked out of a checked diagram by a plan that keeps the rules: a line for each
-/// block, and a line for each element of the root outputs with a path that makes it so late. It
-/// takes no memory, so that what was put is the whole text, or a part of it after a fault.
+/// Puts what is worked out of a checked diagram by a plan that keeps the rules: a line for the plan,
+/// a line for each block, and a line for each element of the root outputs with a path that makes it
+/// so late. It takes no memory, so that what was put is the whole text, or a part of it after a fault.
 ///
 /// # Errors
 /// A fault of the sink.
@@ -132,7 +91,11 @@ pub fn put_check<K: Sink>(
     checked.keeps_rules();
     dg_model::root_elements_are_listed();
     let mut pending = none_pending();
-    put_head(out, &mut pending, &planned.resolved);
+    let cycles = u64::from(planned.resolved.cycles);
+    let multipliers = u64::from(planned.resolved.multipliers);
+    put_named(out, &mut pending, b"accepted cycles ", cycles);
+    put_named(out, &mut pending, b" multipliers ", multipliers);
+    put(out, &mut pending, b"\n");
     put_blocks(out, &mut pending, checked, planned);
     let first = gathered.names.as_slice().len() - gathered.outputs.as_slice().len();
     put_outputs(

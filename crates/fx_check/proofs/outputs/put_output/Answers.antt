@@ -4,6 +4,7 @@ use Rattle.fx_io.proofs.Taken.{rest-whole}
 use Rattle.fx_check.specs.CheckText.{head_text, steps_text}
 use Rattle.fx_check.proofs.Handing.{adds_as, both}
 use Rattle.fx_check.proofs.Listing.{one_output, output_is}
+use Rattle.fx_check.proofs.Spelling.{head_is}
 use Rattle.fx_check.proofs.outputs.put_output.Goals as goal
 
 pub returns-clause-puts : goal.returns-clause-puts
@@ -19,7 +20,7 @@ returns-clause-puts g c =
       line = λ earlier.
           one_output diagram plan timing c.args.name.now c.args.block path earlier (earlier ++ bytes) c.path_to-start.ensures.tight
           (ap (λ (line : List ℕ). earlier ++ line) (output_is diagram plan timing c.args.name.now path c.args.block c.args.clocks c.requires.clocks));
-      puts = both (both c.put_front.ensures (adds_as (ap (λ (blocks : List ℕ). steps_text diagram blocks) whole) c.put_steps.ensures)) c.put.ensures;
+      puts = both (both (adds_as (head_is c.args.name.now c.args.clocks) (both (both (both c.put.ensures c.put-2.ensures) c.put_named.ensures) c.put-3.ensures)) (adds_as (ap (λ (blocks : List ℕ). steps_text diagram blocks) whole) c.put_steps.ensures)) c.put-4.ensures;
     }
 
 pub path_to-start-requires-clause-latencies : goal.path_to-start-requires-clause-latencies

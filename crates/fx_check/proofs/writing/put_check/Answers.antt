@@ -3,7 +3,8 @@ use Rattle.std.specs.Prelude.{drop}
 use Rattle.dg_model.specs.Attributes.{attributes_of}
 use Rattle.hw_rules.specs.Times.{timing_in}
 use Rattle.fx_check.specs.CheckText.{blocks_text, front_text}
-use Rattle.fx_check.proofs.Handing.{both, written}
+use Rattle.fx_check.proofs.Handing.{adds_as, both, written}
+use Rattle.fx_check.proofs.Spelling.{front_is}
 use Rattle.fx_check.proofs.Whole.{blocks_there, few_outputs, left_behind, names_left, text_of}
 use Rattle.fx_check.proofs.writing.put_check.Goals as goal
 
@@ -47,5 +48,5 @@ returns g c =
           first_is (left_behind first c.args.gathered.names c.as_slice-3.result.now c.as_slice-3.ensures) refl (outputs.lines before);
       ends =
           written c.args.out.now c.put_outputs.new.out c.put_last.new.out c.none_pending-pending.result c.put_outputs.new.pending (before ++ outputs.bytes) c.put_last.result c.none_pending-pending.ensures.empty c.none_pending-pending.ensures.faultless
-          (both (both c.put_head.ensures c.put_blocks.ensures) outputs.puts) c.put_last.ensures;
+          (both (both (adds_as (front_is plan c.from-cycles.result c.from-multipliers.result c.from-cycles.ensures c.from-multipliers.ensures) (both (both c.put_named.ensures c.put_named-2.ensures) c.put.ensures)) c.put_blocks.ensures) outputs.puts) c.put_last.ensures;
     }
