@@ -12,6 +12,7 @@ use Rattle.std.proofs.lemmas.Int.Digits.{digits_value-lt}
 use Rattle.std.proofs.lemmas.Str.{digit_value_digit}
 use Rattle.std.proofs.lemmas.Str.Parse.{digit_from_value}
 use Rattle.vl_read.specs.inner.Lexemes.{is_digit, number_after}
+use Rattle.vl_read.proofs.Digits.{number_gives}
 
 pub digit_range : (byte : ℕ) → is_ascii_digit byte ≡ true → IsInRange 48 57 byte
 digit_range byte h = let parts = and_parts (nat_le 48 byte) (nat_le byte 57) h in (leb-true 48 byte parts.0, leb-true byte 57 parts.1)
@@ -83,9 +84,11 @@ short_is digits short h =
     all_read digits 0 h (omega (arith, below, bound))
 
 -- at most nine digits
-pub short_below : (digits : List ℕ) → length digits ≤ 9 → list_all is_ascii_digit digits ≡ true → digits_value 10 digits < 1000000000
-short_below digits short h =
+pub number_below : (digits : List ℕ) (number : ℕ) → Some number ≡ number_after 10 0 digits → length digits ≤ 9 → number < 1000000000
+number_below digits number is few =
     let ten : 0 < 10 = omega arith in
-    let below : digits_value 10 digits < 10 ^ length digits = digits_value-lt 10 digits (all_digits digits h) in
-    let bound : 10 ^ length digits ≤ 10 ^ 9 = pow-le-pow_right ten short in
-    omega (arith, below, bound)
+    let read = number_gives 10 digits 0 number (sym is) in
+    let below : digits_value 10 digits < 10 ^ length digits = digits_value-lt 10 digits read.0 in
+    let bound : 10 ^ length digits ≤ 10 ^ 9 = pow-le-pow_right ten few in
+    let same : digits_value 10 digits ≡ number = read.1 in
+    omega (arith, below, bound, same)

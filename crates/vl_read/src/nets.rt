@@ -2,7 +2,7 @@ ghost use Rattle.std.specs.Prelude.{◌≡◌, true, false, bytes_eq, codes, IfO
 ghost use Rattle.vl_read.specs.declared.scan.Kind.TheVariants.{Fixed};
 ghost use Rattle.vl_read.specs.declared.places.NetSpot.TheVariants.{Signed, Ranged, Bound};
 ghost use Rattle.vl_read.specs.inner.Lexemes.{kind_of};
-ghost use Rattle.vl_read.specs.inner.Places.{Net, AttrValue, More};
+ghost use Rattle.vl_read.specs.inner.Places.{Net, More};
 ghost use Rattle.vl_read.specs.inner.Plain.{attr_step, has_none, is_name, declared, net_step, expect, goes, on_name};
 ghost use Rattle.vl_read.specs.inner.Seen.{seen, attr_spot_seen, net_seen, place_seen};
 ghost use Rattle.vl_read.specs.inner.Turns.{stepped};
@@ -41,7 +41,7 @@ impl Reader {
         if !is_name(lexeme) {
             return Ok(false);
         }
-        self.hold_name(Text::copy(self.alloc, lexeme)?);
+        self.held.name = Text::copy(self.alloc, lexeme)?;
         Ok(self.goes(place))
     }
 
@@ -57,27 +57,8 @@ impl Reader {
         } else if of_port {
             self.expect("*)", lexeme, Place::Port)
         } else {
-            self.draft.attrs = mem::replace(&mut self.held.attrs, Attrs::new(self.alloc));
+            mem::swap(&mut self.draft.attrs, &mut self.held.attrs);
             self.expect("*)", lexeme, Place::Start)
-        }
-    }
-
-    /// The number of an attribute.
-    #[tactic(auto, unfolding(crate::specs::inner::Plain::attr_step))]
-    fn attribute_value(&mut self, of_port: bool, lexeme: &[u8]) -> Stepped
-        ensures { IfOk result (λ said. stepped said (seen self.new)
-            ≡ attr_step self.old.draft of_port self.old.held.attrs (AttrValue self.old.held.name)
-            (kind_of lexeme.now) lexeme.now) }
-    {
-        match count_of(lexeme) {
-            None => Ok(false),
-            Some(number) => {
-                let name = mem::replace(&mut self.held.name, Text::new());
-                let value = u64::from(number);
-                self.held.attrs.push(Attr { name, value })?;
-                let at = AttrSpot::More;
-                Ok(self.goes(Place::Attributes { of_port, at }))
-            }
         }
     }
 
@@ -97,28 +78,18 @@ impl Reader {
                 let at = AttrSpot::AttrValue;
                 Ok(self.expect("=", lexeme, Place::Attributes { of_port, at }))
             }
-            AttrSpot::AttrValue => self.attribute_value(of_port, lexeme),
+            AttrSpot::AttrValue => match count_of(lexeme) {
+                None => Ok(false),
+                Some(number) => {
+                    let name = self.take_name();
+                    let value = u64::from(number);
+                    self.held.attrs.push(Attr { name, value })?;
+                    let at = AttrSpot::More;
+                    Ok(self.goes(Place::Attributes { of_port, at }))
+                }
+            },
             AttrSpot::More => Ok(self.after_attribute(of_port, lexeme)),
         }
-    }
-
-    /// The declaration of a port is read to its name.
-    #[tactic(auto, unfolding(crate::specs::inner::Plain::declared))]
-    fn declare_port(&mut self, input: bool, signed: bool, width: u32, name: &[u8]) -> Stepped
-        ensures { IfOk result (λ said. stepped said (seen self.new)
-            ≡ declared self.old.draft (net_seen self.old.held.attrs (NetKind.OfPort input))
-            signed width name.now) }
-    {
-        let name = Text::copy(self.alloc, name)?;
-        let attrs = mem::replace(&mut self.held.attrs, Attrs::new(self.alloc));
-        self.draft.ports.push(Port {
-            attrs,
-            input,
-            signed,
-            width,
-            name,
-        })?;
-        Ok(self.goes(Place::AfterPort))
     }
 
     /// A declaration is read to its name (IEEE 1364-2005, 4.2.1, 4.2.2 and 12.3.3).
@@ -127,10 +98,21 @@ impl Reader {
         ensures { IfOk result (λ said. stepped said (seen self.new)
             ≡ declared self.old.draft (net_seen self.old.held.attrs net) signed width name.now) }
     {
+        let name = Text::copy(self.alloc, name)?;
         match net {
-            NetKind::OfPort { input } => self.declare_port(input, signed, width, name),
+            NetKind::OfPort { input } => {
+                let attrs = mem::replace(&mut self.held.attrs, Attrs::new(self.alloc));
+                self.draft.ports.push(Port {
+                    attrs,
+                    input,
+                    signed,
+                    width,
+                    name,
+                })?;
+                Ok(self.goes(Place::AfterPort))
+            }
             NetKind::OfItem { is_reg } => {
-                self.hold_name(Text::copy(self.alloc, name)?);
+                self.held.name = name;
                 Ok(self.goes(Place::AfterNet {
                     is_reg,
                     signed,

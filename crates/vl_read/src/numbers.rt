@@ -46,7 +46,7 @@ fn with_digit(base: u32, number: u128, byte: u8) -> Option<u128>
 }
 
 /// A number of one to nine decimal digits.
-#[tactic(auto, using(crate::proofs::ShortNumbers::short_is, crate::proofs::ShortNumbers::short_none, crate::proofs::ShortNumbers::short_below), unfolding(crate::specs::inner::Lexemes::dec_of))]
+#[tactic(auto, using(crate::proofs::ShortNumbers::number_below), unfolding(crate::specs::inner::Lexemes::dec_of))]
 fn dec_of(digits: &[u8]) -> Option<u32>
     ensures value { result ≡ dec_of digits.now }
     ensures small { IfSome result (λ number. number < 1000000000) }
@@ -54,7 +54,7 @@ fn dec_of(digits: &[u8]) -> Option<u32>
     if digits.is_empty() || digits.len() > DEC_DIGITS {
         return None;
     }
-    match read_short(digits) {
+    match few_digits(digits) {
         None => None,
         Some(number) => Some(number as u32),
     }

@@ -158,13 +158,6 @@ impl Reader {
         drop(earlier);
     }
 
-    /// Holds a name.
-    pub fn hold_name(&mut self, name: Text)
-        ensures { self.new ≡ record self.old { held = record self.old.held { name = name } } }
-    {
-        self.held.name = name;
-    }
-
     /// Holds the attributes that stand before what is read next.
     pub fn hold_attrs(&mut self, attrs: Attrs)
         ensures { self.new ≡ record self.old { held = record self.old.held { attrs = attrs } } }

@@ -3,7 +3,7 @@ ghost use Rattle.vl_ast.specs.declared.modules.ModItem.TheVariants.{Always};
 ghost use Rattle.vl_read.specs.declared.scan.Kind.TheVariants.{Fixed};
 ghost use Rattle.vl_read.specs.inner.Lexemes.{kind_of};
 ghost use Rattle.vl_read.specs.inner.Places.{Items, Start, Port, AfterPort, Title, Branch, First, Expression, Operand, End, Semicolon};
-ghost use Rattle.vl_read.specs.inner.Plain.{expect, step, step_at, item_step, again_step, net_item};
+ghost use Rattle.vl_read.specs.inner.Plain.{expect, step, step_at, again_step, net_item};
 ghost use Rattle.vl_read.specs.inner.Seen.{seen, goal_of};
 ghost use Rattle.vl_read.specs.inner.Turns.{stepped};
 
@@ -15,13 +15,17 @@ use fx_io::Text;
 use vl_ast::{Attrs, ModItem};
 
 impl Reader {
-    /// The first word of an item.
-    #[tactic(auto, unfolding(crate::specs::inner::Plain::item_step))]
-    fn item_step(&mut self, lexeme: &[u8]) -> bool
-        ensures { stepped result (seen self.new) ≡ item_step self.old.draft lexeme.now }
+    /// The first word of an item, or the end.
+    #[tactic(auto, unfolding(crate::specs::inner::Plain::step_at, crate::specs::inner::Plain::item_step))]
+    fn items_step(&mut self, lexeme: &[u8]) -> bool
+        ensures { stepped result (seen self.new) ≡ step_at self.old.draft Items Fixed lexeme.now }
     {
         let at = NetSpot::Signed;
-        if is(lexeme, "wire") {
+        if is(lexeme, "endmodule") {
+            self.goes(Place::Done)
+        } else if self.draft.items.as_slice().len() >= self.draft.most {
+            false
+        } else if is(lexeme, "wire") {
             let kind = NetKind::OfItem { is_reg: false };
             self.goes(Place::Net { kind, at })
         } else if is(lexeme, "reg") {
@@ -31,20 +35,6 @@ impl Reader {
             self.goes(Place::AssignName)
         } else {
             self.expect("always", lexeme, Place::Head(HeadSpot::Event))
-        }
-    }
-
-    /// An item or the end.
-    #[tactic(auto, unfolding(crate::specs::inner::Plain::step_at))]
-    fn items_step(&mut self, lexeme: &[u8]) -> bool
-        ensures { stepped result (seen self.new) ≡ step_at self.old.draft Items Fixed lexeme.now }
-    {
-        if is(lexeme, "endmodule") {
-            self.goes(Place::Done)
-        } else if self.draft.items.as_slice().len() < self.draft.most {
-            self.item_step(lexeme)
-        } else {
-            false
         }
     }
 
@@ -143,10 +133,11 @@ impl Reader {
                   self.old.held.condition;
             }) lexeme.now }
     {
-        if lexeme != self.held.name.bytes() {
-            return false;
+        if lexeme == self.held.name.bytes() {
+            self.goes(Place::NextSign)
+        } else {
+            false
         }
-        self.goes(Place::NextSign)
     }
 
     /// `if`, or the name again.
