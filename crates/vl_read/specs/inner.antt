@@ -3,3 +3,4 @@ pub mod Places
 pub mod Plain
 pub mod Seen
 pub mod Turns
+pub mod Wrapped

@@ -10,7 +10,7 @@ ghost use Rattle.vl_read.specs.inner.Seen.{seen, goal_of, goal_in, frames_of, sp
 ghost use Rattle.vl_read.specs.inner.Turns.{stepped};
 
 use crate::numbers::{constant_of, count_of, kind_of};
-use crate::pieces::{binary, bit, cast, choose, concat, innermost, part, repeat, shift, unary};
+use crate::pieces::{Wrap, binary, bit, choose, concat, innermost, part, wrapped};
 use crate::places::{Bracket, Frame, Goal, Place, Reader, Spot, Stepped};
 use crate::scan::is;
 use fx_io::{Boxed, OutOfMemory};
@@ -102,22 +102,20 @@ impl Reader {
             Frame::InLeft => self.left_step(value, lexeme),
             Frame::InChosen(test) => self.chosen_step(test, value, lexeme),
             Frame::InRepeat(count) => {
-                let made = repeat(self.alloc, count, value);
+                let made = wrapped(self.alloc, Wrap::Repeat(count), value);
                 self.ended_step(made, lexeme, b'}', Spot::Ends(Bracket::CloseBrace))
             }
             Frame::InCast(signed) => {
-                self.ended_step(cast(self.alloc, signed, value), lexeme, b')', Spot::Value)
+                let made = wrapped(self.alloc, Wrap::Cast(signed), value);
+                self.ended_step(made, lexeme, b')', Spot::Value)
             }
             Frame::InUnary(op) => {
-                self.ended_step(unary(self.alloc, op, value), lexeme, b')', Spot::Value)
+                let made = wrapped(self.alloc, Wrap::Unary(op), value);
+                self.ended_step(made, lexeme, b')', Spot::Value)
             }
             Frame::InRight(op, left) => {
-                self.ended_step(
-                    binary(self.alloc, op, left, value),
-                    lexeme,
-                    b')',
-                    Spot::Value,
-                )
+                let made = binary(self.alloc, op, left, value);
+                self.ended_step(made, lexeme, b')', Spot::Value)
             }
             Frame::InOther(test, chosen) => {
                 let made = choose(self.alloc, test, chosen, value);
@@ -213,7 +211,7 @@ impl Reader {
             None => Ok(false),
             Some(amount) => {
                 let value = self.take_value();
-                self.hold(shift(self.alloc, op, value, amount)?);
+                self.hold(wrapped(self.alloc, Wrap::Shift(op, amount), value)?);
                 Ok(self.spot(Spot::Ends(Bracket::CloseParenthesis)))
             }
         }

@@ -1,7 +1,8 @@
-ghost use Rattle.std.specs.Prelude.{◌≡◌, [], IfOk, MatchOption, Some, None, if◌then◌else◌};
+ghost use Rattle.std.specs.Prelude.{◌≡◌, [], IfOk, MatchOption, Some, None};
 ghost use Rattle.vl_ast.specs.declared.expressions.Expr.TheOpen.{Expr-F};
 ghost use Rattle.vl_ast.specs.declared.expressions.Expr.TheViews.{roll-Expr};
 ghost use Rattle.vl_read.specs.inner.Plain.{innermost};
+ghost use Rattle.vl_read.specs.inner.Wrapped.{wrapped_in};
 
 use crate::places::Frame;
 use fx_io::{Boxed, OutOfMemory, Text};
@@ -52,32 +53,36 @@ pub fn concat(parts: Exprs) -> Expr
     Expr::Concat(Exprs::from_vec(parts))
 }
 
-/// A repetition.
-pub fn repeat(alloc: Global, count: u32, part: Expr) -> Result<Expr, OutOfMemory>
-    ensures { IfOk result (λ e. e ≡ roll-Expr (Expr-F.Repeat count part)) }
-{
-    Ok(Expr::Repeat(count, Boxed::new(alloc, part)?))
+/// What stands around an operand that is alone in it.
+#[derive(Clone, Copy)]
+pub enum Wrap {
+    /// `{`, this number and `{` before it, and `}}` behind it.
+    Repeat(u32),
+    /// `$signed (`, or else `$unsigned (`, before it, and `)` behind it.
+    Cast(bool),
+    /// `(` and this operator before it, and `)` behind it.
+    Unary(UnOp),
+    /// `(` before it, and this operator, this amount and `)` behind it.
+    Shift(ShiftOp, Sized),
 }
 
-/// `$signed` or `$unsigned`.
-pub fn cast(alloc: Global, signed: bool, part: Expr) -> Result<Expr, OutOfMemory>
-    ensures { IfOk result (λ e.
-        e ≡ (if signed then roll-Expr (Expr-F.AsSigned part)
-        else roll-Expr (Expr-F.AsUnsigned part))) }
+/// An operand with what stands around it.
+pub fn wrapped(alloc: Global, wrap: Wrap, part: Expr) -> Result<Expr, OutOfMemory>
+    ensures { IfOk result (λ e. e ≡ wrapped_in wrap part) }
 {
     let part = Boxed::new(alloc, part)?;
-    if signed {
-        Ok(Expr::AsSigned(part))
-    } else {
-        Ok(Expr::AsUnsigned(part))
+    match wrap {
+        Wrap::Repeat(count) => Ok(Expr::Repeat(count, part)),
+        Wrap::Cast(signed) => {
+            if signed {
+                Ok(Expr::AsSigned(part))
+            } else {
+                Ok(Expr::AsUnsigned(part))
+            }
+        }
+        Wrap::Unary(op) => Ok(Expr::Unary(op, part)),
+        Wrap::Shift(op, amount) => Ok(Expr::Shift(op, part, amount)),
     }
-}
-
-/// An operator before its operand.
-pub fn unary(alloc: Global, op: UnOp, part: Expr) -> Result<Expr, OutOfMemory>
-    ensures { IfOk result (λ e. e ≡ roll-Expr (Expr-F.Unary op part)) }
-{
-    Ok(Expr::Unary(op, Boxed::new(alloc, part)?))
 }
 
 /// An operator between its operands.
@@ -85,13 +90,6 @@ pub fn binary(alloc: Global, op: BinOp, left: Boxed<Expr>, right: Expr) -> Resul
     ensures { IfOk result (λ e. e ≡ roll-Expr (Expr-F.Binary op left right)) }
 {
     vl_ast::binary(op, Ok(left), Boxed::new(alloc, right))
-}
-
-/// A shift.
-pub fn shift(alloc: Global, op: ShiftOp, part: Expr, amount: Sized) -> Result<Expr, OutOfMemory>
-    ensures { IfOk result (λ e. e ≡ roll-Expr (Expr-F.Shift op part amount)) }
-{
-    Ok(Expr::Shift(op, Boxed::new(alloc, part)?, amount))
 }
 
 /// A choice.

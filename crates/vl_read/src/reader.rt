@@ -90,6 +90,7 @@ impl Reader {
         if matches!(place, Place::Done) {
             Some(draft.module())
         } else {
+            drop(draft);
             None
         }
     }
