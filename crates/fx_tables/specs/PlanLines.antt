@@ -3,6 +3,7 @@ use Prim.Native.Char.{code}
 use Rattle.std.specs.Prelude.{◌≡◌, ◌≢◌, ◌⊎◌, ◌≤◌, ℕ, true, List, [], ◌∷◌, ◌++◌, codes, IsTrue}
 use Rattle.std.specs.List.{list_all}
 use Rattle.std.specs.Str.Parse.{digits_value}
+use Rattle.dg_model.specs.Limits.{most_cycles}
 use Rattle.fx_text.specs.Digits.{is_number}
 use Rattle.fx_text.specs.Strings.{IsString}
 use Rattle.fx_tables.specs.Fields.{is_blank, fields_of}
@@ -46,6 +47,6 @@ pub record IsPipelineLine (line path : List ℕ) (count : ℕ) : Type 0 where
 -- a line and what it says: nothing (a blank line or a comment), or one setting
 abbrev pub Says : List ℕ → PlanEntry → Type 0
 Says line Passed = (fields_of line ≡ []) ⊎ ((comment : List ℕ) × (line ≡ codes "#" ++ comment))
-Says line (Cycles count) = IsSetting (codes "cycles") line 1 1024 count
+Says line (Cycles count) = IsSetting (codes "cycles") line 1 most_cycles count
 Says line (Multipliers count) = IsSetting (codes "multipliers") line 0 64 count
 Says line (Pipelined pipeline) = IsPipelineLine line pipeline.path pipeline.count

@@ -1,5 +1,6 @@
 -- The plans of a range, numbered (own).
 use Rattle.std.specs.Prelude.{◌≡◌, ℕ, ◌+◌, ◌-◌, ◌*◌, ◌/◌, ◌%◌, ◌&&◌, nat_le, Bool, true, if◌then◌else◌, Option, Some, None}
+use Rattle.dg_model.specs.Limits.{most_cycles}
 use Rattle.hw_explore.specs.declared.range.Ends.{Ends}
 use Rattle.hw_explore.specs.declared.range.Range.{Range}
 
@@ -17,7 +18,7 @@ most_pairs = 4096
 -- 1 to 1024 clocks and 0 to 64 multipliers, each from the lowest to the highest, and at most 4096 pairs
 abbrev pub is_range : Range → Bool
 is_range range =
-    nat_le 1 range.low_cycles && nat_le range.low_cycles range.high_cycles && nat_le range.high_cycles 1024
+    nat_le 1 range.low_cycles && nat_le range.low_cycles range.high_cycles && nat_le range.high_cycles most_cycles
     && nat_le range.low_multipliers range.high_multipliers && nat_le range.high_multipliers 64
     && nat_le (pairs_of range) most_pairs
 

@@ -22,6 +22,7 @@ pub struct Range {
 }
 
 ghost use Rattle.std.specs.Prelude.{◌≡◌, ◌<◌, ◌≤◌, IfSome};
+ghost use Rattle.dg_model.specs.Limits.{most_cycles};
 ghost use Rattle.hw_explore.specs.Range.{IsRange, between as between_of, choices_of, cycles_of, is_range, multipliers_of, pairs_of, range_between};
 
 /// Whether the ends are those of a range.
@@ -78,7 +79,7 @@ impl Range {
         requires there { place < pairs_of self.now }
         ensures is { result ≡ cycles_of self.now place }
         ensures some { 1 ≤ result }
-        ensures few { result ≤ 1024 }
+        ensures few { result ≤ most_cycles }
     {
         self.low_cycles + place / self.choices()
     }

@@ -1,5 +1,6 @@
 //! Latencies, which hang on clocks and multipliers only by which multiplications are shared.
 ghost use Rattle.std.specs.Prelude.{◌≤◌, IfOk};
+ghost use Rattle.dg_model.specs.Limits.{most_cycles};
 ghost use Rattle.dg_model.specs.PlanOf.{IsPlanOf};
 ghost use Rattle.dg_model.specs.declared.diagram.Diagram.{Diagram};
 ghost use Rattle.hw_explore.specs.Candidates.{plain_plan};
@@ -51,7 +52,7 @@ fn timed_by(
     multipliers: u32,
 ) -> Result<Timed, OutOfMemory>
     requires some { 1 ≤ cycles }
-    requires clocks { cycles ≤ 1024 }
+    requires clocks { cycles ≤ most_cycles }
     requires multipliers { multipliers ≤ 64 }
     ensures { IfOk result
         (IsTimed checked.now.diagram (plain_plan checked.now.diagram cycles multipliers)) }

@@ -16,6 +16,7 @@ use Rattle.hw_net.specs.Growing.{InRows, Appends, IsNewReg}
 use Rattle.hw_lines.specs.declared.source.Source.{Source}
 use Rattle.hw_lines.specs.declared.source.Use.{Use}
 use Rattle.hw_lines.specs.Line.{Line, ShowsLater}
+use Rattle.hw_net.specs.Emittable.{most_period}
 
 abbrev pub source_of : ℕ → Frame → ℤ → Bool → Source
 source_of from frame first registered =
@@ -40,13 +41,13 @@ pub record IsSource (netlist : Circuit) (source : Source) : Type 0 where
   pub word : IsWord net.width net.signed
   pub first : InWord net.width net.signed source.first
   pub some : 0 < source.frame.period
-  pub most : source.frame.period ≤ 4096
+  pub most : source.frame.period ≤ most_period
   pub early : source.frame.latency < 2 ^ 62
 
 -- a plain use is as slow as the source or slower, a registered one as fast or faster and behind it
 pub record IsUse (source : Source) (one : Use) : Type 0 where
   pub some : 0 < one.period
-  pub most : one.period ≤ 4096
+  pub most : one.period ≤ most_period
   pub near : one.shift < 2 ^ 62
   pub plain : source.registered ≡ false → one.period % source.frame.period ≡ 0
   pub registered : source.registered ≡ true

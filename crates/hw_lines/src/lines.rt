@@ -4,6 +4,7 @@ ghost use Rattle.std.specs.Prelude.{IfOk, OnOk};
 ghost use Rattle.hw_lines.specs.Chain.{IsSource, IsUse, AreAnswers, IsChained, IsAnswer, source_of};
 ghost use Rattle.hw_lines.specs.Chain.{reader_of};
 ghost use Rattle.hw_lines.specs.inner.Ends.{CanEnd, PutsEnd};
+ghost use Rattle.hw_net.specs.Emittable.{most_cycles};
 
 use crate::ends::{end_of, reader_of};
 use crate::source::{Source, Use};
@@ -44,7 +45,7 @@ fn put_chain(
     uses: &[Use],
 ) -> Result<Sizes, OutOfMemory>
     requires low { 0 < net.old.cycles }
-    requires high { net.old.cycles ≤ 1024 }
+    requires high { net.old.cycles ≤ most_cycles }
     requires source { IsSource net.old source }
     requires uses { All (IsUse source) uses.now }
     ensures answers { IfOk result (λ answers. AreAnswers net.old net.new source uses.now answers) }
@@ -77,7 +78,7 @@ pub fn chain(
     uses: &[Use],
 ) -> Result<Sizes, OutOfMemory>
     requires low { 0 < net.old.cycles }
-    requires high { net.old.cycles ≤ 1024 }
+    requires high { net.old.cycles ≤ most_cycles }
     requires source { IsSource net.old (source_of from frame first registered) }
     requires uses { All (IsUse (source_of from frame first registered)) uses.now }
     ensures answers { IfOk result (λ answers.
@@ -106,7 +107,7 @@ pub fn line(
     registered: bool,
 ) -> Result<u32, OutOfMemory>
     requires low { 0 < net.old.cycles }
-    requires high { net.old.cycles ≤ 1024 }
+    requires high { net.old.cycles ≤ most_cycles }
     requires source { IsSource net.old (source_of from frame first registered) }
     requires use_is { IsUse (source_of from frame first registered)
         (record { shift = shift; period = period }) }

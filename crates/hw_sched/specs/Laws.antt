@@ -11,6 +11,7 @@ use Rattle.dg_model.specs.Instant.{is_now, reads_now, IsInstant}
 use Rattle.dg_model.specs.declared.row.Inherited.{Inherited}
 use Rattle.dg_model.specs.LatencyEdges.{LatencyEdge, latency_edges, asks_ever}
 use Rattle.dg_model.specs.Library.{row_of}
+use Rattle.dg_model.specs.Limits.{most_times}
 use Rattle.dg_model.specs.Rate.{joins_periods}
 use Rattle.dg_model.specs.Signals.{Attributes}
 use Rattle.dg_model.specs.Wired.{IsWired}
@@ -32,7 +33,7 @@ PeriodsAreAbove = (diagram : Diagram) (place period : ℕ) → IsChecked diagram
 
 -- and at most 4096
 abbrev pub PeriodsAreShort : Type 0
-PeriodsAreShort = (diagram : Diagram) (place period : ℕ) → IsChecked diagram → (attributes_of diagram).period_at place ≡ Some period → period ≤ 4096
+PeriodsAreShort = (diagram : Diagram) (place period : ℕ) → IsChecked diagram → (attributes_of diagram).period_at place ≡ Some period → period ≤ most_times
 
 -- a block's values move on though its sources don't change
 abbrev pub is_moving : Inherited → Bool

@@ -4,6 +4,7 @@ use Rattle.std.specs.Prelude.{Some}
 use Rattle.fx_num.specs.Word.{IsWord}
 use Rattle.hw_net.specs.declared.netlist.Net.{Net}
 use Rattle.hw_net.specs.Circuit.{Circuit}
+use Rattle.hw_net.specs.Emittable.{most_period}
 use Rattle.hw_net.specs.Netlist.{HasWord}
 use Rattle.hw_share.specs.declared.operation.Operation.{Operation}
 
@@ -27,7 +28,7 @@ pub record IsOperation (netlist : Circuit) (one : Operation) : Type 0 where
   pub right_word : IsWord right.width right.signed
   pub product : IsWord (left.width + right.width) (left.signed || right.signed)
   pub some : 0 < one.frame.period
-  pub most : one.frame.period ≤ 4096
+  pub most : one.frame.period ≤ most_period
   pub inside : one.slot < one.frame.period * netlist.cycles
 
 -- a net of the later netlist has the word that a net has in the former

@@ -1,5 +1,6 @@
 //! Operations that share multipliers.
 ghost use Rattle.std.specs.Prelude.{◌<◌, ◌≤◌, IfOk};
+ghost use Rattle.hw_net.specs.Emittable.{most_cycles};
 ghost use Rattle.hw_share.specs.Operations.{CanShare};
 ghost use Rattle.hw_share.specs.Shared.{AreShared};
 
@@ -23,7 +24,7 @@ pub fn units(
     operations: &[Operation],
 ) -> Result<Sizes, OutOfMemory>
     requires low { 0 < net.old.cycles }
-    requires high { net.old.cycles ≤ 1024 }
+    requires high { net.old.cycles ≤ most_cycles }
     requires can { CanShare net.old operations.now }
     ensures { IfOk result (AreShared net.old net.new operations.now) }
 {

@@ -3,6 +3,7 @@ use Rattle.std.specs.Prelude.{ℕ, ◌&&◌, nat_lt, nat_le, Bool, true, false, 
 use Rattle.std.specs.List.{list_all}
 use Rattle.std.specs.Char.{is_ascii_digit}
 use Rattle.std.specs.Str.Parse.{digits_value}
+use Rattle.dg_model.specs.Limits.{most_blocks}
 use Rattle.dg_model.specs.declared.nested.NestedLine.{NestedLine}
 use Rattle.dg_model.specs.declared.nested.Target.{Target}
 use Rattle.mdl_text.specs.declared.tree.Item.{Item}
@@ -17,7 +18,7 @@ use Rattle.mdl_build.specs.Sections.{places_of, holder_of, value_of}
 -- digits alone, whose number is one of a port
 abbrev pub is_port : List ℕ → Bool
 is_port text =
-    nat_lt 0 (length text) && list_all is_ascii_digit text && nat_le 1 (digits_value 10 text) && nat_le (digits_value 10 text) 20000
+    nat_lt 0 (length text) && list_all is_ascii_digit text && nat_le 1 (digits_value 10 text) && nat_le (digits_value 10 text) most_blocks
 
 -- the port of an end; one that is missing is 1
 abbrev pub port_of : Option (List ℕ) → Option ℕ

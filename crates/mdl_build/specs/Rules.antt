@@ -6,6 +6,7 @@ use Rattle.dg_model.specs.declared.fault.RuleFault.{RuleFault}
 use Rattle.dg_model.specs.declared.fault.Shown.TheVariants.{Nothing, Word}
 use Rattle.dg_model.specs.declared.rule.Rule.{Rule}
 use Rattle.dg_model.specs.Faults.{fault_of}
+use Rattle.dg_model.specs.Limits.{most_blocks}
 use Rattle.mdl_text.specs.declared.tree.Item.{Item}
 use Rattle.mdl_text.specs.declared.tree.Tree.{Tree}
 use Rattle.mdl_build.specs.declared.library.BlockType.{BlockType}
@@ -39,7 +40,7 @@ are_shallow roles = list_all (λ role. not (is_system (λ level. nat_le 65 level
 -- the parts of the rule whose place is the model
 abbrev pub keeps_model : List Item → Bool
 keeps_model items =
-    has_root (roles_of items) && are_shallow (roles_of items) && nat_le (length (blocks_of items)) 20000
+    has_root (roles_of items) && are_shallow (roles_of items) && nat_le (length (blocks_of items)) most_blocks
     && list_all (λ place. keeps_line items place (role_of items place)) (places_of items)
 
 -- ---- structure: each block

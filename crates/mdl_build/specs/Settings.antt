@@ -1,6 +1,7 @@
 -- What the value of a parameter says, and what the parameters of a block say together (Simulink reference, each block's page; the spellings are own).
 use Rattle.std.specs.Prelude.{◌≡◌, ℕ, ◌++◌, Bool, true, false, List, [], ◌∷◌, Some, ◌⊎◌, pos, length, MatchBool, codes}
 use Rattle.std.proofs.Math.Dec.{lit<}
+use Rattle.dg_model.specs.Limits.{longest_delay, longest_list, most_blocks}
 use lib.Signed.{le_z_yes}
 use Rattle.fx_type.specs.declared.decimal.Decimal.{Decimal}
 use Rattle.fx_type.specs.declared.rounding.Rounding.{Rounding}
@@ -98,7 +99,7 @@ IsListOrEmpty text list = ((text ≡ codes "[]") × (list ≡ zero_decimal ∷ [
 -- a number of parts, or their sizes
 abbrev pub IsPartsText : List ℕ → ℕ → List ℕ → Type 0
 IsPartsText text count sizes =
-    (IsNumberText 1 1024 text count × (sizes ≡ [])) ⊎ (IsSizesText text sizes × (count ≡ length sizes))
+    (IsNumberText 1 longest_list text count × (sizes ≡ [])) ⊎ (IsSizesText text sizes × (count ≡ length sizes))
 
 -- a number of operands; a gate of one input doesn't look at it
 abbrev pub IsOperands : Bool → List ℕ → ℕ → Type 0
@@ -111,9 +112,9 @@ IsTruth default text = (text ≡ default) ⊎ ((more : List ℕ) × (text ≡ co
 -- a reader, at its parameter's default, reads a text as a setting; `single` says that the block is a gate of one input
 abbrev pub ReadsAs : Bool → Reader → List ℕ → List ℕ → Setting → Type 0
 ReadsAs single Reader.Default default text setting = (text ≡ default) × (setting ≡ Setting.Unsaid)
-ReadsAs single Reader.Port default text setting = (number : ℕ) × IsNumberText 1 20000 text number × (setting ≡ Setting.Number number)
+ReadsAs single Reader.Port default text setting = (number : ℕ) × IsNumberText 1 most_blocks text number × (setting ≡ Setting.Number number)
 ReadsAs single Reader.Width default text setting = (width : ℕ) × IsWidthText text width × (setting ≡ Setting.Width width)
-ReadsAs single Reader.Length default text setting = (number : ℕ) × IsNumberText 1 1024 text number × (setting ≡ Setting.Number number)
+ReadsAs single Reader.Length default text setting = (number : ℕ) × IsNumberText 1 longest_delay text number × (setting ≡ Setting.Number number)
 ReadsAs single Reader.Operands default text setting = (number : ℕ) × IsOperands single text number × (setting ≡ Setting.Number number)
 ReadsAs single Reader.TypeOrAuto default text setting = IsTypeOr default Auto text setting
 ReadsAs single Reader.TypeOrFirst default text setting = IsTypeOrFirst default (codes "Inherit: Same as first input") text setting

@@ -3,6 +3,7 @@ use Rattle.std.specs.Prelude.{◌≡◌, ℕ, List, [], ◌∷◌, Some, MatchBo
 use Rattle.fx_type.specs.declared.decimal.Decimal.{Decimal}
 use Rattle.fx_round.specs.DecimalText.{IsDecimal}
 use Rattle.dg_model.specs.KindRow.{IsPeriod}
+use Rattle.dg_model.specs.Limits.{widest_signal}
 use Rattle.dg_model.specs.declared.diagram.PeriodSpec.{PeriodSpec}
 use Rattle.dg_model.specs.declared.diagram.PeriodSpec.TheVariants.{Inherit, Constant, Every}
 use Rattle.mdl_values.specs.Numbers.{IsNumberText}
@@ -47,11 +48,11 @@ IsConstantTime text (Every period) = IsPeriodText text period
 pub record IsBracketedNumber (text : List ℕ) (number : ℕ) : Type 0 where
   pub element : List ℕ
   pub elements : bracket_elements text ≡ Some (element ∷ [])
-  pub read : IsNumberText 1 1024 element number
+  pub read : IsNumberText 1 widest_signal element number
 
 -- a number from 1 to 1024, which may stand in brackets
 abbrev pub IsWidthNumber : List ℕ → ℕ → Type 0
-IsWidthNumber text width = IsNumberText 1 1024 text width ⊎ IsBracketedNumber text width
+IsWidthNumber text width = IsNumberText 1 widest_signal text width ⊎ IsBracketedNumber text width
 
 -- a declared width: -1 for none, which is 0, or such a number
 abbrev pub IsWidthText : List ℕ → ℕ → Type 0

@@ -8,6 +8,7 @@ use Rattle.std.specs.Ordering.{nat_cmp}
 use Rattle.std.specs.BTreeSet.{contains}
 use Rattle.std.specs.Prelude.{Vec}
 use Rattle.std.specs.Global.{Global}
+use Rattle.dg_model.specs.Limits.{most_cycles}
 use Rattle.fx_tables.specs.Plan.{cycles_of, multipliers_of, pipeline_of}
 use Rattle.dg_model.specs.PlanRange.{AreDifferent, IsRegisterCount}
 use Rattle.fx_tables.specs.declared.entry.PlanEntry.{PlanEntry}
@@ -26,13 +27,13 @@ pub record Describes (draft : Draft) (entries : List PlanEntry) : Type 0 where
 -- what a line of a plan says is in range
 abbrev pub IsEntryInRange : PlanEntry → Type 0
 IsEntryInRange Passed = Unit {0}
-IsEntryInRange (Cycles count) = (1 ≤ count) × (count ≤ 1024)
+IsEntryInRange (Cycles count) = (1 ≤ count) × (count ≤ most_cycles)
 IsEntryInRange (Multipliers count) = count ≤ 64
 IsEntryInRange (Pipelined pipeline) = IsRegisterCount pipeline
 
 -- what was said so far is in range
 pub record IsDraftInRange (draft : Draft) : Type 0 where
-  pub clocks : IfSome draft.cycles (λ count. (1 ≤ count) × (count ≤ 1024))
+  pub clocks : IfSome draft.cycles (λ count. (1 ≤ count) × (count ≤ most_cycles))
   pub shared : IfSome draft.multipliers (λ count. count ≤ 64)
   pub counts : AllByRecursion IsRegisterCount draft.pipelines
   pub different : AreDifferent draft.pipelines

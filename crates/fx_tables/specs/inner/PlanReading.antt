@@ -6,6 +6,7 @@ use Rattle.std.specs.Option.{option_to_list}
 use Rattle.std.specs.Str.{bytes_eq}
 use Rattle.std.specs.Str.Lines.{lines}
 use Rattle.std.specs.Str.Parse.{digits_value}
+use Rattle.dg_model.specs.Limits.{most_cycles}
 use Rattle.fx_text.specs.Digits.{is_number}
 use Rattle.fx_text.specs.Strings.{string_behind}
 use Rattle.dg_model.specs.declared.plan.Plan.{Plan}
@@ -58,7 +59,7 @@ pipeline_entry text =
 abbrev pub words_entry : List (List ℕ) → List ℕ → Option PlanEntry
 words_entry [] text = Some Passed
 words_entry (word ∷ words) text =
-    if bytes_eq word (codes "cycles") then cycles_entry (sole_number 1 1024 words)
+    if bytes_eq word (codes "cycles") then cycles_entry (sole_number 1 most_cycles words)
     else if bytes_eq word (codes "multipliers") then multipliers_entry (sole_number 0 64 words)
     else if bytes_eq word (codes "pipeline") then pipeline_entry (after_blanks text)
     else None

@@ -4,6 +4,7 @@ use Rattle.dg_model.specs.declared.diagram.Diagram.{Diagram}
 use Rattle.dg_model.specs.declared.diagram.Edge.{Edge}
 use Rattle.dg_model.specs.declared.resolved.Resolved.{Resolved}
 use Rattle.dg_model.specs.Attributes.{attributes_of}
+use Rattle.dg_model.specs.Limits.{most_times}
 use Rattle.dg_model.specs.Widths.{greatest}
 use Rattle.hw_latency.specs.Weight.{samples}
 use Rattle.hw_slots.specs.declared.operation.Span.{Span}
@@ -27,7 +28,7 @@ pub record AreLongestTo (diagram : Diagram) (count : ℕ) (longest : List ℕ) :
 pub record AreLongest (diagram : Diagram) (longest : List ℕ) : Type 0 where
   pub counted : AreCounted diagram (length longest)
   pub are : (period : ℕ) → period < length longest → slice_index longest period ≡ longest_of diagram diagram.edges period
-  pub short : (period : ℕ) → slice_index longest period ≤ 4096
+  pub short : (period : ℕ) → slice_index longest period ≤ most_times
 
 -- the slots of a period
 abbrev pub span_of : Diagram → Resolved → ℕ → Span

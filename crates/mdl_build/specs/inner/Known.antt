@@ -5,6 +5,7 @@ use Rattle.dg_model.specs.declared.fault.RuleFault.{RuleFault}
 use Rattle.dg_model.specs.declared.fault.Shown.TheVariants.{Word}
 use Rattle.dg_model.specs.declared.rule.Rule.{Rule}
 use Rattle.dg_model.specs.Faults.{fault_of}
+use Rattle.dg_model.specs.Limits.{most_blocks}
 use Rattle.mdl_text.specs.declared.tree.Item.{Item}
 use Rattle.mdl_build.specs.declared.known.Known.{Known}
 use Rattle.mdl_build.specs.declared.known.Structured.{Structured}
@@ -20,13 +21,13 @@ use Rattle.mdl_build.specs.inner.Names.{AreBlocks}
 
 -- the model has its root, is shallow, and has no more blocks than it may
 abbrev pub keeps_sizes : List Item → Bool
-keeps_sizes items = has_root (roles_of items) && are_shallow (roles_of items) && nat_le (length (blocks_of items)) 20000
+keeps_sizes items = has_root (roles_of items) && are_shallow (roles_of items) && nat_le (length (blocks_of items)) most_blocks
 
 -- the roles and the blocks are those of the items
 pub record IsKnown (known : Known) : Type 0 where
   pub roles : known.roles.items ≡ roles_of known.layout.items.now
   pub blocks : AreBlocks known.layout.items.now known.blocks
-  pub few : length (blocks_of known.layout.items.now) ≤ 20000
+  pub few : length (blocks_of known.layout.items.now) ≤ most_blocks
 
 -- these items keep the rule of structure, and these are their lines
 pub record IsStructured (items : List Item) (structured : Structured) : Type 0 where

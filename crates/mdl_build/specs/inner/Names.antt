@@ -5,6 +5,7 @@ use Rattle.std.specs.declared.cmp.Ordering.{Ordering}
 use Rattle.std.specs.BTreeMap.{get}
 use Rattle.std.specs.Cmp.Lexicographic.{slice_cmp}
 use Rattle.std.specs.Ordering.{nat_cmp, then_cmp, on}
+use Rattle.dg_model.specs.Limits.{most_blocks}
 use Rattle.mdl_text.specs.declared.tree.Item.{Item}
 use Rattle.mdl_build.specs.declared.names.Blocks.{Blocks}
 use Rattle.mdl_build.specs.declared.names.Key.{Key}
@@ -40,4 +41,4 @@ blocks_before items place = filter (λ other. is_block (role_of items other)) (r
 pub record AreBlocks (items : List Item) (blocks : Blocks) : Type 0 where
   pub places : blocks.places.items ≡ blocks_of items
   pub numbers : AreNumbered items blocks
-  pub few : length (blocks_of items) ≤ 20000
+  pub few : length (blocks_of items) ≤ most_blocks
