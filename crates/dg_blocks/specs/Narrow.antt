@@ -1,4 +1,5 @@
--- Rounding and conversion in 64 bits: what is prepared from types alone, and what a step then gives (own).
+-- Rounding and conversion in 64 bits: what is prepared from types alone, and what a step then gives
+-- (own).
 use Rattle.std.specs.Prelude.{◌≡◌, ℕ, ◌^◌, ◌≤◌, Bool, true, false, ℤ, pos, neg_ℤ, ◌+ℤ◌, ◌*ℤ◌, ◌≤ℤ◌, cond, int_lt}
 use Rattle.std.specs.Int.{int_gap}
 use Rattle.fx_type.specs.declared.kind.FxType.{FxType}
@@ -13,15 +14,19 @@ pub record IsSmall (v : ℤ) : Type 0 where
   pub low : neg_ℤ (pos (2 ^ 61)) ≤ℤ v
   pub high : v ≤ℤ pos (2 ^ 61)
 
--- what is added before a shift down by `down` bits, so that the whole number below is the one that the mode takes,
--- `below` where the number is below 0; `even` marks that an odd number below has one more
+-- what is added before a shift down by `down` bits, so that the whole number below is the one that
+-- the mode takes, `below` where the number is below 0; `even` marks that an odd number below has
+-- one more
 abbrev pub IsBias : Rounding → ℕ → ℤ → ℤ → Bool → Type 0
 IsBias Floor d bias below even = (bias ≡ pos 0) × (below ≡ pos 0) × (even ≡ false)
-IsBias Ceiling d bias below even = (bias +ℤ pos 1 ≡ pos d) × (below +ℤ pos 1 ≡ pos d) × (even ≡ false)
+IsBias Ceiling d bias below even =
+    (bias +ℤ pos 1 ≡ pos d) × (below +ℤ pos 1 ≡ pos d) × (even ≡ false)
 IsBias Zero d bias below even = (bias ≡ pos 0) × (below +ℤ pos 1 ≡ pos d) × (even ≡ false)
 IsBias Nearest d bias below even = (twice bias ≡ pos d) × (twice below ≡ pos d) × (even ≡ false)
-IsBias Round d bias below even = (twice bias ≡ pos d) × (twice below +ℤ pos 2 ≡ pos d) × (even ≡ false)
-IsBias Convergent d bias below even = (twice bias +ℤ pos 2 ≡ pos d) × (twice below +ℤ pos 2 ≡ pos d) × (even ≡ true)
+IsBias Round d bias below even =
+    (twice bias ≡ pos d) × (twice below +ℤ pos 2 ≡ pos d) × (even ≡ false)
+IsBias Convergent d bias below even =
+    (twice bias +ℤ pos 2 ≡ pos d) × (twice below +ℤ pos 2 ≡ pos d) × (even ≡ true)
 
 -- the bias of a number, which its sign tells
 abbrev pub bias_for : ℤ → ℤ → ℤ → ℤ
@@ -53,12 +58,14 @@ pub record HasEnds (narrow : Narrow) (to : FxType) (saturate : Bool) : Type 0 wh
   pub low_is : narrow.low ≡ lowest_of to
   pub high_is : narrow.high ≡ highest_of to
 
--- the shifts and the bias are prepared, for a number in units of 2 to the -frac; where no bit falls away nothing is rounded
+-- the shifts and the bias are prepared, for a number in units of 2 to the -frac; where no bit falls
+-- away nothing is rounded
 pub record HasShifts (narrow : Narrow) (frac : ℤ) (to : FxType) (mode : Rounding) : Type 0 where
   pub scale : narrow.scale ≡ pos (2 ^ int_gap frac (frac_of to))
   pub down : narrow.down ≡ int_gap (frac_of to) frac
   pub down_below : narrow.down ≤ 60
-  pub whole : narrow.down ≡ 0 → (narrow.bias ≡ pos 0) × (narrow.below ≡ pos 0) × (narrow.even ≡ false)
+  pub whole : narrow.down ≡ 0 → (narrow.bias ≡ pos 0) × (narrow.below ≡ pos 0)
+      × (narrow.even ≡ false)
   pub parts : 1 ≤ narrow.down → IsBias mode (2 ^ narrow.down) narrow.bias narrow.below narrow.even
   pub bias_low : pos 0 ≤ℤ narrow.bias
   pub bias_high : narrow.bias ≤ℤ pos (2 ^ 60)
@@ -66,7 +73,8 @@ pub record HasShifts (narrow : Narrow) (frac : ℤ) (to : FxType) (mode : Roundi
   pub below_high : narrow.below ≤ℤ pos (2 ^ 60)
 
 -- a conversion of a number in units of 2 to the -frac is prepared
-pub record IsNarrow (narrow : Narrow) (frac : ℤ) (to : FxType) (mode : Rounding) (saturate : Bool) : Type 0 where
+pub record IsNarrow (narrow : Narrow) (frac : ℤ) (to : FxType) (mode : Rounding)
+    (saturate : Bool) : Type 0 where
   pub ends : HasEnds narrow to saturate
   pub shifts : HasShifts narrow frac to mode
 

@@ -12,18 +12,24 @@ use Rattle.dg_blocks.specs.declared.prepared.Prepared.TheVariants.{Wide, Convert
 use Rattle.dg_blocks.specs.declared.narrow.Narrow.{Narrow}
 use Rattle.dg_blocks.specs.Narrow.{IsNarrow, HasRoom}
 
--- a conversion of numbers of so many bits in units of 2 to the -frac is prepared for the operation's result
+-- a conversion of numbers of so many bits in units of 2 to the -frac is prepared for the
+-- operation's result
 abbrev pub IsReady : Operation → Narrow → ℕ → ℤ → Type 0
-IsReady operation narrow bits frac = IsNarrow narrow frac operation.result operation.rounding operation.saturate × HasRoom narrow bits
+IsReady operation narrow bits frac =
+    IsNarrow narrow frac operation.result operation.rounding operation.saturate
+    × HasRoom narrow bits
 
--- stored integers of the type have at most 61 bits and a sign, and at most 60 more where they are written with frac bits behind the point
+-- stored integers of the type have at most 61 bits and a sign, and at most 60 more where they are
+-- written with frac bits behind the point
 pub record IsShort (frac : ℤ) (type : FxType) : Type 0 where
   pub width : width_of type ≤ 61
   pub above : frac_of type ≤ℤ frac
   pub shift : int_gap (frac_of type) frac ≤ 60
 
--- the inputs of a sum of which every part has at most 61 bits and a sign, in units of 2 to the -frac
-pub record IsSummable (frac : ℤ) (signs : List Bool) (types : List FxType) (inputs : List ℤ) : Type 0 where
+-- the inputs of a sum of which every part has at most 61 bits and a sign, in units of 2 to the
+-- -frac
+pub record IsSummable (frac : ℤ) (signs : List Bool) (types : List FxType)
+    (inputs : List ℤ) : Type 0 where
   pub signs_length : length signs ≡ length types
   pub types_valid : All IsType types
   pub values : AreInRange types inputs
@@ -36,15 +42,26 @@ pub record IsSummable (frac : ℤ) (signs : List Bool) (types : List FxType) (in
 -- what is prepared fits the operation
 abbrev pub IsPrepared : Prepared → Operation → Type 0
 IsPrepared Wide operation = ⊤
-IsPrepared (Converted narrow) operation = (operation.op ≡ Convert false) × IsReady operation narrow (width_of (type_of operation.types 0)) (frac_of (type_of operation.types 0))
+IsPrepared (Converted narrow) operation =
+    (operation.op ≡ Convert false)
+    × IsReady operation narrow (width_of (type_of operation.types 0))
+    (frac_of (type_of operation.types 0))
 IsPrepared (Times narrow) operation =
-    (operation.op ≡ Product) × IsReady operation narrow (width_of (type_of operation.types 0) + width_of (type_of operation.types 1))
+    (operation.op ≡ Product)
+    × IsReady operation narrow
+    (width_of (type_of operation.types 0) + width_of (type_of operation.types 1))
     (frac_of (type_of operation.types 0) +ℤ frac_of (type_of operation.types 1))
 IsPrepared (Scaled coefficient narrow) operation =
-    (param : FxType) × (operation.op ≡ Gain coefficient param) × IsReady operation narrow (width_of (type_of operation.types 0) + width_of param) (frac_of (type_of operation.types 0) +ℤ frac_of param)
+    (param : FxType) × (operation.op ≡ Gain coefficient param)
+    × IsReady operation narrow (width_of (type_of operation.types 0) + width_of param)
+    (frac_of (type_of operation.types 0) +ℤ frac_of param)
 IsPrepared (Summed frac narrow) operation =
-    (full : FxType) × (operation.op ≡ Sum) × IsFullSum (zip operation.signs operation.types) full × (frac_of full ≡ frac)
+    (full : FxType) × (operation.op ≡ Sum) × IsFullSum (zip operation.signs operation.types) full
+    × (frac_of full ≡ frac)
     × All (IsShort frac) operation.types × IsReady operation narrow (width_of full) frac
 IsPrepared (Chosen narrow) operation =
-    (criterion : Criterion) × (threshold : ℤ) × (operation.op ≡ Switch criterion threshold) × (bits : ℕ) × (width_of (type_of operation.types 0) ≤ bits) × (width_of (type_of operation.types 2) ≤ bits)
-    × (frac_of (type_of operation.types 2) ≡ frac_of (type_of operation.types 0)) × IsReady operation narrow bits (frac_of (type_of operation.types 0))
+    (criterion : Criterion) × (threshold : ℤ) × (operation.op ≡ Switch criterion threshold)
+    × (bits : ℕ) × (width_of (type_of operation.types 0) ≤ bits)
+    × (width_of (type_of operation.types 2) ≤ bits)
+    × (frac_of (type_of operation.types 2) ≡ frac_of (type_of operation.types 0))
+    × IsReady operation narrow bits (frac_of (type_of operation.types 0))

@@ -1,4 +1,5 @@
--- The flat diagram of nested blocks and lines (Simulink reference, subsystems and signal lines; flattening is own).
+-- The flat diagram of nested blocks and lines (Simulink reference, subsystems and signal lines;
+-- flattening is own).
 use Rattle.std.specs.Prelude.{◌≡◌, ℕ, if◌then◌else◌, Bool, false, not, List, take, count_by, AllPairs, IsPermutation, Option, Some, None, slice_get}
 use Rattle.std.specs.List.{enumerate_from, filter_map}
 use Rattle.std.specs.Option.{option_map}

@@ -1,4 +1,5 @@
--- The blocks of Systems: their paths, their ports, and the enabled subsystem that holds each (Simulink reference, subsystems; paths are own).
+-- The blocks of Systems: their paths, their ports, and the enabled subsystem that holds each
+-- (Simulink reference, subsystems; paths are own).
 use Rattle.std.specs.Prelude.{ℕ, zero, suc, ◌==◌, ◌&&◌, Bool, true, false, List, [], ◌++◌, length, codes, count_by, Option, Some, None, slice_get}
 use Rattle.std.specs.List.{position}
 use Rattle.std.specs.Option.{is_some}
@@ -58,20 +59,26 @@ is_number number (Some own) = own == number
 
 -- how many blocks of a System are such
 abbrev pub count_in : List NestedBlock → Option ℕ → (Part → Bool) → ℕ
-count_in blocks system is_such = count_by (λ block. same_system block.parent system && is_such block.part) blocks
+count_in blocks system is_such =
+    count_by (λ block. same_system block.parent system && is_such block.part) blocks
 
 -- the first block of a System that is such
 abbrev pub first_in : List NestedBlock → Option ℕ → (Part → Bool) → Option ℕ
-first_in blocks system is_such = position (λ block. same_system block.parent system && is_such block.part) blocks
+first_in blocks system is_such =
+    position (λ block. same_system block.parent system && is_such block.part) blocks
 
 -- ---- ports
 
--- how many input and output ports the block at a place has: a subsystem has one for each Inport and Outport in it
+-- how many input and output ports the block at a place has: a subsystem has one for each Inport and
+-- Outport in it
 abbrev pub ports_of : List NestedBlock → ℕ → Part → ℕ × ℕ
 ports_of blocks place (Plain block) = (block.inputs, block.outputs)
 ports_of blocks place (In block number) = (0, 1)
 ports_of blocks place (Out block number) = (1, 0)
-ports_of blocks place SubSystem = (count_in blocks (Some place) (λ part. is_some (in_number part)), count_in blocks (Some place) (λ part. is_some (out_number part)))
+ports_of blocks place SubSystem = (
+  count_in blocks (Some place) (λ part. is_some (in_number part)),
+  count_in blocks (Some place) (λ part. is_some (out_number part)),
+)
 ports_of blocks place (Enable reset) = (0, 0)
 
 abbrev pub inputs_of : List NestedBlock → ℕ → Part → ℕ
@@ -102,7 +109,8 @@ control_else None (Some system) around blocks = around (system_around blocks (So
 
 abbrev pub control_within : List NestedBlock → ℕ → Option ℕ → Option ℕ
 control_within blocks zero system = None
-control_within blocks (suc levels) system = control_else (enable_port blocks system) system (control_within blocks levels) blocks
+control_within blocks (suc levels) system =
+    control_else (enable_port blocks system) system (control_within blocks levels) blocks
 
 -- there are no more levels of Systems than blocks and the root
 abbrev pub control_of : List NestedBlock → Option ℕ → Option ℕ

@@ -1,4 +1,5 @@
--- What is known of a diagram's blocks before any value is: widths, types and periods by the rounds (own).
+-- What is known of a diagram's blocks before any value is: widths, types and periods by the rounds
+-- (own).
 use Rattle.std.specs.Prelude.{ℕ, Option, Some, None, slice_get}
 use Rattle.fx_type.specs.declared.kind.FxType.{FxType}
 use Rattle.fx_type.specs.declared.kind.FxType.TheVariants.{Logical}
@@ -20,15 +21,19 @@ or_logical (Some type) = type
 abbrev pub coefficient_type : FullRule → Option FxType → Option FxType
 coefficient_type FullRule.NoFull input = None
 coefficient_type (FullRule.FullSum negative) input = None
-coefficient_type (FullRule.FullScaled value param) input = with_known input (param_type_of value param)
+coefficient_type (FullRule.FullScaled value param) input =
+    with_known input (param_type_of value param)
 coefficient_type FullRule.FullProduct input = None
 coefficient_type FullRule.UnionOfTwo input = None
 coefficient_type FullRule.UnionOfEnds input = None
 
--- the type of the coefficients of the block at a place, where it has any and its input's type is known
+-- the type of the coefficients of the block at a place, where it has any and its input's type is
+-- known
 abbrev pub param_type_at : Diagram → Types → ℕ → Option FxType
 param_type_at diagram types place =
-    with_known (slice_get diagram.blocks place) (λ block. coefficient_type (row_of block.kind).types.full (known_at (input_types diagram types place) 0))
+    with_known (slice_get diagram.blocks place)
+    (λ block. coefficient_type (row_of block.kind).types.full
+    (known_at (input_types diagram types place) 0))
 
 -- the widths, types and periods of a diagram, by the rounds
 abbrev pub attributes_of : Diagram → Attributes

@@ -44,15 +44,20 @@ pub record BreaksLoopFirst (diagram : Diagram) (fault : RuleFault) : Type 0 wher
 -- a rule is broken, and this is the fault of the first one
 abbrev pub BreaksRule : Diagram → RuleFault → Type 0
 BreaksRule diagram fault =
-    BreaksDimension diagram fault ⊎ (BreaksTypeFirst diagram fault ⊎ (BreaksRateFirst diagram fault ⊎ BreaksLoopFirst diagram fault))
+    BreaksDimension diagram fault
+    ⊎ (BreaksTypeFirst diagram fault
+    ⊎ (BreaksRateFirst diagram fault ⊎ BreaksLoopFirst diagram fault))
 
 -- ---- what is kept of a diagram that is checked
 
 -- the type of the coefficients of each block, Logical where it has none
 abbrev pub params_of : Diagram → List FxType
-params_of diagram = map (λ place. or_logical (param_type_at diagram (types_of diagram) place)) (numbers_from 0 (length diagram.blocks))
+params_of diagram =
+    map (λ place. or_logical (param_type_at diagram (types_of diagram) place))
+    (numbers_from 0 (length diagram.blocks))
 
--- these are the widths, types and periods of a diagram by the rounds, and an order of its blocks along its instant edges
+-- these are the widths, types and periods of a diagram by the rounds, and an order of its blocks
+-- along its instant edges
 pub record IsPropagated (diagram : Diagram) (values : Propagated) : Type 0 where
   pub widths : values.widths ≡ widths_of diagram
   pub types : values.types ≡ map or_logical (types_of diagram)

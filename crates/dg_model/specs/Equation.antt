@@ -1,5 +1,6 @@
--- What each kind of block gives at a hit, from the table's entries of its drivers (Simulink reference, each block's
--- page; HDL Coder guide, rate transitions). The order of the table's computation stands nowhere here.
+-- What each kind of block gives at a hit, from the table's entries of its drivers (Simulink
+-- reference, each block's page; HDL Coder guide, rate transitions). The order of the table's
+-- computation stands nowhere here.
 use Rattle.std.specs.Prelude.{◌≡◌, ℕ, suc, ◌+◌, ◌-◌, ◌<◌, ℤ, pos, int_lt, Bool, true, false, MatchBool, List, [], length, map, sum, take, filter, slice_get, slice_index, Option, Some, None, MatchOption}
 use Rattle.std.specs.List.{list_any}
 use Rattle.fx_type.specs.declared.kind.FxType.{FxType}
@@ -19,11 +20,13 @@ use Rattle.dg_waves.specs.Rounds.{numbers_from}
 use Rattle.dg_model.specs.Wires.{width_into, widths_into, type_into, types_into, period_into, value_into, values_into, entry_of}
 use Rattle.dg_model.specs.Operation.{OpGives, stored_truth}
 
--- v is a list parameter's entry for an element, stored in a type (Simulink reference: parameters round to nearest and saturate)
+-- v is a list parameter's entry for an element, stored in a type (Simulink reference: parameters
+-- round to nearest and saturate)
 abbrev pub StoresEntry : List Decimal → ℕ → FxType → ℤ → Type 0
 StoresEntry list element type v = MatchOption (entry_of list element) ⊥ (λ decimal. Stores decimal type v)
 
--- the operation of a kind that carries one out at an element, with the type of its Gain's coefficients and of its input 2
+-- the operation of a kind that carries one out at an element, with the type of its Gain's
+-- coefficients and of its input 2
 abbrev pub IsOpOf : Kind → ℕ → FxType → FxType → Op → Type 0
 IsOpOf (Inport number width) element param control op = ⊥
 IsOpOf (Outport number) element param control op = op ≡ OpPass
@@ -97,7 +100,8 @@ module _ (diagram : Diagram) (attributes : Attributes) (stimulus : Stimulus) (ta
   DemuxEquation block port element t v =
       v ≡ value_into diagram attributes table block 1 (sum (map (attributes.width_at block) (numbers_from 1 (port - 1))) + element) t
 
-  -- a rate transition: from slow to fast its input at the slow hit before the last one up to t, else its input at t
+  -- a rate transition: from slow to fast its input at the slow hit before the last one up to t,
+  -- else its input at t
   abbrev pub RateEquation : ℕ → List Decimal → ℕ → ℕ → ℤ → Type 0
   RateEquation block initial element t v =
       let slow = period_into diagram attributes block 1
@@ -110,7 +114,8 @@ module _ (diagram : Diagram) (attributes : Attributes) (stimulus : Stimulus) (ta
   EnableEquation block t v =
       v ≡ stored_truth (list_any (λ element. int_lt (pos 0) (value_into diagram attributes table block 1 element t)) (numbers_from 0 (width_into diagram attributes block 1)))
 
-  -- an output port of an enabled subsystem: with held output its input at the last enabled hit up to t, with reset output its input where t is enabled
+  -- an output port of an enabled subsystem: with held output its input at the last enabled hit up
+  -- to t, with reset output its input where t is enabled
   abbrev pub EnOutEquation : Block → ℕ → Bool → List Decimal → ℕ → ℕ → ℤ → Type 0
   EnOutEquation b block false initial element t v =
       IsInputAt block initial element (slice_get (filter (is_enabled table b.enable) (hits_before (attributes.period_at block) (suc t))) 0) v

@@ -21,16 +21,20 @@ fault_of rule place shown = record { rule = rule; place = place; shown = shown }
 
 -- each block keeps a part of a rule
 abbrev pub AllKeep : Diagram → (ℕ → Block → Type 0) → Type 0
-AllKeep diagram Keeps = (place : ℕ) (block : Block) → slice_get diagram.blocks place ≡ Some block → Keeps place block
+AllKeep diagram Keeps =
+    (place : ℕ) (block : Block) → slice_get diagram.blocks place ≡ Some block → Keeps place block
 
 -- this block is the first that doesn't
-pub record IsFirstBroken (diagram : Diagram) (Keeps : ℕ → Block → Type 0) (place : ℕ) (block : Block) : Type 0 where
+pub record IsFirstBroken (diagram : Diagram) (Keeps : ℕ → Block → Type 0) (place : ℕ)
+    (block : Block) : Type 0 where
   pub there : slice_get diagram.blocks place ≡ Some block
   pub broken : ¬ Keeps place block
-  pub before : (other : ℕ) (b : Block) → other < place → slice_get diagram.blocks other ≡ Some b → Keeps other b
+  pub before : (other : ℕ) (b : Block) → other < place → slice_get diagram.blocks other ≡ Some b
+      → Keeps other b
 
 -- the first block that breaks a part of a rule is told, and this is shown beside
-pub record BreaksAt (diagram : Diagram) (rule : Rule) (Keeps : ℕ → Block → Type 0) (shown : ℕ → Block → Shown) (fault : RuleFault) : Type 0 where
+pub record BreaksAt (diagram : Diagram) (rule : Rule) (Keeps : ℕ → Block → Type 0)
+    (shown : ℕ → Block → Shown) (fault : RuleFault) : Type 0 where
   pub place : ℕ
   pub block : Block
   pub first : IsFirstBroken diagram Keeps place block

@@ -1,4 +1,5 @@
--- The type of a Gain's coefficients (Simulink reference, `ParamDataTypeStr`; what the internal rule gives is own).
+-- The type of a Gain's coefficients (Simulink reference, `ParamDataTypeStr`; what the internal rule
+-- gives is own).
 use Rattle.std.specs.Prelude.{◌≡◌, ◌↔◌, ℕ, ◌==◌, ◌&&◌, ◌||◌, ℤ, pos, negsuc, ◌-ℤ◌, ◌≤ℤ◌, ◌<ℤ◌, nat_lt, Bool, cond, MatchBool, Option, Some, None, List, All}
 use Rattle.std.specs.List.{list_any, list_all, find, range_with_len}
 use Rattle.std.specs.Option.{option_map}
@@ -26,15 +27,19 @@ is_param_signed value input = is_signed input || list_any is_negative value
 
 -- its width: that of the input, and 2 for a signed width of 1
 abbrev pub param_width : List Decimal → FxType → ℕ
-param_width value input = cond (is_param_signed value input && (width_of input == 1)) 2 (width_of input)
+param_width value input =
+    cond (is_param_signed value input && (width_of input == 1)) 2 (width_of input)
 
 -- every element, rounded to the nearest, is in range at a frac
 abbrev pub FitsAt : List Decimal → Bool → ℕ → ℤ → Type 0
 FitsAt value signed width frac =
-    let type = Num signed width frac in All (λ decimal. (r : ℤ) × (stored : Stores decimal type r) × InRange type stored.rounded) value
+    let type =
+    Num signed width frac in All
+    (λ decimal. (r : ℤ) × (stored : Stores decimal type r) × InRange type stored.rounded) value
 
 -- the greatest frac at which every element fits
-pub record IsGreatestFit (value : List Decimal) (signed : Bool) (width : ℕ) (frac : ℤ) : Type 0 where
+pub record IsGreatestFit (value : List Decimal) (signed : Bool) (width : ℕ)
+    (frac : ℤ) : Type 0 where
   pub low : negsuc 63 ≤ℤ frac
   pub high : frac ≤ℤ pos 128
   pub fits : FitsAt value signed width frac
@@ -44,7 +49,8 @@ pub record IsGreatestFit (value : List Decimal) (signed : Bool) (width : ℕ) (f
 abbrev pub IsInternalParam : List Decimal → FxType → FxType → Type 0
 IsInternalParam value input param =
     (frac : ℤ) × (param ≡ Num (is_param_signed value input) (param_width value input) frac)
-    × MatchBool (list_all is_zero value) (frac ≡ pos 0) (IsGreatestFit value (is_param_signed value input) (param_width value input) frac)
+    × MatchBool (list_all is_zero value) (frac ≡ pos 0)
+    (IsGreatestFit value (is_param_signed value input) (param_width value input) frac)
 
 -- the type of a Gain's coefficients, from its list, its specification and the type of its input
 abbrev pub IsParamType : List Decimal → TypeSpec → FxType → FxType → Type 0
@@ -54,7 +60,8 @@ IsParamType value spec input param = IsSpecified spec input (IsInternalParam val
 
 -- whether every element, rounded to the nearest, is in range at a frac
 abbrev pub fits_at : List Decimal → Bool → ℕ → ℤ → Bool
-fits_at value signed width frac = list_all (λ decimal. is_in_range (Num signed width frac) (rounded_of decimal frac)) value
+fits_at value signed width frac =
+    list_all (λ decimal. is_in_range (Num signed width frac) (rounded_of decimal frac)) value
 
 -- the fracs from the greatest, 128, down
 abbrev pub frac_down : ℕ → ℤ
@@ -62,13 +69,17 @@ frac_down steps = pos 128 -ℤ pos steps
 
 -- the greatest of the 193 fracs at which every element fits
 abbrev pub greatest_fit_of : List Decimal → Bool → ℕ → Option ℤ
-greatest_fit_of value signed width = option_map frac_down (find (λ steps. fits_at value signed width (frac_down steps)) (range_with_len 0 193))
+greatest_fit_of value signed width =
+    option_map frac_down
+    (find (λ steps. fits_at value signed width (frac_down steps)) (range_with_len 0 193))
 
 -- the internal rule's type
 abbrev pub internal_param_of : List Decimal → FxType → Option FxType
 internal_param_of value input =
     let signed = is_param_signed value input in
-    let width = param_width value input in option_map (Num signed width) (cond (list_all is_zero value) (Some (pos 0)) (greatest_fit_of value signed width))
+    let width =
+    param_width value input in option_map (Num signed width)
+    (cond (list_all is_zero value) (Some (pos 0)) (greatest_fit_of value signed width))
 
 -- the type of a Gain's coefficients
 abbrev pub param_type_of : List Decimal → TypeSpec → FxType → Option FxType
@@ -79,4 +90,6 @@ param_type_of value Auto input = None
 
 -- the function gives the one type that the relation allows, or none
 abbrev pub ParamTypeIsOne : Type 0
-ParamTypeIsOne = (value : List Decimal) (spec : TypeSpec) (input param : FxType) → (IsParamType value spec input param ↔ (param_type_of value spec input ≡ Some param))
+ParamTypeIsOne =
+    (value : List Decimal) (spec : TypeSpec) (input param : FxType)
+    → (IsParamType value spec input param ↔ (param_type_of value spec input ≡ Some param))

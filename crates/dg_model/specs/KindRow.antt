@@ -1,4 +1,5 @@
--- What is told of each kind of block: the columns of its row (Simulink reference, each block's page; the limits are own).
+-- What is told of each kind of block: the columns of its row (Simulink reference, each block's
+-- page; the limits are own).
 use Rattle.std.specs.Prelude.{◌≡◌, ℕ, ◌≤◌, ◌<◌, Bool, IsFalse, List, length, ⊤}
 use Rattle.fx_type.specs.declared.spec.TypeSpec.{TypeSpec}
 use Rattle.fx_type.specs.declared.spec.TypeSpec.TheVariants.{Fixed, Internal, SameFirst, Auto}

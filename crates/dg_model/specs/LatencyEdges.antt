@@ -8,7 +8,8 @@ use Rattle.dg_model.specs.declared.nested.Target.TheVariants.{Port, Enable}
 use Rattle.dg_model.specs.declared.row.Asking.{Asking}
 use Rattle.dg_model.specs.Library.{row_of}
 
--- a line from an output port of a block to an input port of another, or from a control to a block that it enables
+-- a line from an output port of a block to an input port of another, or from a control to a block
+-- that it enables
 pub record LatencyEdge : Type 0 where
   pub from : ℕ
   pub from_port : ℕ
@@ -35,6 +36,7 @@ abbrev pub enable_edges_from : ℕ → List Block → List LatencyEdge
 enable_edges_from place [] = []
 enable_edges_from place (block ∷ blocks) = enable_edge place (asks_ever (row_of block.kind).timing.asks) block.enable ++ enable_edges_from (suc place) blocks
 
--- the edges for latency: those of the diagram in their order, and then the enable edges. An edge is named by its place in this list, from 0
+-- the edges for latency: those of the diagram in their order, and then the enable edges. An edge is
+-- named by its place in this list, from 0
 abbrev pub latency_edges : Diagram → List LatencyEdge
 latency_edges diagram = map signal_edge diagram.edges ++ enable_edges_from 0 diagram.blocks

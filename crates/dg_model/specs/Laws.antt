@@ -27,7 +27,9 @@ TypesAreOfEdges = (diagram : Diagram) (attributes : Attributes) (place : ℕ) (b
 
 -- and their values
 abbrev pub ValuesAreOfEdges : Type 0
-ValuesAreOfEdges = (diagram : Diagram) (attributes : Attributes) (table : Table) (place : ℕ) (block : Block) (element t : ℕ) → IsWired diagram → slice_get diagram.blocks place ≡ Some block
+ValuesAreOfEdges =
+    (diagram : Diagram) (attributes : Attributes) (table : Table) (place : ℕ) (block : Block)
+    (element t : ℕ) → IsWired diagram → slice_get diagram.blocks place ≡ Some block
     → values_into diagram attributes table place block.inputs element t
     ≡ map (λ edge. table edge.from edge.from_port (repeated (attributes.width_at edge.from edge.from_port) element) t) (edges_into diagram place)
 
@@ -36,7 +38,9 @@ ValuesAreOfEdges = (diagram : Diagram) (attributes : Attributes) (table : Table)
 -- what stands in the list of root elements of these ports and widths is an element of a port
 abbrev pub IsElementOfPort : (Role → Option ℕ) → (ℕ → ℕ) → Diagram → Attributes → RootElement → Type 0
 IsElementOfPort number_of width_of diagram attributes e =
-    (b : Block) × (slice_get diagram.blocks e.block ≡ Some b) × (number_in number_of b ≡ Some e.number) × (e.element < width_of e.block) × (e ≡ root_element attributes e.number e.block e.element)
+    (b : Block) × (slice_get diagram.blocks e.block ≡ Some b)
+    × (number_in number_of b ≡ Some e.number) × (e.element < width_of e.block)
+    × (e ≡ root_element attributes e.number e.block e.element)
 
 -- the list has each element of each port
 abbrev pub HasEachElement : (Role → Option ℕ) → (ℕ → ℕ) → Diagram → Attributes → List RootElement → Type 0
@@ -46,7 +50,10 @@ HasEachElement number_of width_of diagram attributes elements =
 
 -- each of them stands at one place
 abbrev pub AreDifferent : List RootElement → Type 0
-AreDifferent elements = (place other : ℕ) (e o : RootElement) → slice_get elements place ≡ Some e → slice_get elements other ≡ Some o → e.number ≡ o.number → e.element ≡ o.element → place ≡ other
+AreDifferent elements =
+    (place other : ℕ) (e o : RootElement) → slice_get elements place ≡ Some e
+    → slice_get elements other ≡ Some o → e.number ≡ o.number → e.element ≡ o.element
+    → place ≡ other
 
 -- the list has each element of each such port at one place, and nothing else
 pub record AreRootElements (number_of : Role → Option ℕ) (width_of : ℕ → ℕ) (diagram : Diagram) (attributes : Attributes) (elements : List RootElement) : Type 0 where
@@ -57,12 +64,17 @@ pub record AreRootElements (number_of : Role → Option ℕ) (width_of : ℕ →
 -- the list of root inputs of a wired diagram is such
 abbrev pub InputsAreListed : Type 0
 InputsAreListed =
-    (diagram : Diagram) (attributes : Attributes) → IsWired diagram → AreRootElements root_input (λ block. attributes.width_at block 1) diagram attributes (root_inputs diagram attributes)
+    (diagram : Diagram) (attributes : Attributes) → IsWired diagram
+    → AreRootElements root_input (λ block. attributes.width_at block 1) diagram attributes
+    (root_inputs diagram attributes)
 
 -- so is that of its root outputs
 abbrev pub OutputsAreListed : Type 0
 OutputsAreListed =
-    (diagram : Diagram) (attributes : Attributes) → IsWired diagram → AreRootElements root_output (λ block. width_into diagram attributes block 1) diagram attributes (root_outputs diagram attributes)
+    (diagram : Diagram) (attributes : Attributes) → IsWired diagram
+    → AreRootElements root_output
+    (λ block. width_into diagram attributes block 1) diagram attributes
+    (root_outputs diagram attributes)
 
 -- columns of numbers in range make a stimulus
 abbrev pub ColumnsMakeStimulus : Type 0
@@ -71,7 +83,9 @@ ColumnsMakeStimulus = (diagram : Diagram) (attributes : Attributes) (column : �
 
 -- which gives them back
 abbrev pub ColumnsComeBack : Type 0
-ColumnsComeBack = (diagram : Diagram) (attributes : Attributes) (column : ℕ → ℕ → ℤ) (place : ℕ) (e : RootElement) (t : ℕ) → IsWired diagram → slice_get (root_inputs diagram attributes) place ≡ Some e
+ColumnsComeBack =
+    (diagram : Diagram) (attributes : Attributes) (column : ℕ → ℕ → ℤ) (place : ℕ) (e : RootElement)
+    (t : ℕ) → IsWired diagram → slice_get (root_inputs diagram attributes) place ≡ Some e
     → stimulus_of_columns (root_inputs diagram attributes) column e.number e.element t ≡ column place t
 
 -- a stimulus gives such columns

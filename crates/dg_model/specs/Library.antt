@@ -1,4 +1,6 @@
--- What each kind of block may carry and how it behaves beside its equation: one row a kind (Simulink reference, each block's page; the limits are own). A new kind has no meaning before it has a row.
+-- What each kind of block may carry and how it behaves beside its equation: one row a kind
+-- (Simulink reference, each block's page; the limits are own). A new kind has no meaning before it
+-- has a row.
 use Rattle.std.specs.Prelude.{◌≡◌, ℕ, ◌⊎◌, pos, Bool, true, false, IsFalse, MatchBool, List, [], ◌∷◌, length, All, ⊤}
 use Rattle.fx_type.specs.declared.kind.FxType.TheVariants.{Num, Logical as LogicalType}
 use Rattle.fx_type.specs.declared.spec.TypeSpec.TheVariants.{Auto}
@@ -41,8 +43,16 @@ row_of (Inport number width) = record {
   ports = record { inputs = Only 0; outputs = Only 1 };
   parameters = IsBetween 1 most_blocks number × IsBetween 0 widest_signal width;
   signal = record { shape = Shape.Elementwise; lists = []; width = width };
-  types = record { may_be = MayBeFixed; own = OwnType.Untyped; full = FullRule.NoFull; rounds = false };
-  timing = record { may_be = MayDeclare; inherits = Inherited.Base; reads = Reading.Now; asks = Asking.Never; delay = 0 };
+  types =
+      record { may_be = MayBeFixed; own = OwnType.Untyped; full = FullRule.NoFull; rounds = false };
+  timing =
+      record {
+        may_be = MayDeclare;
+        inherits = Inherited.Base;
+        reads = Reading.Now;
+        asks = Asking.Never;
+        delay = 0;
+      };
   hardware = record { pipelines = false; multiplies = false };
 }
 row_of (Outport number) = record {
@@ -50,8 +60,16 @@ row_of (Outport number) = record {
   ports = record { inputs = Only 1; outputs = Only 0 };
   parameters = IsBetween 1 most_blocks number;
   signal = record { shape = Shape.Elementwise; lists = []; width = 0 };
-  types = record { may_be = MayBeFixed; own = OwnType.OfInput; full = FullRule.NoFull; rounds = false };
-  timing = record { may_be = MayDeclare; inherits = Inherited.Moving; reads = Reading.Now; asks = Asking.Never; delay = 0 };
+  types =
+      record { may_be = MayBeFixed; own = OwnType.OfInput; full = FullRule.NoFull; rounds = false };
+  timing =
+      record {
+        may_be = MayDeclare;
+        inherits = Inherited.Moving;
+        reads = Reading.Now;
+        asks = Asking.Never;
+        delay = 0;
+      };
   hardware = record { pipelines = false; multiplies = false };
 }
 row_of (Constant value) = record {
@@ -59,8 +77,16 @@ row_of (Constant value) = record {
   ports = record { inputs = Only 0; outputs = Only 1 };
   parameters = IsList value;
   signal = record { shape = Shape.Elementwise; lists = value ∷ []; width = length value };
-  types = record { may_be = MayBeFixed; own = OwnType.Untyped; full = FullRule.NoFull; rounds = false };
-  timing = record { may_be = IsConstantPeriod; inherits = Inherited.Unchanging; reads = Reading.Now; asks = Asking.Never; delay = 0 };
+  types =
+      record { may_be = MayBeFixed; own = OwnType.Untyped; full = FullRule.NoFull; rounds = false };
+  timing =
+      record {
+        may_be = IsConstantPeriod;
+        inherits = Inherited.Unchanging;
+        reads = Reading.Now;
+        asks = Asking.Never;
+        delay = 0;
+      };
   hardware = record { pipelines = false; multiplies = false };
 }
 row_of Ground = record {
@@ -68,8 +94,21 @@ row_of Ground = record {
   ports = record { inputs = Only 0; outputs = Only 1 };
   parameters = ⊤;
   signal = record { shape = Shape.Elementwise; lists = []; width = 0 };
-  types = record { may_be = Only Auto; own = OwnType.Always (Num false 1 (pos 0)); full = FullRule.NoFull; rounds = false };
-  timing = record { may_be = Only Inherit; inherits = Inherited.Unchanging; reads = Reading.Now; asks = Asking.Never; delay = 0 };
+  types =
+      record {
+        may_be = Only Auto;
+        own = OwnType.Always (Num false 1 (pos 0));
+        full = FullRule.NoFull;
+        rounds = false;
+      };
+  timing =
+      record {
+        may_be = Only Inherit;
+        inherits = Inherited.Unchanging;
+        reads = Reading.Now;
+        asks = Asking.Never;
+        delay = 0;
+      };
   hardware = record { pipelines = false; multiplies = false };
 }
 row_of (Sum negative) = record {
@@ -77,8 +116,21 @@ row_of (Sum negative) = record {
   ports = record { inputs = Only (length negative); outputs = Only 1 };
   parameters = IsBetween 2 32 (length negative);
   signal = record { shape = Shape.Elementwise; lists = []; width = 0 };
-  types = record { may_be = IsChoice; own = OwnType.Untyped; full = FullRule.FullSum negative; rounds = true };
-  timing = record { may_be = MayDeclare; inherits = Inherited.OfSources; reads = Reading.Now; asks = Asking.Never; delay = 0 };
+  types =
+      record {
+        may_be = IsChoice;
+        own = OwnType.Untyped;
+        full = FullRule.FullSum negative;
+        rounds = true;
+      };
+  timing =
+      record {
+        may_be = MayDeclare;
+        inherits = Inherited.OfSources;
+        reads = Reading.Now;
+        asks = Asking.Never;
+        delay = 0;
+      };
   hardware = record { pipelines = true; multiplies = false };
 }
 row_of (Gain value param) = record {
@@ -86,8 +138,21 @@ row_of (Gain value param) = record {
   ports = record { inputs = Only 1; outputs = Only 1 };
   parameters = IsList value × IsChoice param × IsSpec param;
   signal = record { shape = Shape.Elementwise; lists = value ∷ []; width = 0 };
-  types = record { may_be = IsChoice; own = OwnType.Untyped; full = FullRule.FullScaled value param; rounds = true };
-  timing = record { may_be = MayDeclare; inherits = Inherited.OfSources; reads = Reading.Now; asks = Asking.Never; delay = 0 };
+  types =
+      record {
+        may_be = IsChoice;
+        own = OwnType.Untyped;
+        full = FullRule.FullScaled value param;
+        rounds = true;
+      };
+  timing =
+      record {
+        may_be = MayDeclare;
+        inherits = Inherited.OfSources;
+        reads = Reading.Now;
+        asks = Asking.Never;
+        delay = 0;
+      };
   hardware = record { pipelines = true; multiplies = true };
 }
 row_of Product = record {
@@ -95,8 +160,21 @@ row_of Product = record {
   ports = record { inputs = Only 2; outputs = Only 1 };
   parameters = ⊤;
   signal = record { shape = Shape.Elementwise; lists = []; width = 0 };
-  types = record { may_be = IsChoice; own = OwnType.Untyped; full = FullRule.FullProduct; rounds = true };
-  timing = record { may_be = MayDeclare; inherits = Inherited.OfSources; reads = Reading.Now; asks = Asking.Never; delay = 0 };
+  types =
+      record {
+        may_be = IsChoice;
+        own = OwnType.Untyped;
+        full = FullRule.FullProduct;
+        rounds = true;
+      };
+  timing =
+      record {
+        may_be = MayDeclare;
+        inherits = Inherited.OfSources;
+        reads = Reading.Now;
+        asks = Asking.Never;
+        delay = 0;
+      };
   hardware = record { pipelines = true; multiplies = true };
 }
 row_of (Switch criterion threshold) = record {
@@ -104,8 +182,21 @@ row_of (Switch criterion threshold) = record {
   ports = record { inputs = Only 3; outputs = Only 1 };
   parameters = IsList threshold;
   signal = record { shape = Shape.Elementwise; lists = threshold ∷ []; width = 0 };
-  types = record { may_be = IsChoice; own = OwnType.Untyped; full = FullRule.UnionOfEnds; rounds = true };
-  timing = record { may_be = MayDeclare; inherits = Inherited.OfSources; reads = Reading.Now; asks = Asking.Never; delay = 0 };
+  types =
+      record {
+        may_be = IsChoice;
+        own = OwnType.Untyped;
+        full = FullRule.UnionOfEnds;
+        rounds = true;
+      };
+  timing =
+      record {
+        may_be = MayDeclare;
+        inherits = Inherited.OfSources;
+        reads = Reading.Now;
+        asks = Asking.Never;
+        delay = 0;
+      };
   hardware = record { pipelines = true; multiplies = false };
 }
 row_of (Relational operator) = record {
@@ -113,8 +204,21 @@ row_of (Relational operator) = record {
   ports = record { inputs = Only 2; outputs = Only 1 };
   parameters = ⊤;
   signal = record { shape = Shape.Elementwise; lists = []; width = 0 };
-  types = record { may_be = Only Auto; own = OwnType.Always LogicalType; full = FullRule.UnionOfTwo; rounds = false };
-  timing = record { may_be = MayDeclare; inherits = Inherited.OfSources; reads = Reading.Now; asks = Asking.Never; delay = 0 };
+  types =
+      record {
+        may_be = Only Auto;
+        own = OwnType.Always LogicalType;
+        full = FullRule.UnionOfTwo;
+        rounds = false;
+      };
+  timing =
+      record {
+        may_be = MayDeclare;
+        inherits = Inherited.OfSources;
+        reads = Reading.Now;
+        asks = Asking.Never;
+        delay = 0;
+      };
   hardware = record { pipelines = true; multiplies = false };
 }
 row_of (Logic operator) = record {
@@ -122,8 +226,21 @@ row_of (Logic operator) = record {
   ports = record { inputs = HasOperands operator; outputs = Only 1 };
   parameters = ⊤;
   signal = record { shape = Shape.Elementwise; lists = []; width = 0 };
-  types = record { may_be = Only Auto; own = OwnType.Always LogicalType; full = FullRule.NoFull; rounds = false };
-  timing = record { may_be = MayDeclare; inherits = Inherited.OfSources; reads = Reading.Now; asks = Asking.Never; delay = 0 };
+  types =
+      record {
+        may_be = Only Auto;
+        own = OwnType.Always LogicalType;
+        full = FullRule.NoFull;
+        rounds = false;
+      };
+  timing =
+      record {
+        may_be = MayDeclare;
+        inherits = Inherited.OfSources;
+        reads = Reading.Now;
+        asks = Asking.Never;
+        delay = 0;
+      };
   hardware = record { pipelines = true; multiplies = false };
 }
 row_of (Convert stored) = record {
@@ -132,7 +249,14 @@ row_of (Convert stored) = record {
   parameters = ⊤;
   signal = record { shape = Shape.Elementwise; lists = []; width = 0 };
   types = record { may_be = IsFixed; own = OwnType.Untyped; full = FullRule.NoFull; rounds = true };
-  timing = record { may_be = MayDeclare; inherits = Inherited.OfSources; reads = Reading.Now; asks = Asking.Never; delay = 0 };
+  timing =
+      record {
+        may_be = MayDeclare;
+        inherits = Inherited.OfSources;
+        reads = Reading.Now;
+        asks = Asking.Never;
+        delay = 0;
+      };
   hardware = record { pipelines = true; multiplies = false };
 }
 row_of (Delay delay initial reset) = record {
@@ -140,8 +264,16 @@ row_of (Delay delay initial reset) = record {
   ports = record { inputs = Only 1; outputs = Only 1 };
   parameters = IsBetween 1 longest_delay delay × IsList initial;
   signal = record { shape = Shape.Elementwise; lists = initial ∷ []; width = 0 };
-  types = record { may_be = Only Auto; own = OwnType.OfInput; full = FullRule.NoFull; rounds = false };
-  timing = record { may_be = MayDeclare; inherits = Inherited.Moving; reads = Reading.Before; asks = Asking.Before; delay = delay };
+  types =
+      record { may_be = Only Auto; own = OwnType.OfInput; full = FullRule.NoFull; rounds = false };
+  timing =
+      record {
+        may_be = MayDeclare;
+        inherits = Inherited.Moving;
+        reads = Reading.Before;
+        asks = Asking.Before;
+        delay = delay;
+      };
   hardware = record { pipelines = false; multiplies = false };
 }
 row_of (Mux sizes) = record {
@@ -149,17 +281,35 @@ row_of (Mux sizes) = record {
   ports = record { inputs = HasParts sizes; outputs = Only 1 };
   parameters = IsBetween 0 longest_list (length sizes) × All (IsBetween 1 widest_signal) sizes;
   signal = record { shape = Shape.Joined sizes; lists = []; width = 0 };
-  types = record { may_be = Only Auto; own = OwnType.OfInput; full = FullRule.NoFull; rounds = false };
-  timing = record { may_be = Only Inherit; inherits = Inherited.OfSources; reads = Reading.Now; asks = Asking.Never; delay = 0 };
+  types =
+      record { may_be = Only Auto; own = OwnType.OfInput; full = FullRule.NoFull; rounds = false };
+  timing =
+      record {
+        may_be = Only Inherit;
+        inherits = Inherited.OfSources;
+        reads = Reading.Now;
+        asks = Asking.Never;
+        delay = 0;
+      };
   hardware = record { pipelines = false; multiplies = false };
 }
 row_of (Demux sizes) = record {
   place = record { role = Role.Plain; stands = Standing.Anywhere };
   ports = record { inputs = Only 1; outputs = Only (length sizes) };
-  parameters = IsBetween 1 longest_list (length sizes) × (All (IsBetween 1 widest_signal) sizes ⊎ All (Only 0) sizes);
+  parameters =
+      IsBetween 1 longest_list (length sizes)
+      × (All (IsBetween 1 widest_signal) sizes ⊎ All (Only 0) sizes);
   signal = record { shape = Shape.Parted sizes; lists = []; width = 0 };
-  types = record { may_be = Only Auto; own = OwnType.OfInput; full = FullRule.NoFull; rounds = false };
-  timing = record { may_be = Only Inherit; inherits = Inherited.OfSources; reads = Reading.Now; asks = Asking.Never; delay = 0 };
+  types =
+      record { may_be = Only Auto; own = OwnType.OfInput; full = FullRule.NoFull; rounds = false };
+  timing =
+      record {
+        may_be = Only Inherit;
+        inherits = Inherited.OfSources;
+        reads = Reading.Now;
+        asks = Asking.Never;
+        delay = 0;
+      };
   hardware = record { pipelines = false; multiplies = false };
 }
 row_of (RateTransition period initial) = record {
@@ -167,8 +317,16 @@ row_of (RateTransition period initial) = record {
   ports = record { inputs = Only 1; outputs = Only 1 };
   parameters = IsPeriod period × IsList initial;
   signal = record { shape = Shape.Elementwise; lists = initial ∷ []; width = 0 };
-  types = record { may_be = Only Auto; own = OwnType.OfInput; full = FullRule.NoFull; rounds = false };
-  timing = record { may_be = Only (Every period); inherits = Inherited.OfSources; reads = Reading.BeforeIfSlower; asks = Asking.Never; delay = 0 };
+  types =
+      record { may_be = Only Auto; own = OwnType.OfInput; full = FullRule.NoFull; rounds = false };
+  timing =
+      record {
+        may_be = Only (Every period);
+        inherits = Inherited.OfSources;
+        reads = Reading.BeforeIfSlower;
+        asks = Asking.Never;
+        delay = 0;
+      };
   hardware = record { pipelines = false; multiplies = false };
 }
 row_of (Pass width) = record {
@@ -176,8 +334,16 @@ row_of (Pass width) = record {
   ports = record { inputs = Only 1; outputs = Only 1 };
   parameters = IsBetween 0 widest_signal width;
   signal = record { shape = Shape.Elementwise; lists = []; width = width };
-  types = record { may_be = MayBeFixed; own = OwnType.OfInput; full = FullRule.NoFull; rounds = false };
-  timing = record { may_be = MayDeclare; inherits = Inherited.OfSources; reads = Reading.Now; asks = Asking.Never; delay = 0 };
+  types =
+      record { may_be = MayBeFixed; own = OwnType.OfInput; full = FullRule.NoFull; rounds = false };
+  timing =
+      record {
+        may_be = MayDeclare;
+        inherits = Inherited.OfSources;
+        reads = Reading.Now;
+        asks = Asking.Never;
+        delay = 0;
+      };
   hardware = record { pipelines = false; multiplies = false };
 }
 row_of EnableTest = record {
@@ -185,8 +351,21 @@ row_of EnableTest = record {
   ports = record { inputs = Only 1; outputs = Only 1 };
   parameters = ⊤;
   signal = record { shape = Shape.Single; lists = []; width = 0 };
-  types = record { may_be = Only Auto; own = OwnType.Always LogicalType; full = FullRule.NoFull; rounds = false };
-  timing = record { may_be = Only Inherit; inherits = Inherited.OfSources; reads = Reading.Now; asks = Asking.Never; delay = 0 };
+  types =
+      record {
+        may_be = Only Auto;
+        own = OwnType.Always LogicalType;
+        full = FullRule.NoFull;
+        rounds = false;
+      };
+  timing =
+      record {
+        may_be = Only Inherit;
+        inherits = Inherited.OfSources;
+        reads = Reading.Now;
+        asks = Asking.Never;
+        delay = 0;
+      };
   hardware = record { pipelines = false; multiplies = false };
 }
 row_of (EnOut reset initial) = record {
@@ -194,8 +373,16 @@ row_of (EnOut reset initial) = record {
   ports = record { inputs = Only 1; outputs = Only 1 };
   parameters = IsList initial;
   signal = record { shape = Shape.Elementwise; lists = initial ∷ []; width = 0 };
-  types = record { may_be = MayBeFixed; own = OwnType.OfInput; full = FullRule.NoFull; rounds = false };
-  timing = record { may_be = MayDeclare; inherits = Inherited.Moving; reads = Reading.Now; asks = Asking.Now; delay = 0 };
+  types =
+      record { may_be = MayBeFixed; own = OwnType.OfInput; full = FullRule.NoFull; rounds = false };
+  timing =
+      record {
+        may_be = MayDeclare;
+        inherits = Inherited.Moving;
+        reads = Reading.Now;
+        asks = Asking.Now;
+        delay = 0;
+      };
   hardware = record { pipelines = false; multiplies = false };
 }
 row_of Terminator = record {
@@ -203,18 +390,28 @@ row_of Terminator = record {
   ports = record { inputs = Only 1; outputs = Only 0 };
   parameters = ⊤;
   signal = record { shape = Shape.Elementwise; lists = []; width = 0 };
-  types = record { may_be = Only Auto; own = OwnType.Untyped; full = FullRule.NoFull; rounds = false };
-  timing = record { may_be = Only Inherit; inherits = Inherited.OfSources; reads = Reading.Now; asks = Asking.Never; delay = 0 };
+  types =
+      record { may_be = Only Auto; own = OwnType.Untyped; full = FullRule.NoFull; rounds = false };
+  timing =
+      record {
+        may_be = Only Inherit;
+        inherits = Inherited.OfSources;
+        reads = Reading.Now;
+        asks = Asking.Never;
+        delay = 0;
+      };
   hardware = record { pipelines = false; multiplies = false };
 }
 
 -- how many input and output ports a kind has
 abbrev pub HasPorts : Kind → ℕ → ℕ → Type 0
-HasPorts kind inputs outputs = (row_of kind).ports.inputs inputs × (row_of kind).ports.outputs outputs
+HasPorts kind inputs outputs =
+    (row_of kind).ports.inputs inputs × (row_of kind).ports.outputs outputs
 
 -- a kind that doesn't round has no rounding and no saturation
 abbrev pub HasRounding : Kind → Rounding → Bool → Type 0
-HasRounding kind rounding saturate = MatchBool (row_of kind).types.rounds ⊤ ((rounding ≡ Floor) × IsFalse saturate)
+HasRounding kind rounding saturate =
+    MatchBool (row_of kind).types.rounds ⊤ ((rounding ≡ Floor) × IsFalse saturate)
 
 -- a block is such as its text in a model can be
 pub record IsReadable (block : Block) : Type 0 where

@@ -5,4 +5,5 @@ use Rattle.std.specs.List.{flat_map}
 
 -- a name in a path: a `/` inside it stands twice
 abbrev pub escaped : List ℕ → List ℕ
-escaped name = flat_map (λ byte. if byte == code "/" then code "/" ∷ code "/" ∷ [] else byte ∷ []) name
+escaped name =
+    flat_map (λ byte. if byte == code "/" then code "/" ∷ code "/" ∷ [] else byte ∷ []) name

@@ -1,6 +1,6 @@
--- What an elementwise operation gives (Simulink reference, Sum, Product, Gain, Switch, Relational Operator, Logical
--- Operator, Data Type Conversion). The exact result is computed without loss and then converted once. That Relational
--- compares exact real values is own.
+-- What an elementwise operation gives (Simulink reference, Sum, Product, Gain, Switch, Relational
+-- Operator, Logical Operator, Data Type Conversion). The exact result is computed without loss and
+-- then converted once. That Relational compares exact real values is own.
 use Rattle.std.specs.Prelude.{◌≡◌, ℕ, ◌%◌, ◌<◌, ◌≤◌, ◌==◌, ℤ, pos, ◌+ℤ◌, ◌*ℤ◌, int_lt, int_le, Bool, true, false, not, cond, MatchBool, List, [], ◌∷◌, length, slice_index_or, zip, count_by, All, ⊤}
 use Rattle.std.specs.List.{list_any, list_all}
 use Rattle.std.specs.Int.{int_max}
@@ -33,17 +33,27 @@ pub record Operation : Type 0 where
 
 -- what a call of the program asks for
 abbrev pub operation_of : OpCall → Operation
-operation_of call = record { op = call.op; signs = call.signs.now; types = call.types.now; result = call.result; rounding = call.rounding; saturate = call.saturate }
+operation_of call =
+    record {
+      op = call.op;
+      signs = call.signs.now;
+      types = call.types.now;
+      result = call.result;
+      rounding = call.rounding;
+      saturate = call.saturate;
+    }
 
 -- r is the number v of a type, converted to the operation's result type
 abbrev pub IsConverted : Operation → ℤ → FxType → ℤ → Type 0
-IsConverted operation v from r = Converts v from operation.result operation.rounding operation.saturate r
+IsConverted operation v from r =
+    Converts v from operation.result operation.rounding operation.saturate r
 
 -- the sum of the inputs with their signs, in units of 2 to the -frac
 abbrev pub signed_sum : ℤ → Terms → List ℤ → ℤ
 signed_sum frac [] inputs = pos 0
 signed_sum frac (term ∷ terms) [] = pos 0
-signed_sum frac (term ∷ terms) (v ∷ inputs) = negated_if term.0 (aligned frac term.1 v) +ℤ signed_sum frac terms inputs
+signed_sum frac (term ∷ terms) (v ∷ inputs) =
+    negated_if term.0 (aligned frac term.1 v) +ℤ signed_sum frac terms inputs
 
 -- the criterion of a Switch holds of its input 2
 abbrev pub meets : Criterion → ℤ → ℤ → Bool
@@ -63,7 +73,8 @@ compares Gt x y = int_lt y x
 -- the real values of two stored integers are so related
 abbrev pub compares_values : Relation → FxType → FxType → ℤ → ℤ → Bool
 compares_values operator a b x y =
-    let frac = int_max (frac_of a) (frac_of b) in compares operator (aligned frac a x) (aligned frac b y)
+    let frac =
+    int_max (frac_of a) (frac_of b) in compares operator (aligned frac a x) (aligned frac b y)
 
 -- a stored integer as a truth, and a truth as a stored integer
 abbrev pub is_true : ℤ → Bool
@@ -100,19 +111,28 @@ value_of inputs input = slice_index_or inputs input (pos 0)
 abbrev pub Gives : Op → Operation → List FxType → List ℤ → ℤ → Type 0
 Gives Sum operation types inputs r =
     let terms = zip operation.signs types
-    in (full : FxType) × IsFullSum terms full × IsConverted operation (signed_sum (frac_of full) terms inputs) full r
+    in (full : FxType) × IsFullSum terms full
+    × IsConverted operation (signed_sum (frac_of full) terms inputs) full r
 Gives (Gain coefficient param) operation types inputs r =
-    (full : FxType) × IsFullProduct (type_of types 0) param full × IsConverted operation (value_of inputs 0 *ℤ coefficient) full r
+    (full : FxType) × IsFullProduct (type_of types 0) param full
+    × IsConverted operation (value_of inputs 0 *ℤ coefficient) full r
 Gives Product operation types inputs r =
-    (full : FxType) × IsFullProduct (type_of types 0) (type_of types 1) full × IsConverted operation (value_of inputs 0 *ℤ value_of inputs 1) full r
+    (full : FxType) × IsFullProduct (type_of types 0) (type_of types 1) full
+    × IsConverted operation (value_of inputs 0 *ℤ value_of inputs 1) full r
 Gives (Switch criterion threshold) operation types inputs r =
-    MatchBool (meets criterion threshold (value_of inputs 1)) (IsConverted operation (value_of inputs 0) (type_of types 0) r) (IsConverted operation (value_of inputs 2) (type_of types 2) r)
+    MatchBool (meets criterion threshold (value_of inputs 1))
+    (IsConverted operation (value_of inputs 0) (type_of types 0) r)
+    (IsConverted operation (value_of inputs 2) (type_of types 2) r)
 Gives (Relational operator) operation types inputs r =
-    r ≡ stored_truth (compares_values operator (type_of types 0) (type_of types 1) (value_of inputs 0) (value_of inputs 1))
+    r ≡ stored_truth
+    (compares_values operator (type_of types 0) (type_of types 1) (value_of inputs 0)
+    (value_of inputs 1))
 Gives (Logic gate) operation types inputs r = r ≡ stored_truth (gate_of gate inputs)
-Gives (Convert false) operation types inputs r = IsConverted operation (value_of inputs 0) (type_of types 0) r
+Gives (Convert false) operation types inputs r =
+    IsConverted operation (value_of inputs 0) (type_of types 0) r
 Gives (Convert true) operation types inputs r =
-    Converts (value_of inputs 0) (without_frac (type_of types 0)) (without_frac operation.result) operation.rounding operation.saturate r
+    Converts (value_of inputs 0) (without_frac (type_of types 0))
+    (without_frac operation.result) operation.rounding operation.saturate r
 Gives Pass operation types inputs r = r ≡ value_of inputs 0
 
 -- r is what the operation gives of these inputs
@@ -169,10 +189,13 @@ HasResultType Pass types result = result ≡ type_of types 0
 -- the full type or union that an operation names is a type
 abbrev pub HasFullType : Op → List Bool → List FxType → Type 0
 HasFullType Sum signs types = (full : FxType) × IsFullSum (zip signs types) full
-HasFullType (Gain coefficient param) signs types = (full : FxType) × IsFullProduct (type_of types 0) param full
-HasFullType Product signs types = (full : FxType) × IsFullProduct (type_of types 0) (type_of types 1) full
+HasFullType (Gain coefficient param) signs types =
+    (full : FxType) × IsFullProduct (type_of types 0) param full
+HasFullType Product signs types =
+    (full : FxType) × IsFullProduct (type_of types 0) (type_of types 1) full
 HasFullType (Switch criterion threshold) signs types = ⊤
-HasFullType (Relational operator) signs types = (union : FxType) × IsUnion (type_of types 0) (type_of types 1) union
+HasFullType (Relational operator) signs types =
+    (union : FxType) × IsUnion (type_of types 0) (type_of types 1) union
 HasFullType (Logic gate) signs types = ⊤
 HasFullType (Convert stored) signs types = ⊤
 HasFullType Pass signs types = ⊤
@@ -190,7 +213,8 @@ pub record CanPrepare (operation : Operation) : Type 0 where
 -- there is one value of each type, in its range
 pub record AreInRange (types : List FxType) (values : List ℤ) : Type 0 where
   pub count : length values ≡ length types
-  pub in_range : (input : ℕ) → input < length types → InRange (type_of types input) (value_of values input)
+  pub in_range : (input : ℕ) → input < length types
+      → InRange (type_of types input) (value_of values input)
 
 -- the operation may be carried out on these inputs
 pub record CanCarryOut (operation : Operation) (inputs : List ℤ) : Type 0 where

@@ -1,4 +1,5 @@
--- At which periods the blocks of a diagram run, by rounds (Simulink reference, sample time propagation; the rounds are own).
+-- At which periods the blocks of a diagram run, by rounds (Simulink reference, sample time
+-- propagation; the rounds are own).
 use Rattle.std.specs.Prelude.{ℕ, ◌*◌, ◌/◌, ◌^◌, min, Bool, true, false, if◌then◌else◌, List, [], ◌∷◌, ◌++◌, length, map, negsuc, Option, Some, None, slice_get, slice_index_or}
 use Rattle.std.specs.List.{list_all, filter_map}
 use Rattle.std.specs.Option.{option_to_list}
@@ -36,10 +37,12 @@ least (x ∷ xs) = Some (at_most x (least xs)) where
 
 -- the base period in these units: the least that is declared, and 1 where none is
 abbrev pub base_units : Diagram → ℕ
-base_units diagram = or_unit (least (map units_of (filter_map (λ block. declared_period block.period) diagram.blocks))) where
-  or_unit : Option ℕ → ℕ
-  or_unit None = 10 ^ 36
-  or_unit (Some units) = units
+base_units diagram =
+    or_unit (least
+    (map units_of (filter_map (λ block. declared_period block.period) diagram.blocks))) where
+      or_unit : Option ℕ → ℕ
+      or_unit None = 10 ^ 36
+      or_unit (Some units) = units
 
 -- how many base periods a declared period has
 abbrev pub multiple_of : Diagram → Decimal → ℕ
@@ -103,7 +106,8 @@ drivers_of diagram place = map (λ edge. edge.from) (edges_into diagram place)
 abbrev pub sources_of : Diagram → ℕ → Block → List ℕ
 sources_of diagram place block = drivers_of diagram place ++ control_of block
 
--- the least finite period of the sources, else that of a value that never changes, where all are that and the block may take it
+-- the least finite period of the sources, else that of a value that never changes, where all are
+-- that and the block may take it
 abbrev pub taken_period : Inherited → Periods → Option Period
 taken_period inherits sources = by_least (least_finite sources) where
   if_unchanging : Inherited → Option Period
@@ -119,11 +123,15 @@ taken_period inherits sources = by_least (least_finite sources) where
 -- the period that a block takes in a round
 abbrev pub period_of_next : Diagram → Option Block → Periods → ℕ → Option Period
 period_of_next diagram None periods place = None
-period_of_next diagram (Some block) periods place = taken_period (row_of block.kind).timing.inherits (map (known_at periods) (sources_of diagram place block))
+period_of_next diagram (Some block) periods place =
+    taken_period (row_of block.kind).timing.inherits
+    (map (known_at periods) (sources_of diagram place block))
 
 -- the period of the block at a place after one more round
 abbrev pub next_periods : Diagram → Periods → ℕ → Option Period
-next_periods diagram periods place = known_or (known_at periods place) (period_of_next diagram (slice_get diagram.blocks place) periods place)
+next_periods diagram periods place =
+    known_or (known_at periods place)
+    (period_of_next diagram (slice_get diagram.blocks place) periods place)
 
 -- the period that an inheriting block has before the first round
 abbrev pub first_inherited : Inherited → Option Period

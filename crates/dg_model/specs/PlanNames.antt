@@ -1,4 +1,5 @@
--- When the paths of a plan are found in a diagram, and what they give its blocks (own; HDL Coder's output pipelines).
+-- When the paths of a plan are found in a diagram, and what they give its blocks (own; HDL Coder's
+-- output pipelines).
 use Rattle.std.specs.Prelude.{◌≡◌, ℕ, ◌<◌, IsTrue, List, map, All, Any, find, Option, Some, None, IsSome, slice_get}
 use Rattle.std.specs.Str.{bytes_eq}
 use Rattle.dg_model.specs.declared.diagram.Diagram.{Diagram}
@@ -21,19 +22,22 @@ pub record MayBePipelined (attributes : Attributes) (place : ℕ) (block : Block
 -- a line of a plan names blocks, and registers may stand behind each of them
 pub record IsFound (diagram : Diagram) (attributes : Attributes) (line : Pipeline) : Type 0 where
   pub some : Any (λ block. block.path ≡ line.path) diagram.blocks
-  pub each : (place : ℕ) (block : Block) → slice_get diagram.blocks place ≡ Some block → block.path ≡ line.path → MayBePipelined attributes place block
+  pub each : (place : ℕ) (block : Block) → slice_get diagram.blocks place ≡ Some block
+      → block.path ≡ line.path → MayBePipelined attributes place block
 
 -- the rule is kept
 abbrev pub KeepsPlan : Diagram → Attributes → Plan → Type 0
 KeepsPlan diagram attributes plan = All (IsFound diagram attributes) plan.pipelines
 
 -- the rule is broken, with this fault: at the first path that isn't found
-pub record BreaksPlan (diagram : Diagram) (attributes : Attributes) (plan : Plan) (fault : RuleFault) : Type 0 where
+pub record BreaksPlan (diagram : Diagram) (attributes : Attributes) (plan : Plan)
+    (fault : RuleFault) : Type 0 where
   pub number : ℕ
   pub line : Pipeline
   pub line_is : slice_get plan.pipelines number ≡ Some line
   pub missing : ¬ IsFound diagram attributes line
-  pub before : (k : ℕ) (other : Pipeline) → k < number → slice_get plan.pipelines k ≡ Some other → IsFound diagram attributes other
+  pub before : (k : ℕ) (other : Pipeline) → k < number → slice_get plan.pipelines k ≡ Some other
+      → IsFound diagram attributes other
   pub fault_is : fault ≡ fault_of Rule.Plan line.path Nothing
 
 -- how many registers a plan sets behind the blocks of a path

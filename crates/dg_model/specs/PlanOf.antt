@@ -1,4 +1,5 @@
--- When a plan whose paths are found is one of a diagram: its numbers are in range, and it sets registers only where they may stand (own; HDL Coder's output pipelines).
+-- When a plan whose paths are found is one of a diagram: its numbers are in range, and it sets
+-- registers only where they may stand (own; HDL Coder's output pipelines).
 use Rattle.std.specs.Prelude.{◌≡◌, ℕ, ◌<◌, ◌≤◌, length, All, Some, slice_get, slice_index}
 use Rattle.dg_model.specs.declared.diagram.Diagram.{Diagram}
 use Rattle.dg_model.specs.declared.diagram.Block.{Block}
@@ -13,7 +14,8 @@ stages_at plan place = slice_index plan.stages place
 
 -- only behind blocks behind which registers may stand
 pub record StagesAreAllowed (diagram : Diagram) (plan : Resolved) : Type 0 where
-  pub each : (place : ℕ) (b : Block) → slice_get diagram.blocks place ≡ Some b → 0 < stages_at plan place → MayBePipelined (attributes_of diagram) place b
+  pub each : (place : ℕ) (b : Block) → slice_get diagram.blocks place ≡ Some b
+      → 0 < stages_at plan place → MayBePipelined (attributes_of diagram) place b
 
 -- 1 to 1024 clocks, at most 64 multipliers, and for each block a count of at most 64 registers
 pub record IsPlanOf (diagram : Diagram) (plan : Resolved) : Type 0 where

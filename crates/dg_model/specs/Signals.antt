@@ -1,5 +1,6 @@
--- What a diagram's signals are, as functions of a place and a moment (own).
--- A block is named by its place in the diagram's list, from 0, a port by its number, from 1, an element by its place in the signal, from 0, and a base sample by its number, from 0.
+-- What a diagram's signals are, as functions of a place and a moment (own). A block is named by its
+-- place in the diagram's list, from 0, a port by its number, from 1, an element by its place in the
+-- signal, from 0, and a base sample by its number, from 0.
 use Rattle.std.specs.Prelude.{ℕ, ℤ, Option}
 use Rattle.fx_type.specs.declared.kind.FxType.{FxType}
 
@@ -19,7 +20,8 @@ ElementPlace = ℕ
 abbrev pub Sample : Type 0
 Sample = ℕ
 
--- the stored integer at a block, an output port, an element and a base sample; a root Outport stands at port 1
+-- the stored integer at a block, an output port, an element and a base sample; a root Outport
+-- stands at port 1
 abbrev pub Table : Type 0
 Table = BlockPlace → PortNumber → ElementPlace → Sample → ℤ
 

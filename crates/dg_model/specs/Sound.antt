@@ -30,13 +30,19 @@ IsEnable SubSystem = ⊥
 
 -- the block at a place is a subsystem that stands before it
 abbrev pub HasParent : List NestedBlock → ℕ → Option ℕ → Type 0
-HasParent blocks block parent = MatchOption parent ⊤ (λ system. (system < block) × MatchOption (slice_get blocks system) ⊥ (λ other. IsSubSystem other.part))
+HasParent blocks block parent =
+    MatchOption parent ⊤
+    (λ system. (system < block)
+    × MatchOption (slice_get blocks system) ⊥ (λ other. IsSubSystem other.part))
 
--- how deep each System lies: the root is the first level, and the System of a subsystem lies one below that which holds it
+-- how deep each System lies: the root is the first level, and the System of a subsystem lies one
+-- below that which holds it
 pub record AreLevels (blocks : List NestedBlock) (level : Option ℕ → ℕ) : Type 0 where
   pub root : level None ≡ 1
-  pub inner : (block : ℕ) (b : NestedBlock) → slice_get blocks block ≡ Some b → IsSubSystem b.part → level (Some block) ≡ suc (level b.parent)
-  pub deepest : (block : ℕ) (b : NestedBlock) → slice_get blocks block ≡ Some b → IsSubSystem b.part → level (Some block) ≤ most_levels
+  pub inner : (block : ℕ) (b : NestedBlock) → slice_get blocks block ≡ Some b → IsSubSystem b.part
+      → level (Some block) ≡ suc (level b.parent)
+  pub deepest : (block : ℕ) (b : NestedBlock) → slice_get blocks block ≡ Some b → IsSubSystem b.part
+      → level (Some block) ≤ most_levels
 
 -- two blocks of one System have different names
 abbrev pub HaveNames : NestedBlock → NestedBlock → Type 0
@@ -49,7 +55,8 @@ IsTarget EnableTarget = ⊤
 
 -- the line joins blocks of one System
 pub record JoinsWithin (blocks : List NestedBlock) (line : NestedLine) : Type 0 where
-  pub system : MatchOption (slice_get blocks line.from) ⊥ (λ source. MatchOption (slice_get blocks line.to) ⊥ (λ target. source.parent ≡ target.parent))
+  pub system : MatchOption (slice_get blocks line.from) ⊥
+      (λ source. MatchOption (slice_get blocks line.to) ⊥ (λ target. source.parent ≡ target.parent))
   pub from_port : IsBetween 1 most_blocks line.from_port
   pub target : IsTarget line.target
 
@@ -75,7 +82,8 @@ IsOutRole blocks (Some system) number (Role.RootOutput own) = ⊥
 IsOutRole blocks None number Role.EnabledOutput = ⊥
 IsOutRole blocks (Some system) number Role.EnabledOutput = HasEnablePort blocks (Some system)
 IsOutRole blocks None number (Role.InnerPort width) = ⊥
-IsOutRole blocks (Some system) number (Role.InnerPort width) = (width ≡ 0) × ¬ HasEnablePort blocks (Some system)
+IsOutRole blocks (Some system) number (Role.InnerPort width) =
+    (width ≡ 0) × ¬ HasEnablePort blocks (Some system)
 IsOutRole blocks system number (Role.RootInput own) = ⊥
 IsOutRole blocks system number Role.Control = ⊥
 IsOutRole blocks system number Role.Plain = ⊥
@@ -100,7 +108,8 @@ HasInRole system (Enable reset) = ⊤
 abbrev pub HasOutRole : List NestedBlock → Option ℕ → Part → Type 0
 HasOutRole blocks system (Plain block) = ⊤
 HasOutRole blocks system (In block number) = ⊤
-HasOutRole blocks system (Out block number) = IsOutRole blocks system number (row_of block.kind).place.role
+HasOutRole blocks system (Out block number) =
+    IsOutRole blocks system number (row_of block.kind).place.role
 HasOutRole blocks system SubSystem = ⊤
 HasOutRole blocks system (Enable reset) = ⊤
 
@@ -115,7 +124,8 @@ HasPlainRole (Enable reset) = ⊤
 -- the blocks and lines are well formed
 pub record IsSound (nested : Nested) : Type 0 where
   pub size : length nested.blocks ≤ most_blocks
-  pub parents : (block : ℕ) (b : NestedBlock) → slice_get nested.blocks block ≡ Some b → HasParent nested.blocks block b.parent
+  pub parents : (block : ℕ) (b : NestedBlock) → slice_get nested.blocks block ≡ Some b
+      → HasParent nested.blocks block b.parent
   pub levels : (level : Option ℕ → ℕ) × AreLevels nested.blocks level
   pub names : AllPairs HaveNames nested.blocks
   pub lines : All (JoinsWithin nested.blocks) nested.lines

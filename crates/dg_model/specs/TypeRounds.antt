@@ -1,4 +1,5 @@
--- Which types the signals of a diagram have, by rounds (Simulink reference, `OutDataTypeStr`; the rounds, and what the internal rule gives, are own).
+-- Which types the signals of a diagram have, by rounds (Simulink reference, `OutDataTypeStr`; the
+-- rounds, and what the internal rule gives, are own).
 use Rattle.std.specs.Prelude.{ℕ, List, [], ◌∷◌, length, map, zip, Option, Some, None, slice_get}
 use Rattle.dg_waves.specs.Rounds.{after_rounds}
 use Rattle.fx_type.specs.declared.kind.FxType.{FxType}
@@ -40,22 +41,29 @@ explicit_type Internal = None
 explicit_type SameFirst = None
 explicit_type Auto = None
 
--- by a specification: its own type, the internal rule's, the first input's, or what the kind has of itself
+-- by a specification: its own type, the internal rule's, the first input's, or what the kind has of
+-- itself
 abbrev pub specified_type : TypeSpec → Option FxType → Option FxType → Option FxType → Option FxType
 specified_type (Fixed type) internal first own = Some type
 specified_type Internal internal first own = internal
 specified_type SameFirst internal first own = first
 specified_type Auto internal first own = own
 
--- the full type or union that a kind's equation names of these inputs, where the types that it needs are known and it is valid
+-- the full type or union that a kind's equation names of these inputs, where the types that it
+-- needs are known and it is valid
 abbrev pub full_type : FullRule → Types → Option FxType
 full_type FullRule.NoFull types = None
-full_type (FullRule.FullSum negative) types = with_known (all_known types) (λ known. full_sum_of (zip negative known))
+full_type (FullRule.FullSum negative) types =
+    with_known (all_known types) (λ known. full_sum_of (zip negative known))
 full_type (FullRule.FullScaled value param) types =
-    with_known (known_at types 0) (λ input. with_known (param_type_of value param input) (full_product_of input))
-full_type FullRule.FullProduct types = with_known (known_at types 0) (λ left. with_known (known_at types 1) (full_product_of left))
-full_type FullRule.UnionOfTwo types = with_known (known_at types 0) (λ left. with_known (known_at types 1) (union_of left))
-full_type FullRule.UnionOfEnds types = with_known (known_at types 0) (λ left. with_known (known_at types 2) (union_of left))
+    with_known (known_at types 0)
+    (λ input. with_known (param_type_of value param input) (full_product_of input))
+full_type FullRule.FullProduct types =
+    with_known (known_at types 0) (λ left. with_known (known_at types 1) (full_product_of left))
+full_type FullRule.UnionOfTwo types =
+    with_known (known_at types 0) (λ left. with_known (known_at types 1) (union_of left))
+full_type FullRule.UnionOfEnds types =
+    with_known (known_at types 0) (λ left. with_known (known_at types 2) (union_of left))
 
 -- the type that a kind has of itself
 abbrev pub own_type : OwnType → Types → Option FxType
@@ -66,7 +74,8 @@ own_type OwnType.OfInput types = known_at types 0
 -- the type that a block takes where the input types that it needs are known
 abbrev pub taken_type : Kind → TypeSpec → Types → Option FxType
 taken_type kind spec types =
-    specified_type spec (full_type (row_of kind).types.full types) (known_at types 0) (own_type (row_of kind).types.own types)
+    specified_type spec (full_type (row_of kind).types.full types) (known_at types 0)
+    (own_type (row_of kind).types.own types)
 
 -- the type that a block takes in a round
 abbrev pub type_of_next : Option Block → Types → Option FxType
@@ -75,11 +84,15 @@ type_of_next (Some block) types = taken_type block.kind block.result types
 
 -- the type of the block at a place after one more round
 abbrev pub next_types : Diagram → Types → ℕ → Option FxType
-next_types diagram types place = known_or (known_at types place) (type_of_next (slice_get diagram.blocks place) (input_types diagram types place))
+next_types diagram types place =
+    known_or (known_at types place)
+    (type_of_next (slice_get diagram.blocks place) (input_types diagram types place))
 
 -- the types after so many rounds
 abbrev pub types_after : Diagram → ℕ → Types
-types_after diagram rounds = after_rounds (next_types diagram) rounds (map (λ block. explicit_type block.result) diagram.blocks)
+types_after diagram rounds =
+    after_rounds (next_types diagram) rounds
+    (map (λ block. explicit_type block.result) diagram.blocks)
 
 -- the types of a diagram's blocks: those after as many rounds as it has blocks
 abbrev pub types_of : Diagram → Types

@@ -1,4 +1,5 @@
--- When the types of a diagram keep the rule of types (Simulink reference, `OutDataTypeStr`; the order of parts is own).
+-- When the types of a diagram keep the rule of types (Simulink reference, `OutDataTypeStr`; the
+-- order of parts is own).
 use Rattle.std.specs.Prelude.{◌≡◌, ℕ, true, ◌≤◌, ◌⊎◌, [], ◌∷◌, codes, All, Some, IsSome, ⊤}
 use Rattle.fx_type.specs.declared.spec.TypeSpec.{TypeSpec}
 use Rattle.fx_type.specs.declared.spec.TypeSpec.TheVariants.{Fixed, Internal, SameFirst, Auto}
@@ -15,7 +16,8 @@ use Rattle.dg_model.specs.Periods.{known_at}
 use Rattle.dg_model.specs.Types.{names_full_type}
 use Rattle.dg_model.specs.TypeRounds.{Types, input_types, full_type, types_of}
 
--- where all input types are known, each full type, union and parameter type that the block's equation names is valid
+-- where all input types are known, each full type, union and parameter type that the block's
+-- equation names is valid
 abbrev pub IsNotWide : Diagram → Types → ℕ → Block → Type 0
 IsNotWide diagram types place block =
     names_full_type block.kind block.result ≡ true → All IsSome (input_types diagram types place)
@@ -55,8 +57,10 @@ AgreeInside (Shape.Parted sizes) inputs = ⊤
 AgreeInside Shape.Single inputs = ⊤
 
 -- the types of its inputs agree
-pub record HasAgreeing (diagram : Diagram) (types : Types) (place : ℕ) (block : Block) : Type 0 where
-  pub written : AgreesWith (row_of block.kind).place.role block.result (input_types diagram types place)
+pub record HasAgreeing (diagram : Diagram) (types : Types) (place : ℕ)
+    (block : Block) : Type 0 where
+  pub written : AgreesWith (row_of block.kind).place.role block.result
+      (input_types diagram types place)
   pub inside : AgreeInside (row_of block.kind).signal.shape (input_types diagram types place)
 
 -- the rule is kept
@@ -68,15 +72,19 @@ pub record KeepsTypes (diagram : Diagram) : Type 0 where
 -- nothing is too wide, and a type isn't known
 pub record BreaksKnown (diagram : Diagram) (fault : RuleFault) : Type 0 where
   pub narrow : AllKeep diagram (IsNotWide diagram (types_of diagram))
-  pub unknown : BreaksAt diagram Rule.Type (HasTypes diagram (types_of diagram)) (λ place block. Word (codes "missing")) fault
+  pub unknown : BreaksAt diagram Rule.Type (HasTypes diagram (types_of diagram))
+      (λ place block. Word (codes "missing")) fault
 
 -- every type is known, and two don't agree
 pub record BreaksAgreeing (diagram : Diagram) (fault : RuleFault) : Type 0 where
   pub narrow : AllKeep diagram (IsNotWide diagram (types_of diagram))
   pub known : AllKeep diagram (HasTypes diagram (types_of diagram))
-  pub differ : BreaksAt diagram Rule.Type (HasAgreeing diagram (types_of diagram)) (λ place block. Word (codes "differs")) fault
+  pub differ : BreaksAt diagram Rule.Type (HasAgreeing diagram (types_of diagram))
+      (λ place block. Word (codes "differs")) fault
 
 -- the rule is broken, with this fault
 abbrev pub BreaksType : Diagram → RuleFault → Type 0
 BreaksType diagram fault =
-    BreaksAt diagram Rule.Type (IsNotWide diagram (types_of diagram)) (λ place block. Word (codes "wide")) fault ⊎ (BreaksKnown diagram fault ⊎ BreaksAgreeing diagram fault)
+    BreaksAt diagram Rule.Type (IsNotWide diagram (types_of diagram))
+    (λ place block. Word (codes "wide")) fault
+    ⊎ (BreaksKnown diagram fault ⊎ BreaksAgreeing diagram fault)

@@ -1,4 +1,6 @@
--- Which types the blocks of a diagram have, and which full types and unions their equations name (Simulink reference, `OutDataTypeStr`; what the internal rule gives, and the type of Ground, are own).
+-- Which types the blocks of a diagram have, and which full types and unions their equations name
+-- (Simulink reference, `OutDataTypeStr`; what the internal rule gives, and the type of Ground, are
+-- own).
 use Rattle.std.specs.Prelude.{◌≡◌, ℕ, Bool, true, false, MatchBool, List, [], ◌∷◌, length, zip}
 use Rattle.fx_type.specs.declared.kind.FxType.{FxType}
 use Rattle.fx_type.specs.declared.spec.TypeSpec.{TypeSpec}
@@ -20,12 +22,15 @@ IsSpecified Auto first IsInternal result = ⊥
 
 -- ---- full types and unions
 
--- the full type or union by a rule, from the types of the inputs and, for a Gain, the type of its coefficients
+-- the full type or union by a rule, from the types of the inputs and, for a Gain, the type of its
+-- coefficients
 abbrev pub IsFullOf : FullRule → List FxType → FxType → FxType → Type 0
 IsFullOf FullRule.NoFull types param full = ⊥
 IsFullOf (FullRule.FullSum negative) types param full = IsFullSum (zip negative types) full
-IsFullOf (FullRule.FullScaled value spec) types param full = IsFullProduct (type_of types 0) param full
-IsFullOf FullRule.FullProduct types param full = IsFullProduct (type_of types 0) (type_of types 1) full
+IsFullOf (FullRule.FullScaled value spec) types param full =
+    IsFullProduct (type_of types 0) param full
+IsFullOf FullRule.FullProduct types param full =
+    IsFullProduct (type_of types 0) (type_of types 1) full
 IsFullOf FullRule.UnionOfTwo types param full = IsUnion (type_of types 0) (type_of types 1) full
 IsFullOf FullRule.UnionOfEnds types param full = IsUnion (type_of types 0) (type_of types 2) full
 
@@ -60,7 +65,8 @@ names_full_type kind spec = is_named (row_of kind).types.full spec
 
 -- it names this one
 abbrev pub NamesType : Kind → TypeSpec → List FxType → FxType → FxType → Type 0
-NamesType kind spec types param named = MatchBool (names_full_type kind spec) (IsFullOf (row_of kind).types.full types param named) ⊥
+NamesType kind spec types param named =
+    MatchBool (names_full_type kind spec) (IsFullOf (row_of kind).types.full types param named) ⊥
 
 -- ---- the type of a block's outputs
 
@@ -76,8 +82,9 @@ inputs_of_own OwnType.Untyped = []
 inputs_of_own (OwnType.Always type) = []
 inputs_of_own OwnType.OfInput = 1 ∷ []
 
--- the type of a block's outputs, from its specification, the types of its inputs and, for a Gain, the type of its
--- coefficients: a type that is written out, that of inner ports and root Outports too, stands before any other is known
+-- the type of a block's outputs, from its specification, the types of its inputs and, for a Gain,
+-- the type of its coefficients: a type that is written out, that of inner ports and root Outports
+-- too, stands before any other is known
 abbrev pub IsResultType : Kind → TypeSpec → List FxType → FxType → FxType → Type 0
 IsResultType kind (Fixed type) types param result = result ≡ type
 IsResultType kind Internal types param result = IsFullOf (row_of kind).types.full types param result

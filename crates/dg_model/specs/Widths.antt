@@ -1,4 +1,5 @@
--- How wide the signals of a diagram are, by rounds (Simulink reference, signal dimensions; the rounds and the cut are own).
+-- How wide the signals of a diagram are, by rounds (Simulink reference, signal dimensions; the
+-- rounds and the cut are own).
 use Rattle.std.specs.Prelude.{ℕ, ◌+◌, ◌-◌, ◌/◌, ◌%◌, ◌==◌, min, max, nat_lt, sum, Bool, if◌then◌else◌, List, [], ◌∷◌, length, map, Option, Some, None, slice_get, slice_index_or}
 use Rattle.std.specs.List.{list_all}
 use Rattle.dg_waves.specs.Rounds.{numbers_from, after_rounds}
@@ -9,7 +10,8 @@ use Rattle.dg_model.specs.KindRow.{Shape}
 use Rattle.dg_model.specs.Library.{row_of}
 use Rattle.dg_model.specs.Wires.{edges_into}
 
--- the widths at the output ports of each block; a block without an output port has its own width at port 1
+-- the widths at the output ports of each block; a block without an output port has its own width at
+-- port 1
 abbrev pub Widths : Type 0
 Widths = List (List ℕ)
 
@@ -19,7 +21,8 @@ width_at widths block port = slice_index_or (slice_index_or widths block []) (po
 
 -- the widths of a block's inputs
 abbrev pub input_widths : Diagram → Widths → ℕ → List ℕ
-input_widths diagram widths block = map (λ edge. width_at widths edge.from edge.from_port) (edges_into diagram block)
+input_widths diagram widths block =
+    map (λ edge. width_at widths edge.from edge.from_port) (edges_into diagram block)
 
 -- the greatest of a list, and 0 of an empty one
 abbrev pub greatest : List ℕ → ℕ
@@ -30,7 +33,8 @@ greatest (x ∷ xs) = max x (greatest xs)
 abbrev pub are_open : List ℕ → Bool
 are_open sizes = list_all (λ size. size == 0) sizes
 
--- the part of a width at one of n ports, each at least 1 and the first ones greater by one where it can't be shared evenly
+-- the part of a width at one of n ports, each at least 1 and the first ones greater by one where it
+-- can't be shared evenly
 abbrev pub share : ℕ → ℕ → ℕ → ℕ
 share width n k = if nat_lt k (width % n) then width / n + 1 else max 1 (width / n)
 
@@ -38,12 +42,15 @@ share width n k = if nat_lt k (width % n) then width / n + 1 else max 1 (width /
 abbrev pub list_length : Kind → ℕ
 list_length kind = greatest (map length (row_of kind).signal.lists)
 
--- what the output ports take, from the greatest length of the block's lists, its own width and those of its inputs
+-- what the output ports take, from the greatest length of the block's lists, its own width and
+-- those of its inputs
 abbrev pub taken : Shape → ℕ → ℕ → List ℕ → List ℕ
 taken Shape.Elementwise lists own inputs = max own (max (greatest inputs) lists) ∷ []
 taken (Shape.Joined sizes) lists own inputs = sum inputs ∷ []
 taken (Shape.Parted sizes) lists own inputs =
-    if are_open sizes then map (share (slice_index_or inputs 0 0) (length sizes)) (numbers_from 0 (length sizes)) else sizes
+    if are_open sizes
+    then map (share (slice_index_or inputs 0 0) (length sizes)) (numbers_from 0 (length sizes))
+    else sizes
 taken Shape.Single lists own inputs = 1 ∷ []
 
 -- the most that a width counts up to
@@ -53,11 +60,15 @@ most_width = 1025
 -- the widths of a block in the next round
 abbrev pub next_of : Option Block → ℕ → List ℕ → List ℕ
 next_of None own inputs = []
-next_of (Some block) own inputs = map (min most_width) (taken (row_of block.kind).signal.shape (list_length block.kind) own inputs)
+next_of (Some block) own inputs =
+    map (min most_width)
+    (taken (row_of block.kind).signal.shape (list_length block.kind) own inputs)
 
 -- the widths of the block at a place after one more round
 abbrev pub next_widths : Diagram → Widths → ℕ → List ℕ
-next_widths diagram widths place = next_of (slice_get diagram.blocks place) (width_at widths place 1) (input_widths diagram widths place)
+next_widths diagram widths place =
+    next_of (slice_get diagram.blocks place) (width_at widths place 1)
+    (input_widths diagram widths place)
 
 -- the widths before the first round
 abbrev pub first_of : Shape → ℕ → List ℕ
@@ -68,7 +79,9 @@ first_of Shape.Single declared = 1 ∷ []
 
 -- the widths of all blocks before the first round
 abbrev pub first_widths : Diagram → Widths
-first_widths diagram = map (λ block. first_of (row_of block.kind).signal.shape (row_of block.kind).signal.width) diagram.blocks
+first_widths diagram =
+    map (λ block. first_of (row_of block.kind).signal.shape (row_of block.kind).signal.width)
+    diagram.blocks
 
 -- the widths after so many rounds
 abbrev pub widths_after : Diagram → ℕ → Widths

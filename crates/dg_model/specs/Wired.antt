@@ -11,12 +11,15 @@ use Rattle.dg_model.specs.Library.{row_of, IsReadable}
 
 -- the edge joins an output port and an input port that are there
 pub record Joins (blocks : List Block) (edge : Edge) : Type 0 where
-  pub source : MatchOption (slice_get blocks edge.from) ⊥ (λ block. (1 ≤ edge.from_port) × (edge.from_port ≤ block.outputs))
-  pub target : MatchOption (slice_get blocks edge.to) ⊥ (λ block. (1 ≤ edge.to_port) × (edge.to_port ≤ block.inputs))
+  pub source : MatchOption (slice_get blocks edge.from) ⊥
+      (λ block. (1 ≤ edge.from_port) × (edge.from_port ≤ block.outputs))
+  pub target : MatchOption (slice_get blocks edge.to) ⊥
+      (λ block. (1 ≤ edge.to_port) × (edge.to_port ≤ block.inputs))
 
 -- an edge stands no later than another: by destination block, then by destination port
 abbrev pub StandsBefore : Edge → Edge → Type 0
-StandsBefore edge later = (edge.to < later.to) ⊎ ((edge.to ≡ later.to) × (edge.to_port ≤ later.to_port))
+StandsBefore edge later =
+    (edge.to < later.to) ⊎ ((edge.to ≡ later.to) × (edge.to_port ≤ later.to_port))
 
 -- the numbers are 1 to their count, each once
 pub record AreNumbered (numbers : List ℕ) : Type 0 where
@@ -43,7 +46,10 @@ root_output Role.Plain = None
 
 -- an enabled subsystem is named by its control
 abbrev pub NamesControl : List Block → Option ℕ → Type 0
-NamesControl blocks enable = MatchOption enable ⊤ (λ control. MatchOption (slice_get blocks control) ⊥ (λ block. (row_of block.kind).place.role ≡ Role.Control))
+NamesControl blocks enable =
+    MatchOption enable ⊤
+    (λ control. MatchOption (slice_get blocks control) ⊥
+    (λ block. (row_of block.kind).place.role ≡ Role.Control))
 
 -- a block stands where its kind may: in an enabled subsystem, or in none
 abbrev pub MayStand : Standing → Option ℕ → Type 0
@@ -55,10 +61,13 @@ MayStand Standing.Inside enable = IsSome enable
 pub record IsWired (diagram : Diagram) : Type 0 where
   pub size : length diagram.blocks ≤ most_blocks
   pub edges : All (Joins diagram.blocks) diagram.edges
-  pub driven : (block port : ℕ) (b : Block) → slice_get diagram.blocks block ≡ Some b → 1 ≤ port → port ≤ b.inputs → count_by (enters block port) diagram.edges ≡ 1
+  pub driven : (block port : ℕ) (b : Block) → slice_get diagram.blocks block ≡ Some b → 1 ≤ port
+      → port ≤ b.inputs → count_by (enters block port) diagram.edges ≡ 1
   pub ordered : AllPairs StandsBefore diagram.edges
   pub blocks : All IsReadable diagram.blocks
   pub controls : All (λ block. NamesControl diagram.blocks block.enable) diagram.blocks
   pub enables : All (λ block. MayStand (row_of block.kind).place.stands block.enable) diagram.blocks
-  pub inports : AreNumbered (filter_map (λ block. root_input (row_of block.kind).place.role) diagram.blocks)
-  pub outports : AreNumbered (filter_map (λ block. root_output (row_of block.kind).place.role) diagram.blocks)
+  pub inports : AreNumbered
+      (filter_map (λ block. root_input (row_of block.kind).place.role) diagram.blocks)
+  pub outports : AreNumbered
+      (filter_map (λ block. root_output (row_of block.kind).place.role) diagram.blocks)

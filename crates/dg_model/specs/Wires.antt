@@ -1,4 +1,5 @@
--- What drives an input, and what the input carries (Simulink reference, signal lines; scalar expansion of inputs and parameters).
+-- What drives an input, and what the input carries (Simulink reference, signal lines; scalar
+-- expansion of inputs and parameters).
 use Rattle.std.specs.Prelude.{ℕ, ◌==◌, ◌&&◌, ℤ, pos, Bool, if◌then◌else◌, List, map, length, Option, Some, None, find, filter, slice_get}
 use Rattle.dg_waves.specs.Rounds.{numbers_from}
 use Rattle.fx_type.specs.declared.kind.FxType.{FxType}
@@ -25,17 +26,21 @@ abbrev pub at_source : {A : Type 0} → Option Edge → A → (ℕ → ℕ → A
 at_source None other of_port = other
 at_source (Some edge) other of_port = of_port edge.from edge.from_port
 
--- the width and the type of the signal into an input port; a port without a driver has no width, which a wired diagram rules out
+-- the width and the type of the signal into an input port; a port without a driver has no width,
+-- which a wired diagram rules out
 abbrev pub width_into : Diagram → Attributes → ℕ → ℕ → ℕ
-width_into diagram attributes block port = at_source (driver_of diagram block port) 0 attributes.width_at
+width_into diagram attributes block port =
+    at_source (driver_of diagram block port) 0 attributes.width_at
 
 -- the type of the signal into an input port
 abbrev pub type_into : Diagram → Attributes → ℕ → ℕ → FxType
-type_into diagram attributes block port = at_source (driver_of diagram block port) Logical attributes.type_at
+type_into diagram attributes block port =
+    at_source (driver_of diagram block port) Logical attributes.type_at
 
 -- the period of the block that drives an input port
 abbrev pub period_into : Diagram → Attributes → ℕ → ℕ → Option ℕ
-period_into diagram attributes block port = at_source (driver_of diagram block port) None (λ from from_port. attributes.period_at from)
+period_into diagram attributes block port =
+    at_source (driver_of diagram block port) None (λ from from_port. attributes.period_at from)
 
 -- the place in a signal or list of this length that serves element e: one of length 1 is repeated
 abbrev pub repeated : ℕ → ℕ → ℕ
@@ -44,15 +49,19 @@ repeated width element = if width == 1 then 0 else element
 -- the stored integer that an input port offers to element e of its block at t
 abbrev pub value_into : Diagram → Attributes → Table → ℕ → ℕ → ℕ → ℕ → ℤ
 value_into diagram attributes table block port element t =
-    at_source (driver_of diagram block port) (pos 0) (λ from from_port. table from from_port (repeated (attributes.width_at from from_port) element) t)
+    at_source (driver_of diagram block port) (pos 0)
+    (λ from from_port. table from from_port
+    (repeated (attributes.width_at from from_port) element) t)
 
 -- these of all inputs of a block in order
 abbrev pub types_into : Diagram → Attributes → ℕ → ℕ → List FxType
-types_into diagram attributes block inputs = map (type_into diagram attributes block) (numbers_from 1 inputs)
+types_into diagram attributes block inputs =
+    map (type_into diagram attributes block) (numbers_from 1 inputs)
 
 -- the widths into all inputs of a block in order
 abbrev pub widths_into : Diagram → Attributes → ℕ → ℕ → List ℕ
-widths_into diagram attributes block inputs = map (width_into diagram attributes block) (numbers_from 1 inputs)
+widths_into diagram attributes block inputs =
+    map (width_into diagram attributes block) (numbers_from 1 inputs)
 
 -- the stored integers that all inputs of a block offer to an element at t, in order
 abbrev pub values_into : Diagram → Attributes → Table → ℕ → ℕ → ℕ → ℕ → List ℤ

@@ -6,10 +6,14 @@ use Rattle.dg_model.specs.declared.diagram.Diagram.{Diagram}
 use Rattle.dg_tables.specs.Laws.{IsOrdered}
 use Rattle.dg_response.specs.Response.{IsResponse, input_columns}
 
--- there is one response to rows of numbers; the order is any one of the diagram's blocks along the instant edges
+-- there is one response to rows of numbers; the order is any one of the diagram's blocks along the
+-- instant edges
 abbrev pub ResponsesAreOne : Type 0
-ResponsesAreOne = (diagram : Diagram) (order : List ℕ) (rows : Rows) (lines other : ℕ → List ℤ) → IsOrdered diagram order
-    → IsResponse diagram rows lines → IsResponse diagram rows other → (t : ℕ) → t < rows.lines → lines t ≡ other t
+ResponsesAreOne =
+    (diagram : Diagram) (order : List ℕ) (rows : Rows) (lines other : ℕ → List ℤ)
+    → IsOrdered diagram order
+    → IsResponse diagram rows lines → IsResponse diagram rows other → (t : ℕ) → t < rows.lines
+    → lines t ≡ other t
 
 -- a response to rows of numbers
 pub record SomeResponse (diagram : Diagram) (rows : Rows) : Type 0 where
@@ -19,4 +23,5 @@ pub record SomeResponse (diagram : Diagram) (rows : Rows) : Type 0 where
 -- there is a response to rows whose numbers fit the columns of the inputs
 abbrev pub SomeResponds : Type 0
 SomeResponds = (diagram : Diagram) (order : List ℕ) (rows : Rows) → IsOrdered diagram order
-    → rows.columns ≡ length (input_columns diagram) → FitsColumns (input_columns diagram) rows → SomeResponse diagram rows
+    → rows.columns ≡ length (input_columns diagram) → FitsColumns (input_columns diagram) rows
+    → SomeResponse diagram rows

@@ -16,18 +16,23 @@ row_of responding = responding.row.items
 
 -- the table solves the diagram under the rows
 abbrev pub SolvesRows : CheckedDiagram → Rows → Table → Type 0
-SolvesRows checked rows table = Solves checked.diagram (attributes_of checked.diagram) (stimulus_of checked.diagram rows) rows.lines table
+SolvesRows checked rows table =
+    Solves checked.diagram (attributes_of checked.diagram)
+    (stimulus_of checked.diagram rows) rows.lines table
 
 -- it stands before sample t of the response to the rows, whose numbers fit the diagram's columns
-pub record IsBefore (checked : CheckedDiagram) (rows : Rows) (responding : Responding) (t : ℕ) : Type 0 where
+pub record IsBefore (checked : CheckedDiagram) (rows : Rows) (responding : Responding)
+    (t : ℕ) : Type 0 where
   pub columns : rows.columns ≡ length (input_columns checked.diagram)
   pub fits : FitsColumns (input_columns checked.diagram) rows
   pub few : rows.lines < 2 ^ 63
   pub wide : length (row_of responding) ≡ length (output_columns checked.diagram)
   pub sim_of : IsSimOf checked responding.sim
   pub samples : responding.sim.samples ≡ t
-  pub stands : (table : Table) → SolvesRows checked rows table → Stands checked.diagram (attributes_of checked.diagram) responding.sim table t
+  pub stands : (table : Table) → SolvesRows checked rows table
+      → Stands checked.diagram (attributes_of checked.diagram) responding.sim table t
 
 -- the numbers are those of sample t in every response of the diagram to the rows
-pub record IsRowAt (checked : CheckedDiagram) (rows : Rows) (t : ℕ) (numbers : List ℤ) : Type 0 where
+pub record IsRowAt (checked : CheckedDiagram) (rows : Rows) (t : ℕ)
+    (numbers : List ℤ) : Type 0 where
   pub each : (lines : ℕ → List ℤ) → IsResponse checked.diagram rows lines → numbers ≡ lines t

@@ -12,7 +12,8 @@ use Rattle.dg_model.specs.Signals.{Attributes}
 use Rattle.dg_model.specs.Wired.{IsWired}
 use Rattle.dg_rules.specs.ShownCycle.{BreaksLoopAlone}
 
--- what is shown, but of a cycle its first block alone: through the least block on any cycle may lead several, and any of them may be told
+-- what is shown, but of a cycle its first block alone: through the least block on any cycle may
+-- lead several, and any of them may be told
 abbrev pub shown_first : Shown → Shown
 shown_first Nothing = Nothing
 shown_first (Word word) = Word word
@@ -25,19 +26,25 @@ shown_first (Size storage latency) = Size storage latency
 
 -- the fault with that
 abbrev pub told_first : RuleFault → RuleFault
-told_first fault = record { rule = fault.rule; place = fault.place; shown = shown_first fault.shown }
+told_first fault =
+    record { rule = fault.rule; place = fault.place; shown = shown_first fault.shown }
 
 -- a fault of the rules of dimensions, types and rates is the only one of its diagram
 abbrev pub FaultIsOne : Type 0
-FaultIsOne = (diagram : Diagram) (one other : RuleFault) → BreaksRule diagram one → BreaksRule diagram other → one.rule ≢ Rule.Loop → one ≡ other
+FaultIsOne =
+    (diagram : Diagram) (one other : RuleFault) → BreaksRule diagram one → BreaksRule diagram other
+    → one.rule ≢ Rule.Loop → one ≡ other
 
 -- and one of the rule of loops but for its cycle
 abbrev pub ToldIsOne : Type 0
-ToldIsOne = (diagram : Diagram) (one other : RuleFault) → BreaksRule diagram one → BreaksRule diagram other → told_first one ≡ told_first other
+ToldIsOne =
+    (diagram : Diagram) (one other : RuleFault) → BreaksRule diagram one → BreaksRule diagram other
+    → told_first one ≡ told_first other
 
 -- rules that are kept aren't broken
 abbrev pub CheckedIsNotBroken : Type 0
-CheckedIsNotBroken = (diagram : Diagram) (fault : RuleFault) → IsChecked diagram → BreaksRule diagram fault → ⊥
+CheckedIsNotBroken =
+    (diagram : Diagram) (fault : RuleFault) → IsChecked diagram → BreaksRule diagram fault → ⊥
 
 -- of one diagram the rule of loops can be told with two cycles
 pub record CyclesDiffer : Type 0 where
@@ -50,8 +57,13 @@ pub record CyclesDiffer : Type 0 where
 
 -- it is told with one where the cycle is to be a shortest one whose edges stand first
 abbrev pub ShownCycleIsOne : Type 0
-ShownCycleIsOne = (diagram : Diagram) (attributes : Attributes) (one other : RuleFault) → BreaksLoopAlone diagram attributes one → BreaksLoopAlone diagram attributes other → one ≡ other
+ShownCycleIsOne =
+    (diagram : Diagram) (attributes : Attributes) (one other : RuleFault)
+    → BreaksLoopAlone diagram attributes one → BreaksLoopAlone diagram attributes other
+    → one ≡ other
 
 -- a wired diagram that breaks none of the rules isn't one that doesn't keep them
 abbrev pub RuleIsThere : Type 0
-RuleIsThere = (diagram : Diagram) → IsWired diagram → ¬ IsChecked diagram → ((fault : RuleFault) → ¬ BreaksRule diagram fault) → ⊥
+RuleIsThere =
+    (diagram : Diagram) → IsWired diagram → ¬ IsChecked diagram
+    → ((fault : RuleFault) → ¬ BreaksRule diagram fault) → ⊥

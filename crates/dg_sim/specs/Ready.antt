@@ -23,4 +23,5 @@ IsReadyFor program prepared (Reset from control initial) = ⊤
 -- what is prepared, of one after another of the first n cells
 pub record AreReady (program : Program) (prepared : List Prepared) (n : ℕ) : Type 0 where
   pub size : length prepared ≡ n
-  pub each : (k : ℕ) (cell : Cell) (one : Prepared) → slice_get program.cells k ≡ Some cell → slice_get prepared k ≡ Some one → IsReadyFor program one cell.rule
+  pub each : (k : ℕ) (cell : Cell) (one : Prepared) → slice_get program.cells k ≡ Some cell
+      → slice_get prepared k ≡ Some one → IsReadyFor program one cell.rule

@@ -8,7 +8,8 @@ place n head k = cond (nat_lt (head + k) n) (head + k) (head + k - n)
 
 -- what a ring keeps, the latest first; `filled` places are in use
 abbrev pub ring_values : List ℤ → ℕ → ℕ → List ℤ
-ring_values values head filled = map (λ k. slice_index_or values (place (length values) head k) (pos 0)) (numbers_from 0 filled)
+ring_values values head filled =
+    map (λ k. slice_index_or values (place (length values) head k) (pos 0)) (numbers_from 0 filled)
 
 -- the latest values of an element, the latest first, of as many as there is room for
 pub record PastValues : Type 0 where

@@ -18,5 +18,7 @@ pub record AreKnown (rows : List (List ℕ)) : Type 0 where
 pub record AreRows (diagram : Diagram) (rows : List (List ℕ)) : Type 0 where
   pub size : length rows ≡ length diagram.blocks
   pub known : AreKnown rows
-  pub sound : (block source : ℕ) → Reads rows block source → LeadsNow diagram (attributes_of diagram) source block
-  pub whole : (block source : ℕ) → LeadsNow diagram (attributes_of diagram) source block → Reads rows block source
+  pub sound : (block source : ℕ) → Reads rows block source
+      → LeadsNow diagram (attributes_of diagram) source block
+  pub whole : (block source : ℕ) → LeadsNow diagram (attributes_of diagram) source block
+      → Reads rows block source

@@ -17,11 +17,13 @@ use Rattle.dg_tables.specs.Entries.{IsEntry}
 
 -- the lines into each block stand one behind another, by their ports, from a first one on
 pub record AreLines (diagram : Diagram) (firsts : List ℕ) : Type 0 where
-  pub each : (k : ℕ) (edge : Edge) → slice_get diagram.edges k ≡ Some edge → k ≡ slice_index_or firsts edge.to 0 + edge.to_port - 1
+  pub each : (k : ℕ) (edge : Edge) → slice_get diagram.edges k ≡ Some edge
+      → k ≡ slice_index_or firsts edge.to 0 + edge.to_port - 1
 
 -- ---- entries
 
--- an entry stands behind the place where those of its port begin, as far as its element; the ports of a block follow one another
+-- an entry stands behind the place where those of its port begin, as far as its element; the ports
+-- of a block follow one another
 pub record IsNumbered (ports entries : List ℕ) (places : List Place) (place : Place) : Type 0 where
   pub first : ℕ
   pub from : ℕ
@@ -29,26 +31,37 @@ pub record IsNumbered (ports entries : List ℕ) (places : List Place) (place : 
   pub from_is : slice_get entries (first + (place.port - 1)) ≡ Some from
   pub stands : slice_get places (from + place.element) ≡ Some place
 
--- each line and each entry is found, and an entry stands before those of a block that reads it in the same sample
+-- each line and each entry is found, and an entry stands before those of a block that reads it in
+-- the same sample
 pub record Finds (checked : CheckedDiagram) (starts : Starts) (places : List Place) : Type 0 where
   pub lines : AreLines checked.diagram starts.lines.items
   pub few : length places < 2 ^ 32
-  pub entries : (place : Place) → IsEntry checked.diagram (attributes_of checked.diagram) place → IsNumbered starts.ports.items starts.entries.items places place
-  pub ranked : (j k : ℕ) (source target : Place) → slice_get places j ≡ Some source → slice_get places k ≡ Some target
+  pub entries : (place : Place) → IsEntry checked.diagram (attributes_of checked.diagram) place
+      → IsNumbered starts.ports.items starts.entries.items places place
+  pub ranked : (j k : ℕ) (source target : Place) → slice_get places j ≡ Some source
+      → slice_get places k ≡ Some target
       → LeadsNow checked.diagram (attributes_of checked.diagram) source.block target.block → j < k
 
 -- an input port offers an element that its driver has
 abbrev pub IsRead : Diagram → Attributes → ℕ → ℕ → ℕ → Type 0
-IsRead diagram attributes block port element = repeated (width_into diagram attributes block port) element < width_into diagram attributes block port
+IsRead diagram attributes block port element =
+    repeated (width_into diagram attributes block port) element < width_into diagram attributes
+    block port
 
 -- the entry at the source of a line that serves an element
 abbrev pub source_of : Attributes → Edge → ℕ → Place
-source_of attributes edge element = record { block = edge.from; port = edge.from_port; element = repeated (attributes.width_at edge.from edge.from_port) element }
+source_of attributes edge element =
+    record {
+      block = edge.from;
+      port = edge.from_port;
+      element = repeated (attributes.width_at edge.from edge.from_port) element;
+    }
 
 -- the entry at k is one of a block that reads its inputs in the same sample
 abbrev pub ReadsNow : CheckedDiagram → List Place → ℕ → ℕ → Type 0
 ReadsNow checked places k block =
-    (place : Place) × (b : Block) × (slice_get places k ≡ Some place) × (place.block ≡ block) × (slice_get checked.diagram.blocks block ≡ Some b)
+    (place : Place) × (b : Block) × (slice_get places k ≡ Some place) × (place.block ≡ block)
+    × (slice_get checked.diagram.blocks block ≡ Some b)
     × (reads_now checked.diagram (attributes_of checked.diagram) block b.kind ≡ true)
 
 -- an entry stands before those of a block that reads it so

@@ -12,23 +12,29 @@ use Rattle.dg_model.specs.Signals.{Attributes}
 use Rattle.dg_model.specs.Solves.{shown_ports, shown_width}
 use Rattle.dg_model.specs.Wires.{width_into, widths_into, type_into}
 
--- the widths of a block that works element by element: each of its inputs is as wide as what it shows, or repeated
+-- the widths of a block that works element by element: each of its inputs is as wide as what it
+-- shows, or repeated
 abbrev pub AreRepeated : Diagram → Attributes → ℕ → Kind → ℕ → ℕ → Type 0
 AreRepeated diagram attributes block kind inputs outputs =
     (input output : ℕ) → 1 ≤ input → input ≤ inputs → 1 ≤ output → output ≤ shown_ports kind outputs
-    → IsRepeated (shown_width diagram attributes kind block output) (width_into diagram attributes block input)
+    → IsRepeated (shown_width diagram attributes kind block output)
+    (width_into diagram attributes block input)
 
 -- the widths of a block and of its inputs fit, by its shape
 abbrev pub FitShape : Shape → Diagram → Attributes → ℕ → Kind → ℕ → ℕ → Type 0
-FitShape Shape.Elementwise diagram attributes block kind inputs outputs = AreRepeated diagram attributes block kind inputs outputs
-FitShape (Shape.Joined sizes) diagram attributes block kind inputs outputs = attributes.width_at block 1 ≡ sum (widths_into diagram attributes block inputs)
+FitShape Shape.Elementwise diagram attributes block kind inputs outputs =
+    AreRepeated diagram attributes block kind inputs outputs
+FitShape (Shape.Joined sizes) diagram attributes block kind inputs outputs =
+    attributes.width_at block 1 ≡ sum (widths_into diagram attributes block inputs)
 FitShape (Shape.Parted sizes) diagram attributes block kind inputs outputs =
-    width_into diagram attributes block 1 ≡ sum (map (attributes.width_at block) (numbers_from 1 outputs))
+    width_into diagram attributes block 1
+    ≡ sum (map (attributes.width_at block) (numbers_from 1 outputs))
 FitShape Shape.Single diagram attributes block kind inputs outputs = attributes.width_at block 1 ≡ 1
 
 -- the same of a kind
 abbrev pub HasWidths : Diagram → Attributes → ℕ → Kind → ℕ → ℕ → Type 0
-HasWidths diagram attributes block kind inputs outputs = FitShape (row_of kind).signal.shape diagram attributes block kind inputs outputs
+HasWidths diagram attributes block kind inputs outputs =
+    FitShape (row_of kind).signal.shape diagram attributes block kind inputs outputs
 
 -- the lists of a kind have one entry, or one for each element
 abbrev pub HasLists : Kind → ℕ → Type 0
@@ -47,11 +53,18 @@ KeepsType diagram attributes block (Switch criterion threshold) inputs outputs =
 KeepsType diagram attributes block (Relational operator) inputs outputs = ⊤
 KeepsType diagram attributes block (Logic operator) inputs outputs = ⊤
 KeepsType diagram attributes block (Convert stored) inputs outputs = ⊤
-KeepsType diagram attributes block (Delay delay initial reset) inputs outputs = type_into diagram attributes block 1 ≡ attributes.type_at block 1
-KeepsType diagram attributes block (Mux sizes) inputs outputs = (port : ℕ) → 1 ≤ port → port ≤ inputs → type_into diagram attributes block port ≡ attributes.type_at block 1
-KeepsType diagram attributes block (Demux sizes) inputs outputs = (port : ℕ) → 1 ≤ port → port ≤ outputs → type_into diagram attributes block 1 ≡ attributes.type_at block port
-KeepsType diagram attributes block (RateTransition period initial) inputs outputs = type_into diagram attributes block 1 ≡ attributes.type_at block 1
+KeepsType diagram attributes block (Delay delay initial reset) inputs outputs =
+    type_into diagram attributes block 1 ≡ attributes.type_at block 1
+KeepsType diagram attributes block (Mux sizes) inputs outputs =
+    (port : ℕ) → 1 ≤ port → port ≤ inputs
+    → type_into diagram attributes block port ≡ attributes.type_at block 1
+KeepsType diagram attributes block (Demux sizes) inputs outputs =
+    (port : ℕ) → 1 ≤ port → port ≤ outputs
+    → type_into diagram attributes block 1 ≡ attributes.type_at block port
+KeepsType diagram attributes block (RateTransition period initial) inputs outputs =
+    type_into diagram attributes block 1 ≡ attributes.type_at block 1
 KeepsType diagram attributes block (Pass width) inputs outputs = ⊤
 KeepsType diagram attributes block EnableTest inputs outputs = attributes.type_at block 1 ≡ Logical
-KeepsType diagram attributes block (EnOut reset initial) inputs outputs = type_into diagram attributes block 1 ≡ attributes.type_at block 1
+KeepsType diagram attributes block (EnOut reset initial) inputs outputs =
+    type_into diagram attributes block 1 ≡ attributes.type_at block 1
 KeepsType diagram attributes block Terminator inputs outputs = ⊤

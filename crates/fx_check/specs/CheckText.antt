@@ -30,7 +30,8 @@ abbrev pub num_front : Bool → List ℕ
 num_front signed = if signed then codes " fixdt(1," else codes " fixdt(0,"
 
 abbrev pub num_text : Bool → ℕ → ℤ → List ℕ
-num_text signed width frac = named (num_front signed) width ++ codes "," ++ signed_decimal frac ++ codes ")"
+num_text signed width frac =
+    named (num_front signed) width ++ codes "," ++ signed_decimal frac ++ codes ")"
 
 abbrev pub type_text : FxType → List ℕ
 type_text (Num signed width frac) = num_text signed width frac
@@ -42,27 +43,32 @@ period_text (Some period) = named (codes " period ") period
 
 -- the type and the width of an output port
 unfoldable pub port_text : Diagram → ℕ → ℕ → List ℕ
-port_text diagram place port = type_text ((attributes_of diagram).type_at place port) ++ named (codes " ") ((attributes_of diagram).width_at place port)
+port_text diagram place port =
+    type_text ((attributes_of diagram).type_at place port)
+    ++ named (codes " ") ((attributes_of diagram).width_at place port)
 
 abbrev pub ports_text : Diagram → ℕ → ℕ → List ℕ
 ports_text diagram place outputs = flat_map (port_text diagram place) (numbers_from 1 outputs)
 
 -- its path, its period and latency in base samples
 unfoldable pub begun_block : List ℕ → Option ℕ → ℕ → List ℕ
-begun_block path period latency = codes "block " ++ quoted_path path ++ period_text period ++ named (codes " latency ") latency
+begun_block path period latency =
+    codes "block " ++ quoted_path path ++ period_text period ++ named (codes " latency ") latency
 
 -- and its output ports
 abbrev pub line_if : Diagram → Timing → ℕ → Option Block → List ℕ
 line_if diagram timing place None = []
 line_if diagram timing place (Some block) =
-    begun_block block.path ((attributes_of diagram).period_at place) (latency_at timing.lat place) ++ ports_text diagram place block.outputs ++ codes "\n"
+    begun_block block.path ((attributes_of diagram).period_at place) (latency_at timing.lat place)
+    ++ ports_text diagram place block.outputs ++ codes "\n"
 
 unfoldable pub block_line : Diagram → Timing → ℕ → List ℕ
 block_line diagram timing place = line_if diagram timing place (slice_get diagram.blocks place)
 
 -- ---- outputs
 
--- an output as its line tells it: the name of its port, its block, and the blocks on a path that makes it so late
+-- an output as its line tells it: the name of its port, its block, and the blocks on a path that
+-- makes it so late
 pub record Output : Type 0 where
   pub name : List ℕ
   pub block : ℕ
@@ -80,29 +86,42 @@ head_text name clocks = codes "output " ++ name ++ named (codes " clocks ") cloc
 
 unfoldable pub output_line : Diagram → Resolved → Timing → Output → List ℕ
 output_line diagram plan timing output =
-    head_text output.name (declared_latency diagram (attributes_of diagram) plan timing output.block) ++ steps_text diagram output.path ++ codes "\n"
+    head_text output.name
+    (declared_latency diagram (attributes_of diagram) plan timing output.block)
+    ++ steps_text diagram output.path ++ codes "\n"
 
 -- ---- the text
 
 abbrev pub front_text : Resolved → List ℕ
-front_text plan = named (codes "accepted cycles ") plan.cycles ++ named (codes " multipliers ") plan.multipliers ++ codes "\n"
+front_text plan =
+    named (codes "accepted cycles ") plan.cycles ++ named (codes " multipliers ") plan.multipliers
+    ++ codes "\n"
 
 abbrev pub blocks_text : Diagram → Timing → List ℕ
-blocks_text diagram timing = flat_map (block_line diagram timing) (numbers_from 0 (length diagram.blocks))
+blocks_text diagram timing =
+    flat_map (block_line diagram timing) (numbers_from 0 (length diagram.blocks))
 
 abbrev pub check_text : Diagram → Resolved → Timing → List Output → List ℕ
-check_text diagram plan timing outputs = front_text plan ++ blocks_text diagram timing ++ flat_map (output_line diagram plan timing) outputs
+check_text diagram plan timing outputs =
+    front_text plan ++ blocks_text diagram timing
+    ++ flat_map (output_line diagram plan timing) outputs
 
 -- these outputs have these names and blocks, and each has a path
-pub record AreOutputs (diagram : Diagram) (plan : Resolved) (timing : Timing) (names : List (List ℕ)) (blocks : List ℕ) (outputs : List Output) : Type 0 where
+pub record AreOutputs (diagram : Diagram) (plan : Resolved) (timing : Timing)
+    (names : List (List ℕ)) (blocks : List ℕ) (outputs : List Output) : Type 0 where
   pub names_are : map (λ output. output.name) outputs ≡ names
   pub blocks_are : map (λ output. output.block) outputs ≡ blocks
-  pub tight : (k : ℕ) (output : Output) → slice_get outputs k ≡ Some output → IsTightPath (latency_arcs diagram plan timing.fed) timing.lat output.block output.path
+  pub tight : (k : ℕ) (output : Output) → slice_get outputs k ≡ Some output
+      → IsTightPath (latency_arcs diagram plan timing.fed) timing.lat output.block output.path
 
--- the text, with one line for each element of the root outputs; of the paths that make an output so late any may stand there
-pub record IsCheckText (diagram : Diagram) (plan : Resolved) (timing : Timing) (text : List ℕ) : Type 0 where
+-- the text, with one line for each element of the root outputs; of the paths that make an output so
+-- late any may stand there
+pub record IsCheckText (diagram : Diagram) (plan : Resolved) (timing : Timing)
+    (text : List ℕ) : Type 0 where
   pub names : List (List ℕ)
   pub named : AreNames diagram names
   pub outputs : List Output
-  pub are : AreOutputs diagram plan timing (drop (length (root_inputs diagram (attributes_of diagram))) names) (map (λ e. e.block) (root_outputs diagram (attributes_of diagram))) outputs
+  pub are : AreOutputs diagram plan timing
+      (drop (length (root_inputs diagram (attributes_of diagram))) names)
+      (map (λ e. e.block) (root_outputs diagram (attributes_of diagram))) outputs
   pub text_is : text ≡ check_text diagram plan timing outputs

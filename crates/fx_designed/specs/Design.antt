@@ -1,4 +1,5 @@
--- What the texts of a model and of a plan make: a diagram with the plan's numbers and the times of its blocks, or a fault (own).
+-- What the texts of a model and of a plan make: a diagram with the plan's numbers and the times of
+-- its blocks, or a fault (own).
 use Rattle.std.specs.Prelude.{◌≡◌, ℕ, List, map}
 use Rattle.dg_model.specs.declared.diagram.Diagram.{Diagram}
 use Rattle.dg_model.specs.declared.fault.RuleFault.{RuleFault}
@@ -12,8 +13,10 @@ use Rattle.fx_tables.specs.Plan.{IsPlan, IsPlanFault}
 use Rattle.hw_rules.specs.Rules.{IsPlanned, BreaksPlanRule}
 use Rattle.hw_sched.specs.Slots.{Timing}
 
--- the model keeps the rules of models, the text is that of a plan, and the plan keeps its rules on the model's diagram
-pub record IsDesignOf (model text : List ℕ) (diagram : Diagram) (resolved : Resolved) (timing : Timing) : Type 0 where
+-- the model keeps the rules of models, the text is that of a plan, and the plan keeps its rules on
+-- the model's diagram
+pub record IsDesignOf (model text : List ℕ) (diagram : Diagram) (resolved : Resolved)
+    (timing : Timing) : Type 0 where
   pub accepted : IsModelOf model diagram
   pub plan : Plan
   pub says : IsPlan text plan
@@ -31,7 +34,8 @@ pub record TellsOnDiagram (diagram : Diagram) (plan : Plan) (line : List ℕ) : 
   pub broken : BreaksPlanRule diagram plan fault
   pub line_is : line ≡ rule_line (map (λ block. block.path) diagram.blocks) fault
 
--- the model keeps its rules, the text is that of a plan, and the plan breaks a rule on the model's diagram, the first of them told by this line
+-- the model keeps its rules, the text is that of a plan, and the plan breaks a rule on the model's
+-- diagram, the first of them told by this line
 pub record TellsPlanRule (model text line : List ℕ) : Type 0 where
   pub diagram : Diagram
   pub accepted : IsModelOf model diagram

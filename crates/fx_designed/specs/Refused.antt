@@ -12,7 +12,9 @@ use Rattle.hw_rules.specs.Times.{timing_in}
 
 -- what is given is the design of the texts
 abbrev pub IsDesigned : List ℕ → List ℕ → Designed → Type 0
-IsDesigned model text designed = IsDesignOf model text designed.checked.diagram designed.planned.resolved (timing_in designed.planned.times)
+IsDesigned model text designed =
+    IsDesignOf model text designed.checked.diagram designed.planned.resolved
+    (timing_in designed.planned.times)
 
 -- what a refusal says of a model's bytes
 abbrev pub IsRefusedModel : List ℕ → ModelRefusal → Type 0
@@ -23,6 +25,7 @@ IsRefusedModel model OutOfMemory = ⊤
 -- what a fault says of the bytes of a model and of a plan
 abbrev pub IsRefusedDesign : List ℕ → List ℕ → DesignFault → Type 0
 IsRefusedDesign model text (design.NotMdl line) = IsNotMdl model line
-IsRefusedDesign model text (design.BreaksRule line) = TellsRule model line ⊎ TellsPlanRule model text line
+IsRefusedDesign model text (design.BreaksRule line) =
+    TellsRule model line ⊎ TellsPlanRule model text line
 IsRefusedDesign model text (design.BadPlan line cause) = IsBadPlan model text line cause
 IsRefusedDesign model text design.OutOfMemory = ⊤

@@ -15,16 +15,20 @@ named word number = word ++ decimal number
 
 -- a plan's clocks and multipliers
 abbrev pub pair_text : Finding → List ℕ
-pair_text finding = named (codes "cycles ") finding.cycles ++ named (codes " multipliers ") finding.multipliers
+pair_text finding =
+    named (codes "cycles ") finding.cycles ++ named (codes " multipliers ") finding.multipliers
 
 -- how many multiplications a good plan leaves, and how late
 abbrev pub worth_text : ℕ → ℕ → List ℕ
-worth_text owed latency = named (codes " multiplications ") owed ++ named (codes " latency ") latency
+worth_text owed latency =
+    named (codes " multiplications ") owed ++ named (codes " latency ") latency
 
 -- what it is worth: the paths are those of the diagram's blocks
 abbrev pub verdict_text : List (List ℕ) → Judged → List ℕ
 verdict_text paths (Good owed latency) = worth_text owed latency
-verdict_text paths (Bad rule shown) = named (codes ": rule ") (rule_number rule) ++ codes " (" ++ rule_word rule ++ codes ")" ++ shown_text paths shown
+verdict_text paths (Bad rule shown) =
+    named (codes ": rule ") (rule_number rule) ++ codes " (" ++ rule_word rule ++ codes ")"
+    ++ shown_text paths shown
 
 unfoldable pub finding_line : List (List ℕ) → Finding → List ℕ
 finding_line paths finding = pair_text finding ++ verdict_text paths finding.verdict ++ codes "\n"
@@ -40,4 +44,6 @@ least_of rows (Some place) = least_by (slice_get rows place)
 
 -- a line for each plan, and one for the least
 abbrev pub findings_text : List (List ℕ) → Findings → List ℕ
-findings_text paths findings = flat_map (finding_line paths) findings.rows ++ codes "least " ++ least_of findings.rows findings.least ++ codes "\n"
+findings_text paths findings =
+    flat_map (finding_line paths) findings.rows ++ codes "least "
+    ++ least_of findings.rows findings.least ++ codes "\n"

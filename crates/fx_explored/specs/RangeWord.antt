@@ -1,4 +1,5 @@
--- The word that names a range of plans: `A..B,C..D`, clocks from A to B and multipliers from C to D (own).
+-- The word that names a range of plans: `A..B,C..D`, clocks from A to B and multipliers from C to D
+-- (own).
 use Prim.Native.Char.{code}
 use Rattle.std.specs.Prelude.{ℕ, ◌+◌, ◌==◌, ◌&&◌, ◌||◌, not, nat_eq, Bool, if◌then◌else◌, List, length, take, drop, codes, Option, Some, None}
 use Rattle.std.specs.List.{position_or_len, starts_with}
@@ -10,7 +11,8 @@ use Rattle.hw_explore.specs.Range.{range_between}
 
 -- one to four digits, without a zero in front of others
 abbrev pub is_plain : List ℕ → Bool
-is_plain word = is_number 4 word && (nat_eq (length word) 1 || not (starts_with nat_eq word (codes "0")))
+is_plain word =
+    is_number 4 word && (nat_eq (length word) 1 || not (starts_with nat_eq word (codes "0")))
 
 abbrev pub plain_number : List ℕ → Option ℕ
 plain_number word = if is_plain word then Some (digits_value 10 word) else None
@@ -34,7 +36,10 @@ ends_by None high = None
 
 -- `A..B`
 abbrev pub ends_of : List ℕ → Option Ends
-ends_of word = if starts_with nat_eq (drop (first_of (code ".") word) word) (codes "..") then ends_by (plain_number (before (code ".") word)) (plain_number (behind (code ".") 2 word)) else None
+ends_of word =
+    if starts_with nat_eq (drop (first_of (code ".") word) word) (codes "..")
+    then ends_by (plain_number (before (code ".") word)) (plain_number (behind (code ".") 2 word))
+    else None
 
 abbrev pub range_by : Option Ends → Option Ends → Option Range
 range_by (Some cycles) (Some multipliers) = range_between cycles multipliers

@@ -25,7 +25,8 @@ pub record IsWritten (IsSo : Module → Type 0) (text : List ℕ) : Type 0 where
   pub alone : SpellsAlone text made
   pub so : IsSo made
 
--- of the bytes of a model and of a plan the text is the written one of a module that owes their design nothing, and it spells this module alone
+-- of the bytes of a model and of a plan the text is the written one of a module that owes their
+-- design nothing, and it spells this module alone
 pub record IsVerilogOf (model plan text : List ℕ) : Type 0 where
   pub diagram : Diagram
   pub resolved : Resolved
@@ -33,7 +34,8 @@ pub record IsVerilogOf (model plan text : List ℕ) : Type 0 where
   pub design : IsDesignOf model plan diagram resolved timing
   pub written : IsWritten (λ made. IsModuleOf made diagram resolved timing) text
 
--- nothing is broken: neither a rule of the model, nor a line of the plan, nor a rule of the plan on the model's diagram
+-- nothing is broken: neither a rule of the model, nor a line of the plan, nor a rule of the plan on
+-- the model's diagram
 pub record CanBeDesigned (model plan : List ℕ) : Type 0 where
   pub accepted : IsAccepted model
   pub good : (line : ℕ) (cause : TableCause) → IsBadPlan model plan line cause → ⊥
@@ -48,4 +50,5 @@ pub record HasNoPlan (model plan : List ℕ) : Type 0 where
 pub record IsWithoutDesign (model plan : List ℕ) : Type 0 where
   pub accepted : IsAccepted model
   pub good : (line : ℕ) (cause : TableCause) → IsBadPlan model plan line cause → ⊥
-  pub none : (diagram : Diagram) (resolved : Resolved) (timing : Timing) → IsDesignOf model plan diagram resolved timing → ⊥
+  pub none : (diagram : Diagram) (resolved : Resolved) (timing : Timing)
+      → IsDesignOf model plan diagram resolved timing → ⊥

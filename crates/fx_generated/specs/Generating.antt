@@ -21,17 +21,21 @@ pub record IsPlanOn (diagram : Diagram) (planned : Planned) : Type 0 where
 
 -- it spells alone a module that owes the diagram nothing
 abbrev pub IsWrittenOf : Diagram → Resolved → Times → List ℕ → Type 0
-IsWrittenOf diagram plan times text = IsWritten (λ made. IsModuleOf made diagram plan (timing_in times)) text
+IsWrittenOf diagram plan times text =
+    IsWritten (λ made. IsModuleOf made diagram plan (timing_in times)) text
 
 -- the text is the written one of this module, and it spells it alone
 abbrev pub IsTextOf : Module → List ℕ → Type 0
 IsTextOf made text = IsWritten (λ own. own ≡ made) text
 
 -- some text spells the module, whose written one is so, or there is none
-abbrev pub IsModuleFor : (List ℕ → Type 0) → (DesignFault → Type 0) → Result Module DesignFault → Type 0
-IsModuleFor IsSo Refused (Ok made) = Spells (spelling made) made × ((text : List ℕ) → IsTextOf made text → IsSo text)
+abbrev pub IsModuleFor : (List ℕ → Type 0) → (DesignFault → Type 0) → Result Module DesignFault
+    → Type 0
+IsModuleFor IsSo Refused (Ok made) =
+    Spells (spelling made) made × ((text : List ℕ) → IsTextOf made text → IsSo text)
 IsModuleFor IsSo Refused (Err why) = Refused why
 
 -- that of a model and a plan
 abbrev pub IsVerilogModule : List ℕ → List ℕ → Result Module DesignFault → Type 0
-IsVerilogModule model plan made = IsModuleFor (IsVerilogOf model plan) (IsRefusedDesign model plan) made
+IsVerilogModule model plan made =
+    IsModuleFor (IsVerilogOf model plan) (IsRefusedDesign model plan) made

@@ -1,5 +1,5 @@
--- What is written of a model and a plan with valid and ready on both sides, and the rule on the model's
--- ports that this asks for (own).
+-- What is written of a model and a plan with valid and ready on both sides, and the rule on the
+-- model's ports that this asks for (own).
 use Rattle.std.specs.Prelude.{◌≡◌, ℕ, ◌<◌, ◌||◌, Bool, true, List, map, Some, is_some, unwrap_or}
 use Rattle.dg_model.specs.declared.diagram.Block.{Block}
 use Rattle.dg_model.specs.declared.diagram.Diagram.{Diagram}
@@ -38,16 +38,20 @@ use Rattle.vl_ast.specs.Windows.{Each, Window, row_at}
 
 -- the block is a root input or a root output
 abbrev pub is_root_port : Block → Bool
-is_root_port block = is_some (root_input (row_of block.kind).place.role) || is_some (root_output (row_of block.kind).place.role)
+is_root_port block =
+    is_some (root_input (row_of block.kind).place.role)
+    || is_some (root_output (row_of block.kind).place.role)
 
 -- a root port has a number in every base sample
 abbrev pub KeepsStream : Diagram → ℕ → Block → Type 0
-KeepsStream diagram place block = is_root_port block ≡ true → (attributes_of diagram).period_at place ≡ Some 1
+KeepsStream diagram place block =
+    is_root_port block ≡ true → (attributes_of diagram).period_at place ≡ Some 1
 
 -- the first root port that hasn't is told with its period
 abbrev pub BreaksStream : Diagram → RuleFault → Type 0
 BreaksStream diagram fault =
-    BreaksAt diagram Rule.Stream (KeepsStream diagram) (λ place block. Periods (unwrap_or ((attributes_of diagram).period_at place) 0) 1) fault
+    BreaksAt diagram Rule.Stream (KeepsStream diagram)
+    (λ place block. Periods (unwrap_or ((attributes_of diagram).period_at place) 0) 1) fault
 
 -- the texts make a design whose ports break the rule, and this line tells it
 pub record TellsStreamRule (model plan line : List ℕ) : Type 0 where
@@ -64,40 +68,53 @@ pub record CanBeStreamed (model plan : List ℕ) : Type 0 where
   pub designed : CanBeDesigned model plan
   pub steady : (line : List ℕ) → TellsStreamRule model plan line → ⊥
 
--- the model keeps its rules, no line of the plan is bad, and the two make no design whose ports keep the rule
+-- the model keeps its rules, no line of the plan is bad, and the two make no design whose ports
+-- keep the rule
 pub record IsWithoutStream (model plan : List ℕ) : Type 0 where
   pub accepted : IsAccepted model
   pub good : (line : ℕ) (cause : TableCause) → IsBadPlan model plan line cause → ⊥
-  pub none : (diagram : Diagram) (resolved : Resolved) (timing : Timing) → IsDesignOf model plan diagram resolved timing → AllKeep diagram (KeepsStream diagram) → ⊥
+  pub none : (diagram : Diagram) (resolved : Resolved) (timing : Timing)
+      → IsDesignOf model plan diagram resolved timing → AllKeep diagram (KeepsStream diagram) → ⊥
 
 -- ---- the transfers
 
 -- the stimulus of the first so many samples that were taken
-pub record IsTaken (diagram : Diagram) (names : List (List ℕ)) (window : Window) (rows : Rows) (samples : ℕ) (stimulus : Stimulus) : Type 0 where
+pub record IsTaken (diagram : Diagram) (names : List (List ℕ)) (window : Window) (rows : Rows)
+    (samples : ℕ) (stimulus : Stimulus) : Type 0 where
   pub in_range : IsStimulus diagram (attributes_of diagram) stimulus samples
   pub at : (t place : ℕ) → t < samples → IsTransfer in_side window rows t place
-      → Each (input_elements names diagram) (λ index e. rows (row_at window place) e.name ≡ bits_of (width_of e.root.type) (stimulus e.root.number e.root.element t))
+      → Each (input_elements names diagram)
+      (λ index e. rows (row_at window place) e.name
+      ≡ bits_of (width_of e.root.type) (stimulus e.root.number e.root.element t))
 
 -- the outputs show the table's entries of a sample
 abbrev pub ShowsSample : Diagram → List (List ℕ) → Row → Table → ℕ → Type 0
 ShowsSample diagram names row table sample =
-    Each (output_elements names diagram) (λ index e. row e.name ≡ bits_of (width_of e.root.type) (table e.root.block 1 e.root.element sample))
+    Each (output_elements names diagram)
+    (λ index e. row e.name
+    ≡ bits_of (width_of e.root.type) (table e.root.block 1 e.root.element sample))
 
--- the sample that a row hands over was taken before or in it, and its outputs are those of every table that solves the diagram under the samples that were
-pub record AnswersAt (diagram : Diagram) (names : List (List ℕ)) (window : Window) (rows : Rows) (number place : ℕ) : Type 0 where
+-- the sample that a row hands over was taken before or in it, and its outputs are those of every
+-- table that solves the diagram under the samples that were
+pub record AnswersAt (diagram : Diagram) (names : List (List ℕ)) (window : Window) (rows : Rows)
+    (number place : ℕ) : Type 0 where
   pub taken : number < taken_by window rows place
-  pub shown : (stimulus : Stimulus) (table : Table) → IsTaken diagram names window rows (taken_by window rows place) stimulus
+  pub shown : (stimulus : Stimulus) (table : Table)
+      → IsTaken diagram names window rows (taken_by window rows place) stimulus
       → Solves diagram (attributes_of diagram) stimulus (taken_by window rows place) table
       → ShowsSample diagram names (rows (row_at window place)) table number
 
 -- in every run that is reset
 abbrev pub Answers : Module → Diagram → List (List ℕ) → Type 0
 Answers m diagram names =
-    (window : Window) (start : Row) (inputs rows : Rows) → IsResetLast window inputs → Runs m window.rows start inputs rows
-    → (number place : ℕ) → IsTransfer out_side window rows number place → AnswersAt diagram names window rows number place
+    (window : Window) (start : Row) (inputs rows : Rows) → IsResetLast window inputs
+    → Runs m window.rows start inputs rows
+    → (number place : ℕ) → IsTransfer out_side window rows number place
+    → AnswersAt diagram names window rows number place
 
 -- the module with valid and ready round the module of a diagram by a plan
-pub record IsStreamOf (m : Module) (diagram : Diagram) (plan : Resolved) (timing : Timing) : Type 0 where
+pub record IsStreamOf (m : Module) (diagram : Diagram) (plan : Resolved)
+    (timing : Timing) : Type 0 where
   pub names : List (List ℕ)
   pub are_names : AreStreamNames diagram names
   pub core : Module
@@ -108,7 +125,8 @@ pub record IsStreamOf (m : Module) (diagram : Diagram) (plan : Resolved) (timing
   pub handshake : ShakesHands core m
   pub answers : Answers m diagram names
 
--- of the bytes of a model and of a plan, whose ports keep the rule, the text is the written one of such a module, and it spells this module alone
+-- of the bytes of a model and of a plan, whose ports keep the rule, the text is the written one of
+-- such a module, and it spells this module alone
 pub record IsStreamedOf (model plan text : List ℕ) : Type 0 where
   pub diagram : Diagram
   pub resolved : Resolved

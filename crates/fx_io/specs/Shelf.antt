@@ -3,7 +3,8 @@ use Rattle.std.specs.Prelude.{◌≡◌, ℕ, ◌<◌, ◌≤◌, List, length, 
 use Rattle.fx_io.specs.declared.shelf.FetchFault.{FetchFault}
 use Rattle.fx_io.specs.declared.shelf.FetchFault.TheVariants.{Failed, TooLong}
 
--- what is told of a name: None where the shelf does not tell, Some None where it holds nothing there
+-- what is told of a name: None where the shelf does not tell, Some None where it holds nothing
+-- there
 abbrev pub Told : Type 0
 Told = Option (Option (List ℕ))
 
@@ -20,7 +21,8 @@ pub record IsOverlong (told : Told) (limit reported : ℕ) : Type 0 where
 
 -- what a steady shelf answers: a fault exactly where it holds nothing, a refusal exactly where what
 -- it holds is too long
-pub record AnswersSteadily (told : Told) (limit : ℕ) (result : Result (List ℕ) FetchFault) : Type 0 where
+pub record AnswersSteadily (told : Told) (limit : ℕ)
+    (result : Result (List ℕ) FetchFault) : Type 0 where
   pub tells : (entry : Option (List ℕ)) × (told ≡ Some entry)
   pub failed : (result ≡ Err Failed) ↔ (told ≡ Some None)
   pub too_long : ((reported : ℕ) × (result ≡ Err (TooLong reported)))

@@ -1,5 +1,6 @@
--- The diagram that a model's text describes, and the first of the rules of models that the text breaks (own; the rules
--- are those of the Simulink reference, model files, signal attributes, sample times and algebraic loops).
+-- The diagram that a model's text describes, and the first of the rules of models that the text
+-- breaks (own; the rules are those of the Simulink reference, model files, signal attributes,
+-- sample times and algebraic loops).
 use Rattle.std.specs.Prelude.{◌≡◌, ℕ, ◌⊎◌, List, [], map}
 use Rattle.mdl_text.specs.declared.tree.Tree.{Tree}
 use Rattle.mdl_text.specs.Stands.{Stands}
@@ -51,7 +52,8 @@ pub record BreaksLines (tree : Tree) (fault : RuleFault) (paths : List (List ℕ
   pub broken : BreaksWiringOrEnable nested fault
   pub none : paths ≡ []
 
--- these five are kept, and the rule of dimensions, types, rates or loops is broken; these are the paths of the diagram's blocks
+-- these five are kept, and the rule of dimensions, types, rates or loops is broken; these are the
+-- paths of the diagram's blocks
 pub record BreaksDiagram (tree : Tree) (fault : RuleFault) (paths : List (List ℕ)) : Type 0 where
   pub diagram : Diagram
   pub flat : IsDiagramOf tree diagram
@@ -60,7 +62,8 @@ pub record BreaksDiagram (tree : Tree) (fault : RuleFault) (paths : List (List �
 
 -- the first rule that is broken is one of models, with this fault
 abbrev pub BreaksModel : Tree → RuleFault → List (List ℕ) → Type 0
-BreaksModel tree fault paths = BreaksText tree fault paths ⊎ (BreaksLines tree fault paths ⊎ BreaksDiagram tree fault paths)
+BreaksModel tree fault paths =
+    BreaksText tree fault paths ⊎ (BreaksLines tree fault paths ⊎ BreaksDiagram tree fault paths)
 
 -- the bytes stand for a tree that breaks a rule, the first of them with this fault
 pub record IsBrokenModel (bytes : List ℕ) (fault : RuleFault) (paths : List (List ℕ)) : Type 0 where

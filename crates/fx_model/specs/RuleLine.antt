@@ -17,8 +17,8 @@ hex_digit digit = slice_index_or (codes "0123456789abcdef") digit 0
 abbrev pub control_byte : ℕ → List ℕ
 control_byte byte = code "\\" ∷ code "x" ∷ hex_digit (byte / 16) ∷ hex_digit (byte % 16) ∷ []
 
--- a byte of a name, as MDL writes it between quotes: `\n` for a newline, `\t` for a tab, and a backslash before a quote
--- or a backslash; a further control byte by its number
+-- a byte of a name, as MDL writes it between quotes: `\n` for a newline, `\t` for a tab, and a
+-- backslash before a quote or a backslash; a further control byte by its number
 abbrev pub quoted_byte : ℕ → List ℕ
 quoted_byte byte =
     if byte == code "\n" then codes "\\n"
@@ -42,22 +42,29 @@ period_text period = if period == 0 then codes "inf" else decimal period
 
 -- blocks by their numbers, each behind a space
 abbrev pub cycle_text : List (List ℕ) → List ℕ → List ℕ
-cycle_text paths blocks = flat_map (λ block. codes " " ++ quoted_path (slice_index_or paths block [])) blocks
+cycle_text paths blocks =
+    flat_map (λ block. codes " " ++ quoted_path (slice_index_or paths block [])) blocks
 
 -- what is told of a broken rule beside its place
 abbrev pub shown_text : List (List ℕ) → Shown → List ℕ
 shown_text paths Nothing = []
 shown_text paths (Word word) = codes ": " ++ flat_map quoted_byte word
-shown_text paths (Periods own other) = codes ": periods " ++ period_text own ++ codes " " ++ period_text other
+shown_text paths (Periods own other) =
+    codes ": periods " ++ period_text own ++ codes " " ++ period_text other
 shown_text paths (Cycle blocks) = codes ": cycle" ++ cycle_text paths blocks
-shown_text paths (Latency blocks total) = codes ": total " ++ signed_decimal total ++ codes " cycle" ++ cycle_text paths blocks
-shown_text paths (Budget period need have) = codes ": period " ++ decimal period ++ codes " need " ++ decimal need ++ codes " have " ++ decimal have
-shown_text paths (Size storage latency) = codes ": storage " ++ decimal storage ++ codes " latency " ++ decimal latency
+shown_text paths (Latency blocks total) =
+    codes ": total " ++ signed_decimal total ++ codes " cycle" ++ cycle_text paths blocks
+shown_text paths (Budget period need have) =
+    codes ": period " ++ decimal period ++ codes " need " ++ decimal need ++ codes " have "
+    ++ decimal have
+shown_text paths (Size storage latency) =
+    codes ": storage " ++ decimal storage ++ codes " latency " ++ decimal latency
 
 -- the line; the paths are those of the diagram's blocks
 abbrev pub rule_line : List (List ℕ) → RuleFault → List ℕ
 rule_line paths fault =
-    codes "rule " ++ decimal (rule_number fault.rule) ++ codes " (" ++ rule_word fault.rule ++ codes "): " ++ place_text fault.place
+    codes "rule " ++ decimal (rule_number fault.rule)
+    ++ codes " (" ++ rule_word fault.rule ++ codes "): " ++ place_text fault.place
     ++ shown_text paths fault.shown ++ codes "\n"
 
 -- the line tells the first rule that the model of these bytes breaks

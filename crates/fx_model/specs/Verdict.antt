@@ -5,7 +5,8 @@ use Rattle.dg_model.specs.declared.fault.RuleFault.{RuleFault}
 use Rattle.dg_rules.specs.Laws.{told_first}
 use Rattle.fx_model.specs.Model.{IsNotMdl, IsBrokenModel, IsModelOf}
 
--- it is no MDL text from this line on, or it breaks this rule first, where these are the paths of the diagram's blocks, or this is its diagram
+-- it is no MDL text from this line on, or it breaks this rule first, where these are the paths of
+-- the diagram's blocks, or this is its diagram
 pub data Verdict : Type 0 where
   NotMdl : ℕ → Verdict
   Broken : RuleFault → List (List ℕ) → Verdict

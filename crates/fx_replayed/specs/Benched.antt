@@ -7,6 +7,8 @@ use Rattle.fx_replayed.specs.Replayed.{CanBeReplayed, IsReplayOf}
 abbrev pub told_by : TrueBench → List ℕ
 told_by bench = bench.told
 
--- it tells the response of the module that the text spells, and no bytes where it spells none that can be replayed by the stimulus
+-- it tells the response of the module that the text spells, and no bytes where it spells none that
+-- can be replayed by the stimulus
 abbrev pub IsTold : List ℕ → List ℕ → List ℕ → Type 0
-IsTold verilog stimulus told = IsReplayOf verilog stimulus told ⊎ ((CanBeReplayed verilog stimulus → ⊥) × (told ≡ []))
+IsTold verilog stimulus told =
+    IsReplayOf verilog stimulus told ⊎ ((CanBeReplayed verilog stimulus → ⊥) × (told ≡ []))

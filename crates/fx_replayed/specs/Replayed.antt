@@ -26,14 +26,16 @@ pub record IsSoundText (verilog : List ℕ) (made : Module) : Type 0 where
 
 -- the first bad line of a stimulus of a module
 abbrev pub fault_for : Module → List ℕ → Option TableFault
-fault_for made stimulus = stimulus_fault (columns_of (stimulus_ports made)) (length (output_ports made)) stimulus
+fault_for made stimulus =
+    stimulus_fault (columns_of (stimulus_ports made)) (length (output_ports made)) stimulus
 
 -- the rows of a stimulus of a module
 abbrev pub AreRowsFor : Module → List ℕ → Table → Type 0
-AreRowsFor made stimulus rows = IsRows (columns_of (stimulus_ports made)) (length (output_ports made)) stimulus rows
+AreRowsFor made stimulus rows =
+    IsRows (columns_of (stimulus_ports made)) (length (output_ports made)) stimulus rows
 
--- the text is the response of the module that the Verilog text spells to the stimulus: what is sampled of it,
--- a line per sample and a number where an output has its hit
+-- the text is the response of the module that the Verilog text spells to the stimulus: what is
+-- sampled of it, a line per sample and a number where an output has its hit
 pub record IsReplayOf (verilog stimulus text : List ℕ) : Type 0 where
   pub made : Module
   pub spelled : IsSoundText verilog made

@@ -21,7 +21,8 @@ IsRefusedReplay verilog stimulus OutOfMemory = ⊤
 
 -- the table is what is sampled of the module of a replay
 abbrev pub IsTableOf : Replay → (Sample → List ℤ) → Type 0
-IsTableOf replay table = Sampled (module_of replay) (numbers_of (stimulus_of replay)) (stimulus_of replay).lines table
+IsTableOf replay table =
+    Sampled (module_of replay) (numbers_of (stimulus_of replay)) (stimulus_of replay).lines table
 
 -- it stands before its first sample, and its lines are the response of the text to the stimulus
 pub record IsResponseTo (verilog stimulus : List ℕ) (ready : Response) : Type 0 where

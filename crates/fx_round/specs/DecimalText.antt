@@ -1,5 +1,6 @@
 -- Decimals as text: an optional sign, digits with at most one point and at least one digit, and
--- then, after `e` or `E`, an optional sign and one or two digits. `true` is 1, and `false` is 0 (own).
+-- then, after `e` or `E`, an optional sign and one or two digits. `true` is 1, and `false` is 0
+-- (own).
 use Rattle.std.specs.Prelude.{◌≡◌, ℕ, ◌^◌, ◌<◌, ◌≤◌, Bool, true, false, List, [], ◌++◌, length, ℤ, pos, negsuc, ◌-ℤ◌, neg_ℤ, ◌≤ℤ◌, codes, ◌⊎◌, IsTrue}
 use Rattle.std.specs.List.{list_all}
 use Rattle.std.specs.Char.{is_ascii_digit}

@@ -6,13 +6,15 @@ use Rattle.fx_sample.specs.declared.chain.ChainKind.TheVariants.{Delay, Sum, Gai
 -- the kind that a choice below 4 stands for
 abbrev pub chosen_kind : ℕ → ChainKind
 chosen_kind choice =
-    if choice == 0 then Sum else (if choice == 1 then Gain else (if choice == 2 then Product else Switch))
+    if choice == 0 then Sum
+    else (if choice == 1 then Gain else (if choice == 2 then Product else Switch))
 
 -- the kind of the block at this place, from 1, with this number: each fourth is a delay
 abbrev pub kind_of : ℕ → ℕ → ChainKind
 kind_of place number = if place % 4 == 0 then Delay else chosen_kind (number / 2 ^ 33 % 4)
 
--- its BlockType, and how many inputs it has: the first is the block before, and each other the input of the model
+-- its BlockType, and how many inputs it has: the first is the block before, and each other the
+-- input of the model
 pub record ChainRow : Type 0 where
   pub word : List ℕ
   pub inputs : ℕ

@@ -1,6 +1,6 @@
 -- The model text of a sample: an input, a chain of blocks, a rate transition and two outputs (own).
--- Each parameter that isn't its default stands quoted, in the order in which they are listed for its
--- BlockType. The lines follow the blocks, in the order of destination and port.
+-- Each parameter that isn't its default stands quoted, in the order in which they are listed for
+-- its BlockType. The lines follow the blocks, in the order of destination and port.
 use Rattle.std.specs.Prelude.{ℕ, ◌-◌, ◌==◌, if◌then◌else◌, List, [], ◌++◌, codes}
 use Rattle.std.specs.Fmt.{decimal}
 use Rattle.std.specs.List.{flat_map, range_with_len}
@@ -20,7 +20,8 @@ parameter_text name value = codes "      " ++ name ++ codes " \"" ++ value ++ co
 -- the lines with which a block begins
 unfoldable pub block_head : List ℕ → List ℕ → List ℕ
 block_head word name =
-    codes "    Block {\n" ++ codes "      BlockType " ++ word ++ codes "\n" ++ parameter_text (codes "Name") name
+    codes "    Block {\n" ++ codes "      BlockType " ++ word ++ codes "\n"
+    ++ parameter_text (codes "Name") name
 
 -- the line with which a block or a line ends
 unfoldable pub section_end : List ℕ
@@ -37,7 +38,8 @@ type_parameter = parameter_text (codes "OutDataTypeStr") (codes "fixdt(1,16,8)")
 -- a gain of 0.75 with its type
 unfoldable pub gain_parameters : List ℕ
 gain_parameters =
-    parameter_text (codes "Gain") (codes "0.75") ++ parameter_text (codes "ParamDataTypeStr") (codes "fixdt(1,16,14)") ++ type_parameter
+    parameter_text (codes "Gain") (codes "0.75")
+    ++ parameter_text (codes "ParamDataTypeStr") (codes "fixdt(1,16,14)") ++ type_parameter
 
 -- the parameters of a block of the chain
 abbrev pub parameters_of : ChainKind → List ℕ
@@ -53,11 +55,13 @@ chain_text place kind = block_text (word_of kind) (chain_name place) (parameters
 
 -- the lines of a line's source, output port 1 of a block, and of its destination
 unfoldable pub source_text : List ℕ → List ℕ
-source_text source = codes "    Line {\n" ++ parameter_text (codes "SrcBlock") source ++ codes "      SrcPort 1\n"
+source_text source =
+    codes "    Line {\n" ++ parameter_text (codes "SrcBlock") source ++ codes "      SrcPort 1\n"
 
 unfoldable pub target_text : List ℕ → ℕ → List ℕ
 target_text target port =
-    parameter_text (codes "DstBlock") target ++ codes "      DstPort " ++ decimal port ++ codes "\n" ++ section_end
+    parameter_text (codes "DstBlock") target ++ codes "      DstPort " ++ decimal port ++ codes "\n"
+    ++ section_end
 
 -- a line from a block to a port of another
 abbrev pub line_text : List ℕ → List ℕ → ℕ → List ℕ
@@ -86,18 +90,23 @@ model_head = codes "Model {\n" ++ codes "  Name \"sample\"\n" ++ codes "  System
 
 -- the input
 unfoldable pub input_text : List ℕ
-input_text = block_text (codes "Inport") (codes "In") (type_parameter ++ parameter_text (codes "SampleTime") (codes "1"))
+input_text =
+    block_text (codes "Inport") (codes "In")
+    (type_parameter ++ parameter_text (codes "SampleTime") (codes "1"))
 
 -- the blocks behind the chain
 unfoldable pub ends_text : List ℕ
 ends_text =
-    block_text (codes "RateTransition") (codes "Down") (parameter_text (codes "OutPortSampleTime") (codes "2"))
+    block_text (codes "RateTransition") (codes "Down")
+    (parameter_text (codes "OutPortSampleTime") (codes "2"))
     ++ block_text (codes "Outport") (codes "Out") []
     ++ block_text (codes "Outport") (codes "Slow") (parameter_text (codes "Port") (codes "2"))
 
 -- and the lines into them, behind the last block of the chain
 unfoldable pub end_lines : List ℕ → List ℕ
-end_lines last = line_text last (codes "Down") 1 ++ line_text last (codes "Out") 1 ++ line_text (codes "Down") (codes "Slow") 1
+end_lines last =
+    line_text last (codes "Down") 1 ++ line_text last (codes "Out") 1
+    ++ line_text (codes "Down") (codes "Slow") 1
 
 -- behind the lines
 unfoldable pub model_end : List ℕ
@@ -107,4 +116,5 @@ model_end = codes "  }\n}\n"
 abbrev pub sample_model : ℕ → List ℕ
 sample_model count =
     model_head ++ input_text ++ flat_map (block_at count) (range_with_len 1 count)
-    ++ ends_text ++ flat_map (lines_at count) (range_with_len 1 count) ++ end_lines (chain_name count) ++ model_end
+    ++ ends_text ++ flat_map (lines_at count) (range_with_len 1 count)
+    ++ end_lines (chain_name count) ++ model_end

@@ -1,5 +1,5 @@
--- The numbers that a sample is made of: a congruential sequence modulo 2^64 (own; the multiplier and
--- the increment are Knuth's of MMIX).
+-- The numbers that a sample is made of: a congruential sequence modulo 2^64 (own; the multiplier
+-- and the increment are Knuth's of MMIX).
 use Rattle.std.specs.Prelude.{ℕ, zero, suc, ◌+◌, ◌*◌, ◌%◌, ◌^◌}
 
 -- the greatest number of a sample, which is how many blocks its chain has (own)

@@ -29,12 +29,14 @@ one_if equal = if equal then 1 else 0
 
 -- whether the field of a base sample and a column stands in both responses
 abbrev pub equal_at : List ℕ → List ℕ → ℕ → ℕ → ℕ
-equal_at response told sample column = one_if (are_equal (field_at response sample column) (field_at told sample column))
+equal_at response told sample column =
+    one_if (are_equal (field_at response sample column) (field_at told sample column))
 
 -- how many fields of a base sample are equal at hits: `Out` hits at each, `Slow` at each second
 abbrev pub equal_in : List ℕ → List ℕ → ℕ → ℕ
 equal_in response told sample =
-    equal_at response told sample 0 + (if sample % 2 == 0 then equal_at response told sample 1 else 0)
+    equal_at response told sample 0
+    + (if sample % 2 == 0 then equal_at response told sample 1 else 0)
 
 -- how many of all eight
 abbrev pub equal_count : List ℕ → List ℕ → ℕ
@@ -47,7 +49,8 @@ number_line word number = word ++ decimal number ++ codes "\n"
 -- what a module says of itself
 unfoldable pub made_lines : Made → List ℕ
 made_lines made =
-    number_line (codes "multiplications ") made.multiplications ++ number_line (codes "latency Out ") made.out_latency
+    number_line (codes "multiplications ") made.multiplications
+    ++ number_line (codes "latency Out ") made.out_latency
     ++ number_line (codes "latency Slow ") made.slow_latency
 
 -- how many fields are equal
@@ -57,4 +60,5 @@ equal_line equal = codes "equal " ++ decimal equal ++ codes " of 12\n"
 -- the summary of the sample of so many blocks, where so many fields are equal
 abbrev pub summary_text : ℕ → Made → ℕ → List ℕ
 summary_text count made equal =
-    number_line (codes "blocks ") (count + 4) ++ number_line (codes "samples ") 8 ++ made_lines made ++ equal_line equal
+    number_line (codes "blocks ") (count + 4) ++ number_line (codes "samples ") 8 ++ made_lines made
+    ++ equal_line equal

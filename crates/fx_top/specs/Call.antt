@@ -1,12 +1,12 @@
--- What a call finds at the shelf, the first of the files that it can't have whole, and what it does to
--- a stream (own).
+-- What a call finds at the shelf, the first of the files that it can't have whole, and what it does
+-- to a stream (own).
 use Rattle.std.specs.Prelude.{◌≡◌, ℕ, List, Option, take, nat_lt, if◌then◌else◌, [], ◌∷◌, length, Some, None}
 use Rattle.fx_io.specs.Cause.{Rose}
 use Rattle.fx_io.specs.Shelf.{Told}
 use Rattle.fx_io.specs.Sink.{also_took}
 
--- the shelf in a call: what it tells of each name, whether it is steady, and whether in the call it failed
--- or met a file above the limit
+-- the shelf in a call: what it tells of each name, whether it is steady, and whether in the call it
+-- failed or met a file above the limit
 pub record Files : Type 1 where
   pub held : List ℕ → Told
   pub steady : Type 0
@@ -20,7 +20,8 @@ pub record Stream : Type 1 where
   pub failed : Type 0
 
 -- from the ghost members of a shelf, and the shelf before and after
-abbrev pub files_in : {S : Type 0} → (S → List ℕ → Told) → (S → Type 0) → (S → ℕ) → (S → ℕ) → S → S → Files
+abbrev pub files_in : {S : Type 0} → (S → List ℕ → Told) → (S → Type 0) → (S → ℕ) → (S → ℕ) → S → S
+    → Files
 files_in held steady faults overlong old new = record {
   held = held old;
   steady = steady old;
@@ -58,7 +59,8 @@ pub data Trouble : Type 0 where
 abbrev pub trouble_or : List ℕ → Told → Option Trouble → Option Trouble
 trouble_or file None later = later
 trouble_or file (Some None) later = Some (Absent file)
-trouble_or file (Some (Some bytes)) later = if nat_lt file_limit (length bytes) then Some (Overlong file (length bytes)) else later
+trouble_or file (Some (Some bytes)) later = if nat_lt file_limit (length bytes)
+    then Some (Overlong file (length bytes)) else later
 
 -- the first trouble with the files in their order
 abbrev pub first_trouble : (List ℕ → Told) → List (List ℕ) → Option Trouble

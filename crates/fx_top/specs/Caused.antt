@@ -17,11 +17,16 @@ HasCause files command OutOfMemory = ⊤
 HasCause files command Usage = ⊥
 HasCause files command (CannotRead file) = CannotBeRead files command file.now
 HasCause files command CannotWrite = AreFetched files command
-HasCause files command (NotMdl file line) = AreFetched files command × HasNoTree files command file.now line
-HasCause files command (BadTable file line cause) = AreFetched files command × HasBadLine files command file.now line cause
-HasCause files command (BreaksRule line) = AreFetched files command × BreaksSomeRule files command line
-HasCause files command (NotVerilog file line) = AreFetched files command × HasNoVerilog files command file.now line
-HasCause files command (Broken file fault) = AreFetched files command × BreaksCondition files command file.now fault
+HasCause files command (NotMdl file line) =
+    AreFetched files command × HasNoTree files command file.now line
+HasCause files command (BadTable file line cause) =
+    AreFetched files command × HasBadLine files command file.now line cause
+HasCause files command (BreaksRule line) =
+    AreFetched files command × BreaksSomeRule files command line
+HasCause files command (NotVerilog file line) =
+    AreFetched files command × HasNoVerilog files command file.now line
+HasCause files command (Broken file fault) =
+    AreFetched files command × BreaksCondition files command file.now fault
 HasCause files command (TooLong file length) = IsTooLong files command file.now length
 
 -- what it says of the output
@@ -41,11 +46,14 @@ HasWritten files out command (TooLong file length) = IsUntouched out
 -- the answer is that of what the words ask for, and of usage where they have no listed shape
 abbrev pub IsCarriedOut : Files → Stream → Option Asked → Answer → Type 0
 IsCarriedOut files out None answer = (answer ≡ Usage) × IsUntouched out
-IsCarriedOut files out (Some (OfFiles command)) answer = HasCause files command answer × HasWritten files out command answer
-IsCarriedOut files out (Some (Sample number)) answer = HasSampleCause number answer × HasSampleWritten (IsSummed IsTold number) out answer
+IsCarriedOut files out (Some (OfFiles command)) answer = HasCause files command answer
+    × HasWritten files out command answer
+IsCarriedOut files out (Some (Sample number)) answer = HasSampleCause number answer
+    × HasSampleWritten (IsSummed IsTold number) out answer
 
 -- the call ends by an answer: the status is the answer's, its line was said, and it has its cause
-pub record Ends (words : List (List ℕ)) (files : Files) (out err : Stream) (status : ℕ) : Type 0 where
+pub record Ends (words : List (List ℕ)) (files : Files) (out err : Stream)
+    (status : ℕ) : Type 0 where
   pub answer : Answer
   pub status_is : status ≡ status_of answer
   pub said : Said err (line_of answer)

@@ -6,7 +6,8 @@ use Rattle.fx_check.specs.CheckText.{IsCheckText}
 use Rattle.fx_designed.specs.Design.{IsDesignOf}
 use Rattle.hw_sched.specs.Slots.{Timing}
 
--- the text tells the periods, latencies and types of the blocks of the design of the bytes of a model and of a plan, and why its outputs are so late
+-- the text tells the periods, latencies and types of the blocks of the design of the bytes of a
+-- model and of a plan, and why its outputs are so late
 pub record IsCheckOf (model plan text : List ℕ) : Type 0 where
   pub diagram : Diagram
   pub resolved : Resolved

@@ -9,8 +9,9 @@ pub data PlanWord : Type 0 where
   EmptyPlan : PlanWord
   Named : (file : List ℕ) → PlanWord
 
--- the commands over files: `Generate` of a model and a plan, `Replay` of a Verilog text and a stimulus, `Simulate` of a
--- model and a stimulus, `Explore` of a model and a range of plans, `Check` and `Stream` of a model and a plan
+-- the commands over files: `Generate` of a model and a plan, `Replay` of a Verilog text and a
+-- stimulus, `Simulate` of a model and a stimulus, `Explore` of a model and a range of plans,
+-- `Check` and `Stream` of a model and a plan
 pub data Command : Type 0 where
   -- writes the Verilog text of a model under a plan
   Generate : (model : List ℕ) → (plan : PlanWord) → Command
@@ -42,7 +43,8 @@ explored model (Some range) = Some (OfFiles (Explore model range))
 -- a number that samples have
 abbrev pub within_samples : Option ℕ → Option ℕ
 within_samples None = None
-within_samples (Some number) = if nat_le 1 number && nat_le number greatest_sample then Some number else None
+within_samples (Some number) =
+    if nat_le 1 number && nat_le number greatest_sample then Some number else None
 
 -- the number of a sample that a word names: 1 to 5000, without zeros in front
 abbrev pub number_of : List ℕ → Option ℕ
@@ -61,8 +63,10 @@ asked_of (verb ∷ first ∷ second ∷ []) =
     else (if bytes_eq verb (codes "simulate") then Some (OfFiles (Simulate first second))
     else (if bytes_eq verb (codes "explore") then explored first (range_of second)
     else (if bytes_eq verb (codes "check") then Some (OfFiles (Check first (plan_word second)))
-    else (if bytes_eq verb (codes "stream") then Some (OfFiles (Stream first (plan_word second))) else None)))))
-asked_of (verb ∷ number ∷ []) = if bytes_eq verb (codes "sample") then sampled (number_of number) else None
+    else (if bytes_eq verb (codes "stream") then Some (OfFiles (Stream first (plan_word second)))
+    else None)))))
+asked_of (verb ∷ number ∷ []) =
+    if bytes_eq verb (codes "sample") then sampled (number_of number) else None
 asked_of words = None
 
 -- the word that names the model, of a command that reads one

@@ -14,7 +14,8 @@ memory_line = codes "out of memory\n"
 
 -- the line of status 2
 abbrev pub usage_line : List ℕ
-usage_line = codes "usage: check MODEL PLAN, simulate MODEL STIM, generate MODEL PLAN, replay VERILOG STIM, explore MODEL RANGE, sample NUMBER, stream MODEL PLAN\n"
+usage_line =
+    codes "usage: check MODEL PLAN, simulate MODEL STIM, generate MODEL PLAN, replay VERILOG STIM, explore MODEL RANGE, sample NUMBER, stream MODEL PLAN\n"
 
 -- the line of status 3
 abbrev pub unread_line : List ℕ → List ℕ
@@ -44,7 +45,8 @@ bad_line file line cause = file ++ codes ": line " ++ decimal line ++ cause_end 
 
 -- the line of status 8 where the text is not in the subset
 abbrev pub not_verilog_line : List ℕ → ℕ → List ℕ
-not_verilog_line file line = file ++ codes ": line " ++ decimal line ++ codes ": not in the Verilog subset\n"
+not_verilog_line file line =
+    file ++ codes ": line " ++ decimal line ++ codes ": not in the Verilog subset\n"
 
 -- the line of status 8 of a condition that shows one name
 abbrev pub name_line : List ℕ → List ℕ → List ℕ → List ℕ
@@ -66,4 +68,5 @@ broken_line file OutOfMemory = memory_line
 
 -- the line of status 9
 abbrev pub too_long_line : List ℕ → ℕ → List ℕ
-too_long_line file length = file ++ codes ": " ++ decimal length ++ codes " bytes, at most 16777216\n"
+too_long_line file length =
+    file ++ codes ": " ++ decimal length ++ codes " bytes, at most 16777216\n"

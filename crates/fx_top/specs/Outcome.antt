@@ -27,10 +27,12 @@ abbrev pub TellsPlan : Files → PlanWord → List ℕ → Type 0
 TellsPlan files EmptyPlan text = text ≡ []
 TellsPlan files (Named file) text = Tells files file text
 
--- a Verilog text whose module breaks no condition, or a model that keeps the rules, and a bad line of the stimulus or the plan
+-- a Verilog text whose module breaks no condition, or a model that keeps the rules, and a bad line
+-- of the stimulus or the plan
 abbrev pub IsBadFor : Command → List ℕ → List ℕ → Type 0
 IsBadFor (Generate model plan) first table = HasNoPlan first table
-IsBadFor (Replay verilog text) first table = (line : ℕ) × ((cause : TableCause) × IsBadStimulus first table line cause)
+IsBadFor (Replay verilog text) first table =
+    (line : ℕ) × ((cause : TableCause) × IsBadStimulus first table line cause)
 IsBadFor (Simulate model text) first table = IsSpoilt first table
 IsBadFor (Explore model range) first table = ⊥
 IsBadFor (Check model plan) first table = HasNoPlan first table
@@ -43,26 +45,35 @@ pub record IsDue (files : Files) (command : Command) (status : ℕ) : Type 0 whe
       → first_trouble files.held (files_of command) ≡ Some (Absent file) → Yields 3 [] status
   -- over a steady shelf: 9 where the first file in trouble is too long
   pub too_long : files.steady → (file : List ℕ) (length : ℕ)
-      → first_trouble files.held (files_of command) ≡ Some (Overlong file length) → Yields 9 [] status
+      → first_trouble files.held (files_of command) ≡ Some (Overlong file length)
+      → Yields 9 [] status
   -- where the model's bytes are told: 5 where they stand for no tree
   pub syntax : (model bytes : List ℕ) → model_of command ≡ Some model → Tells files model bytes
       → IsNoText bytes → Yields 5 (3 ∷ 9 ∷ []) status
   -- where they are told: 7 where they stand for a tree and are the model of no diagram
   pub broken_rule : (model bytes : List ℕ) → model_of command ≡ Some model → Tells files model bytes
       → IsWithoutDiagram bytes → Yields 7 (3 ∷ 9 ∷ []) status
-  -- where those of the plan are told too: 7 where the model keeps the rules, and the plan breaks one on its diagram
-  pub broken_plan : (model bytes text : List ℕ) (plan : PlanWord) → model_of command ≡ Some model → plan_of command ≡ Some plan
-      → Tells files model bytes → TellsPlan files plan text → IsWithoutDesign bytes text → Yields 7 (3 ∷ 9 ∷ []) status
-  -- 7 too where the command is to write with valid and ready, and they make no design whose ports keep the rule
+  -- where those of the plan are told too: 7 where the model keeps the rules, and the plan breaks
+  -- one on its diagram
+  pub broken_plan : (model bytes text : List ℕ) (plan : PlanWord) → model_of command ≡ Some model
+      → plan_of command ≡ Some plan
+      → Tells files model bytes → TellsPlan files plan text → IsWithoutDesign bytes text
+      → Yields 7 (3 ∷ 9 ∷ []) status
+  -- 7 too where the command is to write with valid and ready, and they make no design whose ports
+  -- keep the rule
   pub broken_ports : (model bytes text : List ℕ) (plan : PlanWord) → command ≡ StreamOf model plan
-      → Tells files model bytes → TellsPlan files plan text → IsWithoutStream bytes text → Yields 7 (3 ∷ 9 ∷ []) status
+      → Tells files model bytes → TellsPlan files plan text → IsWithoutStream bytes text
+      → Yields 7 (3 ∷ 9 ∷ []) status
   -- where the bytes of the Verilog text are told: 8 where they aren't in the subset
-  pub not_verilog : (verilog bytes : List ℕ) → verilog_of command ≡ Some verilog → Tells files verilog bytes
+  pub not_verilog : (verilog bytes : List ℕ) → verilog_of command ≡ Some verilog
+      → Tells files verilog bytes
       → IsNoVerilog bytes → Yields 8 (3 ∷ 9 ∷ []) status
   -- where they are told: 8 where their module breaks a condition
-  pub broken : (verilog bytes : List ℕ) (condition : Fault) → verilog_of command ≡ Some verilog → Tells files verilog bytes
+  pub broken : (verilog bytes : List ℕ) (condition : Fault) → verilog_of command ≡ Some verilog
+      → Tells files verilog bytes
       → HasFault bytes condition → Yields 8 (3 ∷ 9 ∷ []) status
-  -- where the bytes of the first file and of the stimulus or the plan are told: 6 where this has a bad line
+  -- where the bytes of the first file and of the stimulus or the plan are told: 6 where this has a
+  -- bad line
   pub bad_table : (first table bytes : List ℕ) → table_of command ≡ Some table
       → Tells files (first_of command) first → Tells files table bytes
       → IsBadFor command first bytes → Yields 6 (3 ∷ 9 ∷ []) status
@@ -104,16 +115,19 @@ abbrev pub CanBeDone : Files → Command → Type 0
 CanBeDone files (Generate model plan) = CanDesign files model plan
 CanBeDone files (Replay verilog stimulus) = CanReplay files verilog stimulus
 CanBeDone files (Simulate model stimulus) = CanSimulate files model stimulus
-CanBeDone files (Explore model range) = (bytes : List ℕ) × (Tells files model bytes × IsAccepted bytes)
+CanBeDone files (Explore model range) =
+    (bytes : List ℕ) × (Tells files model bytes × IsAccepted bytes)
 CanBeDone files (Check model plan) = CanDesign files model plan
 CanBeDone files (StreamOf model plan) = CanStream files model plan
 
 -- the shelf is steady and no file is in trouble, or neither of its counts rose
 abbrev pub GivesAll : Files → Command → Type 0
 GivesAll files command =
-    (files.steady × (first_trouble files.held (files_of command) ≡ None)) ⊎ ((files.failed → ⊥) × (files.met_overlong → ⊥))
+    (files.steady × (first_trouble files.held (files_of command) ≡ None))
+    ⊎ ((files.failed → ⊥) × (files.met_overlong → ⊥))
 
 -- where the command has an output and no device fails, the status is 0 or want of memory
 abbrev pub IsComplete : Files → Stream → Command → ℕ → Type 0
 IsComplete files out command status =
-    CanBeDone files command → GivesAll files command → (out.failed → ⊥) → Contains (0 ∷ 1 ∷ []) status
+    CanBeDone files command → GivesAll files command → (out.failed → ⊥)
+    → Contains (0 ∷ 1 ∷ []) status

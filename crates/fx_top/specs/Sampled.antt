@@ -53,8 +53,10 @@ HasSampleWritten IsSummary out (NotVerilog file line) = IsUntouched out
 HasSampleWritten IsSummary out (Broken file fault) = IsUntouched out
 HasSampleWritten IsSummary out (TooLong file length) = IsUntouched out
 
--- the call ends by an answer: the status is the answer's, its line was said, and it has its cause and its output
-pub record EndsSample (count : ℕ) (IsSummary : List ℕ → Type 0) (out err : Stream) (status : ℕ) : Type 0 where
+-- the call ends by an answer: the status is the answer's, its line was said, and it has its cause
+-- and its output
+pub record EndsSample (count : ℕ) (IsSummary : List ℕ → Type 0) (out err : Stream)
+    (status : ℕ) : Type 0 where
   pub answer : Answer
   pub status_is : status ≡ status_of answer
   pub said : Said err (line_of answer)
@@ -65,10 +67,15 @@ pub record EndsSample (count : ℕ) (IsSummary : List ℕ → Type 0) (out err :
 abbrev pub IfSample : List (List ℕ) → (ℕ → Type 0) → Type 0
 IfSample words P = (number : ℕ) → asked_of words ≡ Some (Sample number) → P number
 
--- where the model of a sample is that of no diagram, or makes no design by its plan, the status is 7 or want of memory
+-- where the model of a sample is that of no diagram, or makes no design by its plan, the status is
+-- 7 or want of memory
 abbrev pub IsDueSample : ℕ → ℕ → Type 0
-IsDueSample number status = IsWithoutDiagram (sample_model number) ⊎ IsWithoutDesign (sample_model number) sample_plan → Contains (7 ∷ 1 ∷ []) status
+IsDueSample number status =
+    IsWithoutDiagram (sample_model number) ⊎ IsWithoutDesign (sample_model number) sample_plan
+    → Contains (7 ∷ 1 ∷ []) status
 
 -- where nothing is broken and the output doesn't fail, it is 0 or want of memory
 abbrev pub IsCompleteSample : Stream → ℕ → ℕ → Type 0
-IsCompleteSample out number status = CanBeDesigned (sample_model number) sample_plan → (out.failed → ⊥) → Contains (0 ∷ 1 ∷ []) status
+IsCompleteSample out number status =
+    CanBeDesigned (sample_model number) sample_plan → (out.failed → ⊥)
+    → Contains (0 ∷ 1 ∷ []) status

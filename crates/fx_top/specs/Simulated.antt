@@ -10,8 +10,8 @@ use Rattle.fx_tables.specs.declared.table.TableFault.TheVariants.{Bad}
 use Rattle.fx_tables.specs.Response.{response}
 use Rattle.fx_tables.specs.Stimulus.{IsRows}
 
--- the text is the response of the model to the stimulus: what the table that solves its diagram shows of the root
--- outputs, a line per sample and a number where an output has its hit
+-- the text is the response of the model to the stimulus: what the table that solves its diagram
+-- shows of the root outputs, a line per sample and a number where an output has its hit
 pub record IsSimulationOf (model stimulus text : List ℕ) : Type 0 where
   pub diagram : Diagram
   pub accepted : IsModelOf model diagram
@@ -35,4 +35,5 @@ pub record CanBeSimulated (model stimulus : List ℕ) : Type 0 where
 -- the model keeps the rules, and the stimulus has a bad line by its columns
 pub record IsSpoilt (model stimulus : List ℕ) : Type 0 where
   pub accepted : IsAccepted model
-  pub bad : (diagram : Diagram) → IsModelOf model diagram → (line : ℕ) × ((cause : TableCause) × (fault_in diagram stimulus ≡ Some (Bad line cause)))
+  pub bad : (diagram : Diagram) → IsModelOf model diagram → (line : ℕ)
+      × ((cause : TableCause) × (fault_in diagram stimulus ≡ Some (Bad line cause)))

@@ -21,21 +21,29 @@ use Rattle.vl_ast.specs.Spelling.{spelling}
 -- the declared latency of the root output element at a place, 0 where there is none
 abbrev pub latency_of_output : Diagram → Resolved → Timing → ℕ → ℕ
 latency_of_output diagram plan timing place =
-    slice_index_or (map (λ (e : RootElement). declared_latency diagram (attributes_of diagram) plan timing e.block) (root_outputs diagram (attributes_of diagram))) place 0
+    slice_index_or
+    (map (λ (e : RootElement). declared_latency diagram
+    (attributes_of diagram) plan timing e.block)
+    (root_outputs diagram (attributes_of diagram))) place 0
 
 -- what a module of the design of a sample says of itself
-pub record IsMade (m : Module) (diagram : Diagram) (plan : Resolved) (timing : Timing) (made : Made) : Type 0 where
+pub record IsMade (m : Module) (diagram : Diagram) (plan : Resolved) (timing : Timing)
+    (made : Made) : Type 0 where
   pub multiplications_are : made.multiplications ≡ length (multiplications m)
   pub out_is : made.out_latency ≡ latency_of_output diagram plan timing 0
   pub slow_is : made.slow_latency ≡ latency_of_output diagram plan timing 1
 
--- the response of the model of a sample to the sample's stimulus, and no bytes where the stimulus doesn't fit the columns of the model's diagram
+-- the response of the model of a sample to the sample's stimulus, and no bytes where the stimulus
+-- doesn't fit the columns of the model's diagram
 abbrev pub IsSampleResponse : ℕ → List ℕ → Type 0
 IsSampleResponse count response =
-    IsSimulationOf (sample_model count) (sample_stimulus count) response ⊎ ((CanBeSimulated (sample_model count) (sample_stimulus count) → ⊥) × (response ≡ []))
+    IsSimulationOf (sample_model count) (sample_stimulus count) response
+    ⊎ ((CanBeSimulated (sample_model count) (sample_stimulus count) → ⊥) × (response ≡ []))
 
--- the text is the summary of a sample whose bench tells these bytes, as it may of the module that owes the sample's design nothing
-pub record IsSummaryOf (MayTell : List ℕ → List ℕ → List ℕ → Type 0) (count : ℕ) (told text : List ℕ) : Type 0 where
+-- the text is the summary of a sample whose bench tells these bytes, as it may of the module that
+-- owes the sample's design nothing
+pub record IsSummaryOf (MayTell : List ℕ → List ℕ → List ℕ → Type 0) (count : ℕ)
+    (told text : List ℕ) : Type 0 where
   pub diagram : Diagram
   pub plan : Resolved
   pub timing : Timing
@@ -53,6 +61,8 @@ pub record IsSummaryOf (MayTell : List ℕ → List ℕ → List ℕ → Type 0)
 abbrev pub IsSummed : (List ℕ → List ℕ → List ℕ → Type 0) → ℕ → List ℕ → Type 0
 IsSummed MayTell count text = (told : List ℕ) × IsSummaryOf MayTell count told text
 
--- the model of a sample breaks a rule, or its plan does on the model's diagram, and this line tells the first of them
+-- the model of a sample breaks a rule, or its plan does on the model's diagram, and this line tells
+-- the first of them
 abbrev pub TellsSampleRule : ℕ → List ℕ → Type 0
-TellsSampleRule count line = TellsRule (sample_model count) line ⊎ TellsPlanRule (sample_model count) sample_plan line
+TellsSampleRule count line =
+    TellsRule (sample_model count) line ⊎ TellsPlanRule (sample_model count) sample_plan line

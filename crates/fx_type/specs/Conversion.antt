@@ -1,4 +1,5 @@
--- Rounding, conversion between types, and the stored integer of a decimal (Fixed-Point Designer guide).
+-- Rounding, conversion between types, and the stored integer of a decimal (Fixed-Point Designer
+-- guide).
 use Rattle.std.specs.Prelude.{◌≡◌, ◌≢◌, ℕ, ◌*◌, ◌^◌, Bool, true, false, ℤ, pos, neg_ℤ, ◌+ℤ◌, ◌*ℤ◌, ◌≤ℤ◌, ◌<ℤ◌}
 use Rattle.std.specs.Int.{int_gap}
 use Rattle.fx_num.specs.Word.{IsWrapped}
@@ -68,7 +69,8 @@ pub record Saturates (type : FxType) (r result : ℤ) : Type 0 where
   pub below : r <ℤ lowest_of type → result ≡ lowest_of type
   pub above : highest_of type <ℤ r → result ≡ highest_of type
 
--- what the type stores for the whole number r: the nearest number of its range, or the congruent one
+-- what the type stores for the whole number r: the nearest number of its range, or the congruent
+-- one
 abbrev pub Settles : FxType → Bool → ℤ → ℤ → Type 0
 Settles type true r result = Saturates type r result
 Settles type false r result = IsWrapped r (width_of type) (is_signed type) result
@@ -81,7 +83,8 @@ pub record IsTruthOf (v result : ℤ) : Type 0 where
   pub one : v ≢ pos 0 → result ≡ pos 1
 
 -- n / d is rounded, and then settled in the type
-pub record StoresQuotient (n : ℤ) (d : ℕ) (type : FxType) (mode : Rounding) (saturate : Bool) (result : ℤ) : Type 0 where
+pub record StoresQuotient (n : ℤ) (d : ℕ) (type : FxType) (mode : Rounding) (saturate : Bool)
+    (result : ℤ) : Type 0 where
   pub rounded : ℤ
   pub rounds : Rounds mode n d rounded
   pub settles : Settles type saturate rounded result
@@ -90,18 +93,21 @@ pub record StoresQuotient (n : ℤ) (d : ℕ) (type : FxType) (mode : Rounding) 
 abbrev pub Converts : ℤ → FxType → FxType → Rounding → Bool → ℤ → Type 0
 Converts v from Logical mode saturate result = IsTruthOf v result
 Converts v from (Num signed width frac) mode saturate result =
-    StoresQuotient (v *ℤ pos (2 ^ int_gap (frac_of from) frac)) (2 ^ int_gap frac (frac_of from)) (Num signed width frac) mode saturate result
+    StoresQuotient (v *ℤ pos (2 ^ int_gap (frac_of from) frac)) (2 ^ int_gap frac (frac_of from))
+    (Num signed width frac) mode saturate result
 
 -- the digits of the decimal, with its sign
 abbrev pub signed_digits : Bool → ℕ → ℤ
 signed_digits true digits = neg_ℤ (pos digits)
 signed_digits false digits = pos digits
 
--- the decimal's digits, with its sign, times 10 to its exponent, stored in the type: to the nearest, ties up, and saturated
+-- the decimal's digits, with its sign, times 10 to its exponent, stored in the type: to the
+-- nearest, ties up, and saturated
 abbrev pub Stores : Decimal → FxType → ℤ → Type 0
 Stores d Logical result = IsTruthOf (pos d.digits) result
 Stores d (Num signed width frac) result =
     StoresQuotient
-    (signed_digits d.negative (d.digits * 10 ^ int_gap (pos 0) d.exponent * 2 ^ int_gap (pos 0) frac))
+    (signed_digits d.negative
+    (d.digits * 10 ^ int_gap (pos 0) d.exponent * 2 ^ int_gap (pos 0) frac))
     (10 ^ int_gap d.exponent (pos 0) * 2 ^ int_gap frac (pos 0))
     (Num signed width frac) Nearest true result

@@ -1,4 +1,5 @@
--- The types that hold every sum, product or value of others (Fixed-Point Designer guide; exact widths own).
+-- The types that hold every sum, product or value of others (Fixed-Point Designer guide; exact
+-- widths own).
 use Rattle.std.specs.Prelude.{◌≡◌, ◌≢◌, ◌+◌, ◌≤◌, ◌↔◌, Bool, true, false, ◌||◌, List, [], ◌∷◌, ℤ, pos, neg_ℤ, ◌+ℤ◌, ◌≤ℤ◌, All, Any}
 use Rattle.std.specs.Int.{int_max}
 use Rattle.fx_type.specs.declared.kind.FxType.{FxType}
@@ -43,8 +44,10 @@ pub record IsFullSum (terms : Terms) (type : FxType) : Type 0 where
   pub number : IsNumber type
   pub frac : IsGreatestFrac terms (frac_of type)
   pub holds : HoldsSums terms type
-  pub narrowest : (other : FxType) → IsType other → IsNumber other → frac_of other ≡ frac_of type → HoldsSums terms other → width_of type ≤ width_of other
-  pub sign : (is_signed type ≡ false) ↔ ((total : ℤ) → IsPossibleSum (frac_of type) terms total → pos 0 ≤ℤ total)
+  pub narrowest : (other : FxType) → IsType other → IsNumber other → frac_of other ≡ frac_of type
+      → HoldsSums terms other → width_of type ≤ width_of other
+  pub sign : (is_signed type ≡ false) ↔
+      ((total : ℤ) → IsPossibleSum (frac_of type) terms total → pos 0 ≤ℤ total)
 
 -- ---- products
 
@@ -69,7 +72,8 @@ pub record HoldsBoth (a b type : FxType) : Type 0 where
   pub frac : frac_of type ≡ int_max (frac_of a) (frac_of b)
   pub left : HoldsType type a
   pub right : HoldsType type b
-  pub narrowest : (other : FxType) → IsType other → IsNumber other → frac_of other ≡ frac_of type → HoldsType other a → HoldsType other b → width_of type ≤ width_of other
+  pub narrowest : (other : FxType) → IsType other → IsNumber other → frac_of other ≡ frac_of type
+      → HoldsType other a → HoldsType other b → width_of type ≤ width_of other
   pub sign : is_signed type ≡ (is_signed a || is_signed b)
 
 -- a type is its own union

@@ -1,4 +1,5 @@
--- Full types and unions as functions: the type that the relation allows, or none (Fixed-Point Designer guide; exact widths own).
+-- Full types and unions as functions: the type that the relation allows, or none (Fixed-Point
+-- Designer guide; exact widths own).
 use Rattle.std.specs.Prelude.{ℕ, ◌+◌, ◌==◌, Bool, true, false, not, cond, ◌&&◌, ◌||◌, nat_le, [], ◌∷◌, Option, Some, None, ℤ, pos, negsuc, ◌+ℤ◌, int_lt, int_le}
 use Rattle.std.specs.Int.{int_max, int_min}
 use Rattle.std.specs.List.{find, range_with_len}
@@ -15,13 +16,17 @@ use Rattle.fx_type.specs.Span.{least_term, greatest_term, sum_of}
 
 -- a word of this sign and width has both ends
 abbrev pub holds_ends : ℤ → ℤ → Bool → ℕ → Bool
-holds_ends least greatest signed width = int_le (word_lowest width signed) least && int_le greatest (word_highest width signed)
+holds_ends least greatest signed width =
+    int_le (word_lowest width signed) least && int_le greatest (word_highest width signed)
 
--- the narrowest type with `frac` bits behind the point that has both ends, signed where the least is below 0
+-- the narrowest type with `frac` bits behind the point that has both ends, signed where the least
+-- is below 0
 abbrev pub narrowest_of : ℤ → ℤ → ℤ → Option FxType
 narrowest_of least greatest frac =
     let signed = int_lt least (pos 0) in
-    let widths = range_with_len (cond signed 2 1) 127 in option_map (λ width. Num signed width frac) (find (holds_ends least greatest signed) widths)
+    let widths =
+    range_with_len (cond signed 2 1) 127 in option_map (λ width. Num signed width frac)
+    (find (holds_ends least greatest signed) widths)
 
 -- ---- sums
 
@@ -34,7 +39,9 @@ greatest_frac_of type (term ∷ terms) = int_max (frac_of type) (greatest_frac_o
 abbrev pub full_sum_of : Terms → Option FxType
 full_sum_of [] = None
 full_sum_of (term ∷ terms) =
-    let frac = greatest_frac_of term.1 terms in narrowest_of (sum_of (least_term frac) (term ∷ terms)) (sum_of (greatest_term frac) (term ∷ terms)) frac
+    let frac =
+    greatest_frac_of term.1 terms in narrowest_of (sum_of (least_term frac) (term ∷ terms))
+    (sum_of (greatest_term frac) (term ∷ terms)) frac
 
 -- ---- products
 
@@ -48,7 +55,10 @@ abbrev pub full_product_of : FxType → FxType → Option FxType
 full_product_of a b =
     let signed = is_signed a || is_signed b in
     let width = width_of a + width_of b in
-    let frac = frac_of a +ℤ frac_of b in cond (is_word width signed && (int_le (negsuc 63) frac && int_le frac (pos 128))) (Some (Num signed width frac)) None
+    let frac =
+    frac_of a +ℤ frac_of b in cond
+    (is_word width signed && (int_le (negsuc 63) frac && int_le frac (pos 128)))
+    (Some (Num signed width frac)) None
 
 -- ---- unions
 
@@ -59,7 +69,8 @@ same_sign false other = not other
 
 -- two types are the same
 abbrev pub same_type : FxType → FxType → Bool
-same_type (Num signed width frac) (Num other_signed other_width other_frac) = same_sign signed other_signed && ((width == other_width) && int_eq frac other_frac)
+same_type (Num signed width frac) (Num other_signed other_width other_frac) =
+    same_sign signed other_signed && ((width == other_width) && int_eq frac other_frac)
 same_type (Num signed width frac) Logical = false
 same_type Logical (Num signed width frac) = false
 same_type Logical Logical = true
@@ -69,4 +80,5 @@ abbrev pub union_of : FxType → FxType → Option FxType
 union_of a b =
     let frac = int_max (frac_of a) (frac_of b) in
     cond (same_type a b) (Some a)
-    (narrowest_of (int_min (least_term frac (false, a)) (least_term frac (false, b))) (int_max (greatest_term frac (false, a)) (greatest_term frac (false, b))) frac)
+    (narrowest_of (int_min (least_term frac (false, a)) (least_term frac (false, b)))
+    (int_max (greatest_term frac (false, a)) (greatest_term frac (false, b))) frac)

@@ -1,4 +1,5 @@
--- Types of stored integers: which are valid, and the range of each (Fixed-Point Designer guide; bounds own).
+-- Types of stored integers: which are valid, and the range of each (Fixed-Point Designer guide;
+-- bounds own).
 use Rattle.std.specs.Prelude.{◌≡◌, ℕ, ◌^◌, Bool, false, ℤ, pos, negsuc, ◌*ℤ◌, ◌≤ℤ◌}
 use Rattle.std.specs.Int.{int_gap}
 use Rattle.fx_num.specs.Word.{IsWord, word_lowest, word_highest}
@@ -52,6 +53,7 @@ pub record GivesOne (gives : ℤ → Type 0) (type : FxType) : Type 0 where
   pub in_range : InRange type number
   pub only : (other : ℤ) → gives other → other ≡ number
 
--- the stored integer v of the type, written with `frac` bits behind the point, of which there are no fewer
+-- the stored integer v of the type, written with `frac` bits behind the point, of which there are
+-- no fewer
 abbrev pub aligned : ℤ → FxType → ℤ → ℤ
 aligned frac type v = v *ℤ pos (2 ^ int_gap (frac_of type) frac)

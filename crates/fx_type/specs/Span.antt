@@ -1,4 +1,5 @@
--- The least and the greatest value of a term, of a sum, and the narrowest type that holds both (own).
+-- The least and the greatest value of a term, of a sum, and the narrowest type that holds both
+-- (own).
 use Rattle.std.specs.Prelude.{◌≡◌, ◌≤◌, ◌↔◌, Bool, true, false, [], ◌∷◌, ℤ, pos, neg_ℤ, ◌+ℤ◌, ◌≤ℤ◌, FitsSigned}
 use Rattle.std.specs.Int.{w128}
 use Rattle.fx_type.specs.declared.full.Span.{Span}
@@ -45,5 +46,6 @@ pub record IsNarrowest (least greatest behind : ℤ) (type : FxType) : Type 0 wh
   pub frac : frac_of type ≡ behind
   pub low : InRange type least
   pub high : InRange type greatest
-  pub narrowest : (other : FxType) → IsType other → IsNumber other → InRange other least → InRange other greatest → width_of type ≤ width_of other
+  pub narrowest : (other : FxType) → IsType other → IsNumber other → InRange other least
+      → InRange other greatest → width_of type ≤ width_of other
   pub sign : (is_signed type ≡ false) ↔ (pos 0 ≤ℤ least)

@@ -15,7 +15,8 @@ nearest_of n d = int_div_euclid (twice n +ℤ pos d) (pos (2 * d))
 abbrev pub rounded_of : Decimal → ℤ → ℤ
 rounded_of d frac =
     nearest_of
-    (signed_digits d.negative (d.digits * 10 ^ int_gap (pos 0) d.exponent * 2 ^ int_gap (pos 0) frac))
+    (signed_digits d.negative
+    (d.digits * 10 ^ int_gap (pos 0) d.exponent * 2 ^ int_gap (pos 0) frac))
     (10 ^ int_gap d.exponent (pos 0) * 2 ^ int_gap frac (pos 0))
 
 -- v is in the range of the type

@@ -37,7 +37,8 @@ pub record IsGaining (arcs : List Arc) (gaining : Gaining) : Type 0 where
   pub small : gaining.total < 2 ^ 63
 
 -- the least latencies with their arcs
-pub record AreLeast (arcs : List Arc) (count : ℕ) (lat : List ℕ) (tight : List (Option ℕ)) : Type 0 where
+pub record AreLeast (arcs : List Arc) (count : ℕ) (lat : List ℕ)
+    (tight : List (Option ℕ)) : Type 0 where
   pub size : length lat ≡ count
   pub least : IsLeast arcs lat
   pub asked : AreTight arcs lat tight

@@ -39,10 +39,11 @@ abbrev pub counter_count : List Net → ℕ
 counter_count [] = 0
 counter_count (net ∷ nets) = counts net.kind + counter_count nets
 
--- the netlist can be run and emitted; with places that are chosen before any row it shows the tables of its diagram,
--- has its pipelines and its ports; its multiplications are those that are owed, each shared one served; and it has few
--- registers
-pub record IsBuilt (diagram : Diagram) (plan : Resolved) (times : Times) (netlist : Circuit) : Type 0 where
+-- the netlist can be run and emitted; with places that are chosen before any row it shows the
+-- tables of its diagram, has its pipelines and its ports; its multiplications are those that are
+-- owed, each shared one served; and it has few registers
+pub record IsBuilt (diagram : Diagram) (plan : Resolved) (times : Times)
+    (netlist : Circuit) : Type 0 where
   pub runs : IsNetlist netlist
   pub emittable : IsEmittable netlist
   pub places : Places
@@ -51,13 +52,16 @@ pub record IsBuilt (diagram : Diagram) (plan : Resolved) (times : Times) (netlis
   pub ports : HasPorts diagram plan times netlist places
   pub serves : Serves diagram plan times netlist
   pub multiplied : AreMultiplied diagram plan netlist
-  pub few : register_count netlist.nets + counter_count netlist.nets ≤ chained diagram (attributes_of diagram) plan times
+  pub few : register_count netlist.nets
+      + counter_count netlist.nets ≤ chained diagram (attributes_of diagram) plan times
 
 -- the same by a schedule as it is given, where the rule of size is kept
-pub record IsBuiltBy (diagram : Diagram) (plan : Resolved) (latencies : Latencies) (slots : Slots) (netlist : Circuit) : Type 0 where
+pub record IsBuiltBy (diagram : Diagram) (plan : Resolved) (latencies : Latencies) (slots : Slots)
+    (netlist : Circuit) : Type 0 where
   pub built : IsBuilt diagram plan (timing_of latencies slots.depths) netlist
   pub small : KeepsSize diagram plan (timing_of latencies slots.depths)
 
 -- why there is none: the rule is broken, or memory is wanting
 abbrev pub IsBuildFault : Diagram → Resolved → Latencies → Slots → SizeFault → Type 0
-IsBuildFault diagram plan latencies slots fault = IsSizeFault diagram plan fault (timing_of latencies slots.depths)
+IsBuildFault diagram plan latencies slots fault =
+    IsSizeFault diagram plan fault (timing_of latencies slots.depths)

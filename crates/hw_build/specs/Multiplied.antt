@@ -12,7 +12,8 @@ use Rattle.hw_net.specs.Circuit.{Circuit}
 
 -- the name of an element's multiplication
 abbrev pub multiplication_name : ℕ → ℕ → List ℕ
-multiplication_name block element = codes "fx_m" ++ (decimal block ++ (codes "_" ++ decimal element))
+multiplication_name block element =
+    codes "fx_m" ++ (decimal block ++ (codes "_" ++ decimal element))
 
 -- a net is a multiplication and has this name
 pub record IsMultiplied (netlist : Circuit) (name : List ℕ) : Type 0 where
@@ -26,5 +27,6 @@ pub record IsMultiplied (netlist : Circuit) (name : List ℕ) : Type 0 where
 -- each element of a Product or Gain that isn't shared has its multiplication by this name
 pub record AreMultiplied (diagram : Diagram) (plan : Resolved) (netlist : Circuit) : Type 0 where
   pub each : (block element : ℕ) → block < length diagram.blocks → multiplies diagram block ≡ true
-      → is_shared diagram (attributes_of diagram) plan block ≡ false → element < (attributes_of diagram).width_at block 1
+      → is_shared diagram (attributes_of diagram) plan block ≡ false
+      → element < (attributes_of diagram).width_at block 1
       → IsMultiplied netlist (multiplication_name block element)

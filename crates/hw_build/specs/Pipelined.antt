@@ -19,7 +19,9 @@ use Rattle.hw_build.specs.Places.{Places}
 
 -- the name of a register by its number, from 1
 abbrev pub stage_name : ℕ → ℕ → ℕ → List ℕ
-stage_name block element stage = codes "fx_p" ++ (decimal block ++ (codes "_" ++ (decimal element ++ (codes "_" ++ decimal stage))))
+stage_name block element stage =
+    codes "fx_p"
+    ++ (decimal block ++ (codes "_" ++ (decimal element ++ (codes "_" ++ decimal stage))))
 
 -- the second net is a Reg of the first and has this name; nothing else reads the first
 pub record IsBehind (netlist : Circuit) (from number : ℕ) (name : List ℕ) : Type 0 where
@@ -30,7 +32,8 @@ pub record IsBehind (netlist : Circuit) (from number : ℕ) (name : List ℕ) : 
   pub is : slice_get netlist.nets number ≡ Some net
   pub takes : net.kind ≡ Reg frame slot first from
   pub named : Contains netlist.labels (record { net = number; name = name })
-  pub alone : (k read : ℕ) (other : Net) → slice_get netlist.nets k ≡ Some other → Contains (reads other.kind) read → read ≡ from → k ≡ number
+  pub alone : (k read : ℕ) (other : Net) → slice_get netlist.nets k ≡ Some other
+      → Contains (reads other.kind) read → read ≡ from → k ≡ number
   pub inner : (port : NetPort) → Contains netlist.outputs port → port.net ≢ from
 
 -- the net is an operation
@@ -41,10 +44,19 @@ pub record IsWire (netlist : Circuit) (number : ℕ) : Type 0 where
   pub is : slice_get netlist.nets number ≡ Some net
   pub combines : net.kind ≡ Comb op args
 
--- behind a net that is an operation stand the registers of a plan, one behind another, each of the word of its block's type
-pub record ArePipelined (diagram : Diagram) (plan : Resolved) (netlist : Circuit) (places : Places) : Type 0 where
-  pub registers : (block : ℕ) (b : Block) (element stage : ℕ) → IsShown diagram (attributes_of diagram) block b 1 element → stage < stages_at plan block
-      → IsBehind netlist (places.stage block 1 element stage) (places.stage block 1 element (suc stage)) (stage_name block element (suc stage))
-  pub wires : (block : ℕ) (b : Block) (element : ℕ) → IsShown diagram (attributes_of diagram) block b 1 element → 0 < stages_at plan block → IsWire netlist (places.stage block 1 element 0)
-  pub words : (block : ℕ) (b : Block) (element stage : ℕ) → IsShown diagram (attributes_of diagram) block b 1 element → stage < stages_at plan block
-      → HasWord netlist.nets (places.stage block 1 element (suc stage)) (width_of ((attributes_of diagram).type_at block 1)) (is_signed ((attributes_of diagram).type_at block 1))
+-- behind a net that is an operation stand the registers of a plan, one behind another, each of the
+-- word of its block's type
+pub record ArePipelined (diagram : Diagram) (plan : Resolved) (netlist : Circuit)
+    (places : Places) : Type 0 where
+  pub registers : (block : ℕ) (b : Block) (element stage : ℕ)
+      → IsShown diagram (attributes_of diagram) block b 1 element → stage < stages_at plan block
+      → IsBehind netlist (places.stage block 1 element stage)
+      (places.stage block 1 element (suc stage)) (stage_name block element (suc stage))
+  pub wires : (block : ℕ) (b : Block) (element : ℕ)
+      → IsShown diagram (attributes_of diagram) block b 1 element → 0 < stages_at plan block
+      → IsWire netlist (places.stage block 1 element 0)
+  pub words : (block : ℕ) (b : Block) (element stage : ℕ)
+      → IsShown diagram (attributes_of diagram) block b 1 element → stage < stages_at plan block
+      → HasWord netlist.nets (places.stage block 1 element (suc stage))
+      (width_of ((attributes_of diagram).type_at block 1))
+      (is_signed ((attributes_of diagram).type_at block 1))

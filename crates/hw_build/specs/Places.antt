@@ -14,7 +14,8 @@ use Rattle.hw_shows.specs.Waves.{Waves}
 pub record Places : Type 0 where
   -- of a root input's number and element
   pub input : ℕ → ℕ → ℕ
-  -- of a block, an output port and an element: before its pipeline, and behind it, where its readers look
+  -- of a block, an output port and an element: before its pipeline, and behind it, where its
+  -- readers look
   pub entry : ℕ → ℕ → ℕ → ℕ
   pub after : ℕ → ℕ → ℕ → ℕ
   -- the registers of the pipeline by their number, 0 being what it begins with
@@ -44,13 +45,18 @@ waves_of places rows = record {
   product = λ block element. rows (places.product block element);
 }
 
--- at the first clocks each input port shows the stimulus of its element, each hit below n in its whole frame
-pub record AreFedIn (diagram : Diagram) (stimulus : Stimulus) (n cycles clocks : ℕ) (inputs : Inputs) : Type 0 where
-  pub shows : (port : ℕ) (e : RootElement) (t c : ℕ) → slice_get (root_inputs diagram (attributes_of diagram)) port ≡ Some e → t < n → c < clocks → IsSeen cycles e.period 0 0 t c
+-- at the first clocks each input port shows the stimulus of its element, each hit below n in its
+-- whole frame
+pub record AreFedIn (diagram : Diagram) (stimulus : Stimulus) (n cycles clocks : ℕ)
+    (inputs : Inputs) : Type 0 where
+  pub shows : (port : ℕ) (e : RootElement) (t c : ℕ)
+      → slice_get (root_inputs diagram (attributes_of diagram)) port ≡ Some e → t < n → c < clocks
+      → IsSeen cycles e.period 0 0 t c
       → inputs port c ≡ stimulus e.number e.element t
 
 -- the rows of a netlist under a stimulus, and a table that solves
-pub record IsRunOf (diagram : Diagram) (netlist : Circuit) (stimulus : Stimulus) (n clocks : ℕ) (inputs : Inputs) (rows : Rows) (table : Table) : Type 0 where
+pub record IsRunOf (diagram : Diagram) (netlist : Circuit) (stimulus : Stimulus) (n clocks : ℕ)
+    (inputs : Inputs) (rows : Rows) (table : Table) : Type 0 where
   pub stimulus_is : IsStimulus diagram (attributes_of diagram) stimulus n
   pub solves : Solves diagram (attributes_of diagram) stimulus n table
   pub fed : AreFedIn diagram stimulus n netlist.cycles clocks inputs

@@ -1,4 +1,5 @@
--- Which multiplications a netlist has, and which of them serves a shared operation in which clock (own; HDL Coder, resource sharing).
+-- Which multiplications a netlist has, and which of them serves a shared operation in which clock
+-- (own; HDL Coder, resource sharing).
 use Rattle.std.specs.Prelude.{◌≡◌, ℕ, ◌+◌, ◌*◌, ◌%◌, ◌<◌, List, [], ◌∷◌, length, Some, slice_get, get_or}
 use Rattle.std.specs.List.{flat_map}
 use Rattle.std.specs.Prelude.{ℤ}

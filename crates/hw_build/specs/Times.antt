@@ -16,12 +16,14 @@ is_element block element o = (o.block == block) && (o.element == element)
 
 -- the number of the shared operation that an element of a block is, if it is one
 abbrev pub number_at : Diagram → Resolved → ℕ → ℕ → Option ℕ
-number_at diagram plan block element = position (is_element block element) (shared_operations diagram (attributes_of diagram) plan)
+number_at diagram plan block element =
+    position (is_element block element) (shared_operations diagram (attributes_of diagram) plan)
 
 -- its slot, by that number
 abbrev pub slot_by : Diagram → Resolved → Times → ℕ → ℕ → Option ℕ → Option ℕ
 slot_by diagram plan times block element None = None
-slot_by diagram plan times block element (Some number) = Some (slot_of diagram (attributes_of diagram) plan times number (operation block element))
+slot_by diagram plan times block element (Some number) =
+    Some (slot_of diagram (attributes_of diagram) plan times number (operation block element))
 
 -- when each block shows its entries
 abbrev pub timing_by : Diagram → Resolved → Times → Timing
@@ -30,5 +32,7 @@ timing_by diagram plan times = record {
   latency = latency_at times.lat;
   stages = stages_at plan;
   ready = ready_of diagram (attributes_of diagram) plan times;
-  slot = λ block element. slot_by diagram plan times block element (number_at diagram plan block element);
+  slot =
+      λ block element. slot_by diagram plan times block element
+      (number_at diagram plan block element);
 }

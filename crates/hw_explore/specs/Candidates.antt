@@ -16,9 +16,15 @@ use Rattle.hw_explore.specs.Range.{cycles_of, multipliers_of}
 
 -- the plan of these clocks and multipliers that sets no registers
 abbrev pub plain_plan : Diagram → ℕ → ℕ → Resolved
-plain_plan diagram cycles multipliers = record { cycles = cycles; multipliers = multipliers; stages = replicate (length diagram.blocks) 0 }
+plain_plan diagram cycles multipliers =
+    record {
+      cycles = cycles;
+      multipliers = multipliers;
+      stages = replicate (length diagram.blocks) 0;
+    }
 
--- the plan keeps the rules: the module has so many multiplications, and declares at most this latency
+-- the plan keeps the rules: the module has so many multiplications, and declares at most this
+-- latency
 pub record IsGood (diagram : Diagram) (plan : Resolved) (multiplications latency : ℕ) : Type 0 where
   pub timing : Timing
   pub keeps : KeepsTimes diagram plan timing
@@ -31,7 +37,9 @@ IsJudged diagram plan (Good multiplications latency) = IsGood diagram plan multi
 IsJudged diagram plan (Bad rule shown) = BreaksTimes diagram plan (fault_of rule [] shown)
 
 -- what is found of the plan of this number
-pub record IsFinding (diagram : Diagram) (range : Range) (place : ℕ) (finding : Finding) : Type 0 where
+pub record IsFinding (diagram : Diagram) (range : Range) (place : ℕ)
+    (finding : Finding) : Type 0 where
   pub cycles : finding.cycles ≡ cycles_of range place
   pub multipliers : finding.multipliers ≡ multipliers_of range place
-  pub verdict : IsJudged diagram (plain_plan diagram finding.cycles finding.multipliers) finding.verdict
+  pub verdict : IsJudged diagram
+      (plain_plan diagram finding.cycles finding.multipliers) finding.verdict

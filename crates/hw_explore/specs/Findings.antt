@@ -16,7 +16,9 @@ IsLessOr number other Then = (number < other) ⊎ ((number ≡ other) × Then)
 -- fewer multiplications are better, then fewer clocks, then less latency, then fewer multipliers
 abbrev pub IsBetter : Rank → Rank → Type 0
 IsBetter one other =
-    IsLessOr one.multiplications other.multiplications (IsLessOr one.cycles other.cycles (IsLessOr one.latency other.latency (one.multipliers < other.multipliers)))
+    IsLessOr one.multiplications other.multiplications
+    (IsLessOr one.cycles other.cycles
+    (IsLessOr one.latency other.latency (one.multipliers < other.multipliers)))
 
 -- a finding is of a good plan, of this rank
 pub record IsRanked (finding : Finding) (rank : Rank) : Type 0 where
@@ -30,15 +32,19 @@ pub record IsLeastAt (rows : List Finding) (place : ℕ) : Type 0 where
   pub there : slice_get rows place ≡ Some finding
   pub rank : Rank
   pub ranked : IsRanked finding rank
-  pub least : (k : ℕ) (other : Finding) (better : Rank) → slice_get rows k ≡ Some other → IsRanked other better → ¬ IsBetter better rank
+  pub least : (k : ℕ) (other : Finding) (better : Rank) → slice_get rows k ≡ Some other
+      → IsRanked other better → ¬ IsBetter better rank
 
 -- the least finding, or that none is good
 abbrev pub IsLeast : List Finding → Option ℕ → Type 0
-IsLeast rows None = (k : ℕ) (finding : Finding) (rank : Rank) → slice_get rows k ≡ Some finding → ¬ IsRanked finding rank
+IsLeast rows None =
+    (k : ℕ) (finding : Finding) (rank : Rank) → slice_get rows k ≡ Some finding
+    → ¬ IsRanked finding rank
 IsLeast rows (Some place) = IsLeastAt rows place
 
 -- a row for each plan of the range, in order, and the least of them
 pub record AreFindings (diagram : Diagram) (range : Range) (findings : Findings) : Type 0 where
   pub size : length findings.rows ≡ pairs_of range
-  pub each : (place : ℕ) (finding : Finding) → slice_get findings.rows place ≡ Some finding → IsFinding diagram range place finding
+  pub each : (place : ℕ) (finding : Finding) → slice_get findings.rows place ≡ Some finding
+      → IsFinding diagram range place finding
   pub least : IsLeast findings.rows findings.least

@@ -15,10 +15,12 @@ pairs_of range = (range.high_cycles - range.low_cycles + 1) * choices_of range
 abbrev pub most_pairs : ℕ
 most_pairs = 4096
 
--- 1 to 1024 clocks and 0 to 64 multipliers, each from the lowest to the highest, and at most 4096 pairs
+-- 1 to 1024 clocks and 0 to 64 multipliers, each from the lowest to the highest, and at most 4096
+-- pairs
 abbrev pub is_range : Range → Bool
 is_range range =
-    nat_le 1 range.low_cycles && nat_le range.low_cycles range.high_cycles && nat_le range.high_cycles most_cycles
+    nat_le 1 range.low_cycles && nat_le range.low_cycles range.high_cycles
+    && nat_le range.high_cycles most_cycles
     && nat_le range.low_multipliers range.high_multipliers && nat_le range.high_multipliers 64
     && nat_le (pairs_of range) most_pairs
 
@@ -27,10 +29,17 @@ IsRange range = is_range range ≡ true
 
 -- the range of clocks and of multipliers between these ends, where it is one
 abbrev pub between : Ends → Ends → Range
-between cycles multipliers = record { low_cycles = cycles.low; high_cycles = cycles.high; low_multipliers = multipliers.low; high_multipliers = multipliers.high }
+between cycles multipliers =
+    record {
+      low_cycles = cycles.low;
+      high_cycles = cycles.high;
+      low_multipliers = multipliers.low;
+      high_multipliers = multipliers.high;
+    }
 
 abbrev pub range_between : Ends → Ends → Option Range
-range_between cycles multipliers = if is_range (between cycles multipliers) then Some (between cycles multipliers) else None
+range_between cycles multipliers =
+    if is_range (between cycles multipliers) then Some (between cycles multipliers) else None
 
 -- the pair of a number: all numbers of multipliers for the least clocks, then for the next
 abbrev pub cycles_of : Range → ℕ → ℕ

@@ -28,15 +28,18 @@ pub record IsLeastLatency (diagram : Diagram) (plan : Resolved) (lat : List ℕ)
   pub size : length lat ≡ length diagram.blocks
   pub least : IsLeast (latency_arcs diagram plan fed) lat
 
--- the same with the marks of what is fed by shared operations, and with edges that are met with nothing to spare
+-- the same with the marks of what is fed by shared operations, and with edges that are met with
+-- nothing to spare
 pub record AreLatencies (diagram : Diagram) (plan : Resolved) (latencies : Latencies) : Type 0 where
   pub fed : AreFed diagram (attributes_of diagram) plan latencies.fed
   pub size : length latencies.lat ≡ length diagram.blocks
   pub least : IsLeast (latency_arcs diagram plan latencies.fed) latencies.lat
   pub tight : AreTight (latency_arcs diagram plan latencies.fed) latencies.lat latencies.tight
 
--- a cycle of edges leaves no latencies: its weights have this sum, and it begins with its least block
-pub record IsLatencyCycle (diagram : Diagram) (plan : Resolved) (cycle : List ℕ) (total : ℕ) : Type 0 where
+-- a cycle of edges leaves no latencies: its weights have this sum, and it begins with its least
+-- block
+pub record IsLatencyCycle (diagram : Diagram) (plan : Resolved) (cycle : List ℕ)
+    (total : ℕ) : Type 0 where
   pub fed : List Bool
   pub are_fed : AreFed diagram (attributes_of diagram) plan fed
   pub gains : IsGainingCycle (latency_arcs diagram plan fed) cycle total
@@ -54,7 +57,8 @@ pub record BreaksLatency (diagram : Diagram) (plan : Resolved) (fault : RuleFaul
   pub fault_is : fault ≡ fault_of Rule.Latency [] (Latency cycle (pos total))
 
 -- what is answered where there are no latencies: such a cycle with its sum, or want of memory
-pub record IsCycleTold (diagram : Diagram) (plan : Resolved) (blocks : List ℕ) (total : ℤ) : Type 0 where
+pub record IsCycleTold (diagram : Diagram) (plan : Resolved) (blocks : List ℕ)
+    (total : ℤ) : Type 0 where
   pub sum : ℕ
   pub cycle : IsLatencyCycle diagram plan blocks sum
   pub total_is : total ≡ pos sum

@@ -14,11 +14,13 @@ multiplies_if (Some block) = (row_of block.kind).hardware.multiplies
 abbrev pub multiplies : Diagram → ℕ → Bool
 multiplies diagram place = multiplies_if (slice_get diagram.blocks place)
 
--- multiplications of this period are shared: there are multipliers, and a period has at least two clocks
+-- multiplications of this period are shared: there are multipliers, and a period has at least two
+-- clocks
 abbrev pub shares : Resolved → Option ℕ → Bool
 shares plan None = false
 shares plan (Some period) = nat_lt 0 plan.multipliers && nat_lt 1 (period * plan.cycles)
 
 -- the elements of the block are shared operations
 abbrev pub is_shared : Diagram → Attributes → Resolved → ℕ → Bool
-is_shared diagram attributes plan place = multiplies diagram place && shares plan (attributes.period_at place)
+is_shared diagram attributes plan place =
+    multiplies diagram place && shares plan (attributes.period_at place)

@@ -7,7 +7,8 @@ use Rattle.hw_module.specs.Serves.{NamesMultiplications, Serves, MultipliesAsOwe
 use Rattle.hw_module.specs.Pipelined.{Pipelined, HasFewRegisters}
 use Rattle.hw_sched.specs.Slots.{Timing}
 
-pub record IsModuleOf (m : Module) (diagram : Diagram) (plan : Resolved) (timing : Timing) : Type 0 where
+pub record IsModuleOf (m : Module) (diagram : Diagram) (plan : Resolved)
+    (timing : Timing) : Type 0 where
   pub carries : Carries m diagram plan timing
   pub serves : Serves m diagram plan timing
   pub owed : MultipliesAsOwed m diagram plan timing

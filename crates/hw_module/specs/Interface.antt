@@ -29,11 +29,19 @@ input_elements names diagram = named names (root_inputs diagram (attributes_of d
 
 abbrev pub output_elements : List (List ℕ) → Diagram → List NamedElement
 output_elements names diagram =
-    named (drop (length (root_inputs diagram (attributes_of diagram))) names) (root_outputs diagram (attributes_of diagram))
+    named (drop (length (root_inputs diagram (attributes_of diagram))) names)
+    (root_outputs diagram (attributes_of diagram))
 
 -- their ports; an output declares its latency
 abbrev pub input_data : NamedElement → DataPort
-input_data e = record { name = e.name; width = width_of e.root.type; signed = is_signed e.root.type; period = step_of e.root; latency = 0 }
+input_data e =
+    record {
+      name = e.name;
+      width = width_of e.root.type;
+      signed = is_signed e.root.type;
+      period = step_of e.root;
+      latency = 0;
+    }
 
 abbrev pub output_data : Diagram → Resolved → Timing → NamedElement → DataPort
 output_data diagram plan timing e = record {

@@ -12,4 +12,5 @@ use Rattle.hw_module.specs.inner.Emission.{IsEmissionOf}
 abbrev pub BuiltModulesAreOf : Type 0
 BuiltModulesAreOf =
     (netlist : Circuit) (diagram : Diagram) (plan : Resolved) (timing : Timing) (m : Module)
-    → IsScheduled diagram plan timing → IsBuilt diagram plan timing netlist → IsEmissionOf netlist m → IsModuleOf m diagram plan timing
+    → IsScheduled diagram plan timing → IsBuilt diagram plan timing netlist → IsEmissionOf netlist m
+    → IsModuleOf m diagram plan timing

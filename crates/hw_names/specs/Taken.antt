@@ -15,10 +15,15 @@ pub record AreTried (list : List (List ℕ)) (name : List ℕ) (number : ℕ) : 
   pub above : 2 ≤ number
   pub taken : (other : ℕ) → 2 ≤ other → other < number → Contains list (numbered name other)
 
--- these names are taken, and no others, and numbers are told of some of them below which none makes them free
+-- these names are taken, and no others, and numbers are told of some of them below which none makes
+-- them free
 pub record AreTaken (names : Names) (list : List (List ℕ)) : Type 0 where
-  pub each : (name : Vec ℕ Global) → contains (λ x y. slice_cmp nat_cmp x.items y.items) names.taken name ≡ list_any (λ other. bytes_eq other name.items) list
-  pub tried : (name : Vec ℕ Global) (number : ℕ) → get (λ x y. slice_cmp nat_cmp x.items y.items) names.numbers name ≡ Some number → AreTried list name.items number
+  pub each : (name : Vec ℕ Global)
+      → contains (λ x y. slice_cmp nat_cmp x.items y.items) names.taken name
+      ≡ list_any (λ other. bytes_eq other name.items) list
+  pub tried : (name : Vec ℕ Global) (number : ℕ)
+      → get (λ x y. slice_cmp nat_cmp x.items y.items) names.numbers name ≡ Some number
+      → AreTried list name.items number
 
 -- the names that are taken once these were given one after another
 abbrev pub taken_by : List (List ℕ) → List (List ℕ) → List (List ℕ)

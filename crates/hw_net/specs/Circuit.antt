@@ -13,4 +13,5 @@ pub record Circuit : Type 0 where
 
 -- the netlist of these parts
 abbrev pub circuit_of : ℕ → List Net → List NetPort → List NetPort → List NetLabel → Circuit
-circuit_of cycles nets inputs outputs labels = record { cycles = cycles; nets = nets; inputs = inputs; outputs = outputs; labels = labels }
+circuit_of cycles nets inputs outputs labels =
+    record { cycles = cycles; nets = nets; inputs = inputs; outputs = outputs; labels = labels }

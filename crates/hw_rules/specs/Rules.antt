@@ -1,4 +1,5 @@
--- The rules of latency, budget and size, which the times of a diagram keep by a plan, and the first of them that is broken (own; HDL Coder, resource sharing and delay balancing).
+-- The rules of latency, budget and size, which the times of a diagram keep by a plan, and the first
+-- of them that is broken (own; HDL Coder, resource sharing and delay balancing).
 use Rattle.std.specs.Prelude.{◌⊎◌}
 use Rattle.dg_model.specs.declared.diagram.Diagram.{Diagram}
 use Rattle.dg_model.specs.declared.fault.RuleFault.{RuleFault}
@@ -19,7 +20,8 @@ pub record KeepsTimes (diagram : Diagram) (plan : Resolved) (timing : Timing) : 
   pub size : KeepsSize diagram plan timing
 
 -- there are latencies, and the rule of budget is broken
-pub record BreaksBudgetFirst (diagram : Diagram) (plan : Resolved) (fault : RuleFault) : Type 0 where
+pub record BreaksBudgetFirst (diagram : Diagram) (plan : Resolved)
+    (fault : RuleFault) : Type 0 where
   pub timing : Timing
   pub timed : IsTimingOf diagram plan timing
   pub broken : BreaksBudget diagram plan timing fault
@@ -34,7 +36,8 @@ pub record BreaksSizeFirst (diagram : Diagram) (plan : Resolved) (fault : RuleFa
 -- the first of these rules that is broken is told by this fault
 abbrev pub BreaksTimes : Diagram → Resolved → RuleFault → Type 0
 BreaksTimes diagram plan fault =
-    BreaksLatency diagram plan fault ⊎ (BreaksBudgetFirst diagram plan fault ⊎ BreaksSizeFirst diagram plan fault)
+    BreaksLatency diagram plan fault
+    ⊎ (BreaksBudgetFirst diagram plan fault ⊎ BreaksSizeFirst diagram plan fault)
 
 -- the plan names blocks of the diagram, and these are its numbers for them
 pub record IsFoundIn (diagram : Diagram) (plan : Plan) (resolved : Resolved) : Type 0 where
@@ -49,9 +52,11 @@ pub record BreaksTimesOf (diagram : Diagram) (plan : Plan) (fault : RuleFault) :
 
 -- the first rule on plans that is broken is told by this fault
 abbrev pub BreaksPlanRule : Diagram → Plan → RuleFault → Type 0
-BreaksPlanRule diagram plan fault = BreaksPlan diagram (attributes_of diagram) plan fault ⊎ BreaksTimesOf diagram plan fault
+BreaksPlanRule diagram plan fault =
+    BreaksPlan diagram (attributes_of diagram) plan fault ⊎ BreaksTimesOf diagram plan fault
 
 -- the plan keeps all of them, and these are its numbers and the times of the blocks
-pub record IsPlanned (diagram : Diagram) (plan : Plan) (resolved : Resolved) (timing : Timing) : Type 0 where
+pub record IsPlanned (diagram : Diagram) (plan : Plan) (resolved : Resolved)
+    (timing : Timing) : Type 0 where
   pub found : IsFoundIn diagram plan resolved
   pub keeps : KeepsTimes diagram resolved timing

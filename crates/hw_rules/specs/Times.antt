@@ -1,4 +1,5 @@
--- What is worked out once of a diagram and a plan that keep the rules of latency, budget and size (own).
+-- What is worked out once of a diagram and a plan that keep the rules of latency, budget and size
+-- (own).
 use Rattle.dg_model.specs.declared.diagram.Diagram.{Diagram}
 use Rattle.dg_model.specs.declared.plan.Plan.{Plan}
 use Rattle.dg_model.specs.declared.resolved.Resolved.{Resolved}

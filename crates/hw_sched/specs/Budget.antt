@@ -16,16 +16,22 @@ pub record IsPeriodOf (diagram : Diagram) (period : ℕ) : Type 0 where
 
 -- the slots of a period suffice
 abbrev pub KeepsBudgetAt : Diagram → Resolved → Timing → ℕ → Type 0
-KeepsBudgetAt diagram plan timing period = need_of diagram (attributes_of diagram) plan timing period ≤ have_of plan period
+KeepsBudgetAt diagram plan timing period =
+    need_of diagram (attributes_of diagram) plan timing period ≤ have_of plan period
 
 -- the rule is kept
 pub record KeepsBudget (diagram : Diagram) (plan : Resolved) (timing : Timing) : Type 0 where
   pub keeps : (period : ℕ) → IsPeriodOf diagram period → KeepsBudgetAt diagram plan timing period
 
 -- the rule is broken, first at this period
-pub record BreaksBudget (diagram : Diagram) (plan : Resolved) (timing : Timing) (fault : RuleFault) : Type 0 where
+pub record BreaksBudget (diagram : Diagram) (plan : Resolved) (timing : Timing)
+    (fault : RuleFault) : Type 0 where
   pub period : ℕ
   pub there : IsPeriodOf diagram period
   pub broken : have_of plan period < need_of diagram (attributes_of diagram) plan timing period
-  pub least : (other : ℕ) → other < period → IsPeriodOf diagram other → KeepsBudgetAt diagram plan timing other
-  pub fault_is : fault ≡ fault_of Rule.Budget [] (Budget period (need_of diagram (attributes_of diagram) plan timing period) (have_of plan period))
+  pub least : (other : ℕ) → other < period → IsPeriodOf diagram other
+      → KeepsBudgetAt diagram plan timing other
+  pub fault_is : fault
+      ≡ fault_of Rule.Budget []
+      (Budget period (need_of diagram (attributes_of diagram) plan timing period)
+      (have_of plan period))

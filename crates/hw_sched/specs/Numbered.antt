@@ -11,11 +11,13 @@ use Rattle.hw_sched.specs.Laws.{IsOperation}
 
 -- the kinds of the shared operations, in order of their first ones
 abbrev pub all_kinds : Diagram → Attributes → Resolved → Timing → List OperationKind
-all_kinds diagram attributes plan timing = kinds_of diagram attributes timing [] (shared_operations diagram attributes plan)
+all_kinds diagram attributes plan timing =
+    kinds_of diagram attributes timing [] (shared_operations diagram attributes plan)
 
 -- the number of a kind among these
 abbrev pub number_of : Diagram → Attributes → Resolved → Timing → OperationKind → ℕ
-number_of diagram attributes plan timing kind = length (before_kind kind (all_kinds diagram attributes plan timing))
+number_of diagram attributes plan timing kind =
+    length (before_kind kind (all_kinds diagram attributes plan timing))
 
 -- an operation by the number of its kind, with its period and level
 abbrev pub cell_of : Diagram → Attributes → Resolved → Timing → Operation → Cell
@@ -26,16 +28,27 @@ cell_of diagram attributes plan timing o = record {
 }
 
 abbrev pub cells_of : Diagram → Attributes → Resolved → Timing → List Cell
-cells_of diagram attributes plan timing = map (cell_of diagram attributes plan timing) (shared_operations diagram attributes plan)
+cells_of diagram attributes plan timing =
+    map (cell_of diagram attributes plan timing) (shared_operations diagram attributes plan)
 
--- what these need of a period, and the slots and multipliers that they have, are those of the operations
-pub record AreNumbered (diagram : Diagram) (attributes : Attributes) (plan : Resolved) (timing : Timing) : Type 0 where
-  pub needs : (period : ℕ) → need_in (cells_of diagram attributes plan timing) plan.multipliers (start_of diagram attributes plan period) period ≡ need_of diagram attributes plan timing period
+-- what these need of a period, and the slots and multipliers that they have, are those of the
+-- operations
+pub record AreNumbered (diagram : Diagram) (attributes : Attributes) (plan : Resolved)
+    (timing : Timing) : Type 0 where
+  pub needs : (period : ℕ)
+      → need_in (cells_of diagram attributes plan timing) plan.multipliers
+      (start_of diagram attributes plan period) period
+      ≡ need_of diagram attributes plan timing period
   pub slots : (number : ℕ) (o : Operation) → IsOperation diagram attributes plan number o
       → slot_in (cells_of diagram attributes plan timing) plan.multipliers
-      (start_of diagram attributes plan (samples (attributes.period_at o.block))) number (cell_of diagram attributes plan timing o) ≡ slot_of diagram attributes plan timing number o
+      (start_of diagram attributes plan (samples (attributes.period_at o.block))) number
+      (cell_of diagram attributes plan timing o)
+      ≡ slot_of diagram attributes plan timing number o
   pub units : (number : ℕ) (o : Operation) → IsOperation diagram attributes plan number o
-      → unit_in (cells_of diagram attributes plan timing) plan.multipliers number (cell_of diagram attributes plan timing o) ≡ unit_of diagram attributes plan timing number o
+      → unit_in (cells_of diagram attributes plan timing) plan.multipliers number
+      (cell_of diagram attributes plan timing o) ≡ unit_of diagram attributes plan timing number o
 
 abbrev pub OperationsAreNumbered : Type 0
-OperationsAreNumbered = (diagram : Diagram) (attributes : Attributes) (plan : Resolved) (timing : Timing) → AreNumbered diagram attributes plan timing
+OperationsAreNumbered =
+    (diagram : Diagram) (attributes : Attributes) (plan : Resolved) (timing : Timing)
+    → AreNumbered diagram attributes plan timing

@@ -12,7 +12,8 @@ use Rattle.hw_sched.specs.Level.{AreDepths}
 use Rattle.hw_sched.specs.Slots.{Timing}
 use Rattle.hw_sched.specs.Budget.{KeepsBudget}
 
--- what is told of the blocks is so: their latencies are the least, and their depths and what is fed are those of the diagram
+-- what is told of the blocks is so: their latencies are the least, and their depths and what is fed
+-- are those of the diagram
 pub record IsTimingOf (diagram : Diagram) (plan : Resolved) (timing : Timing) : Type 0 where
   pub fed : AreFed diagram (attributes_of diagram) plan timing.fed
   pub depths : AreDepths diagram (attributes_of diagram) plan timing.depths

@@ -17,19 +17,24 @@ use Rattle.hw_sched.specs.Storage.{storage, greatest_latency, KeepsSize, BreaksS
 
 -- what holds for all depths by which these are the clocks at which outputs are ready
 abbrev pub ForTimes : Diagram → Resolved → Latencies → List ℕ → (Timing → Type 0) → Type 0
-ForTimes diagram plan latencies ready Holds = (depths : List ℕ) → AreReady diagram plan (timing_of latencies depths) ready → Holds (timing_of latencies depths)
+ForTimes diagram plan latencies ready Holds =
+    (depths : List ℕ) → AreReady diagram plan (timing_of latencies depths) ready
+    → Holds (timing_of latencies depths)
 
 -- the storage and the greatest declared latency are these
-pub record IsSizeOf (diagram : Diagram) (plan : Resolved) (sizing : Sizing) (timing : Timing) : Type 0 where
+pub record IsSizeOf (diagram : Diagram) (plan : Resolved) (sizing : Sizing)
+    (timing : Timing) : Type 0 where
   pub storage_is : sizing.storage ≡ storage diagram (attributes_of diagram) plan timing
   pub latency_is : sizing.latency ≡ greatest_latency diagram (attributes_of diagram) plan timing
 
 -- they keep the rule of size
-pub record IsKeptSize (diagram : Diagram) (plan : Resolved) (sizing : Sizing) (timing : Timing) : Type 0 where
+pub record IsKeptSize (diagram : Diagram) (plan : Resolved) (sizing : Sizing)
+    (timing : Timing) : Type 0 where
   pub size : IsSizeOf diagram plan sizing timing
   pub keeps : KeepsSize diagram plan timing
 
 -- what is answered where they don't: the fault of the rule, or want of memory
 abbrev pub IsSizeFault : Diagram → Resolved → SizeFault → Timing → Type 0
-IsSizeFault diagram plan (Size storage latency) timing = BreaksSize diagram plan timing (fault_of Rule.Size [] (SizeShown storage latency))
+IsSizeFault diagram plan (Size storage latency) timing =
+    BreaksSize diagram plan timing (fault_of Rule.Size [] (SizeShown storage latency))
 IsSizeFault diagram plan OutOfMemory timing = ⊤

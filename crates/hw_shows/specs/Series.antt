@@ -16,21 +16,31 @@ steady v = λ c. v
 
 -- the frames of a block of this period
 abbrev pub span_at : Timing → ℕ → ℕ → Span
-span_at timing period block = span_of timing.cycles (record { period = period; latency = timing.latency block })
+span_at timing period block =
+    span_of timing.cycles (record { period = period; latency = timing.latency block })
 
--- registers in series, each of which takes at the end of a frame what the one before it has, from a source on
-pub record IsSeries (clocks : ℕ) (span : Span) (count : ℕ) (first : ℤ) (source : Wave) (register : ℕ → Wave) : Type 0 where
+-- registers in series, each of which takes at the end of a frame what the one before it has, from a
+-- source on
+pub record IsSeries (clocks : ℕ) (span : Span) (count : ℕ) (first : ℤ) (source : Wave)
+    (register : ℕ → Wave) : Type 0 where
   pub begins : AreSame clocks (register 0) source
-  pub takes : (k : ℕ) → k < count → IsReg clocks span (span.length - 1) first (register k) (register (suc k))
+  pub takes : (k : ℕ) → k < count
+      → IsReg clocks span (span.length - 1) first (register k) (register (suc k))
 
 -- the same where they take only if they are enabled, and else keep what they have or begin anew
-pub record IsEnabledSeries (clocks : ℕ) (span : Span) (count : ℕ) (reset : Bool) (first : ℤ) (enable source : Wave) (register : ℕ → Wave) : Type 0 where
+pub record IsEnabledSeries (clocks : ℕ) (span : Span) (count : ℕ) (reset : Bool) (first : ℤ)
+    (enable source : Wave) (register : ℕ → Wave) : Type 0 where
   pub begins : AreSame clocks (register 0) source
-  pub takes : (k : ℕ) → k < count → IsEnReg clocks span reset first enable (register k) (register (suc k))
+  pub takes : (k : ℕ) → k < count
+      → IsEnReg clocks span reset first enable (register k) (register (suc k))
 
--- from the clock after its slot to the end of a frame the wave is the product of what the operands had there
-pub record IsProductAt (clocks : ℕ) (span : Span) (slot : ℕ) (left right product : Wave) : Type 0 where
-  pub holds : (k c : ℕ) → c < clocks → frame_start span k + slot < c → c < frame_start span k + span.length → product c ≡ left (frame_start span k + slot) *ℤ right (frame_start span k + slot)
+-- from the clock after its slot to the end of a frame the wave is the product of what the operands
+-- had there
+pub record IsProductAt (clocks : ℕ) (span : Span) (slot : ℕ)
+    (left right product : Wave) : Type 0 where
+  pub holds : (k c : ℕ) → c < clocks → frame_start span k + slot < c
+      → c < frame_start span k + span.length → product c
+      ≡ left (frame_start span k + slot) *ℤ right (frame_start span k + slot)
 
 -- what is chosen at each clock: one wave where it is enabled, else the other
 pub record IsChosen (clocks : ℕ) (enable enabled other wave : Wave) : Type 0 where
@@ -55,7 +65,9 @@ IsLineInto clocks timing from source block own (Some lag) first wave line =
     }) first wave line
 
 -- what an end of a block is offered of a source: the source itself where that never changes
-abbrev pub IsOffered : ℕ → Timing → ℕ → Option ℕ → ℕ → Option ℕ → (ℕ → Option ℕ) → ℤ → Wave → Wave → Type 0
+abbrev pub IsOffered : ℕ → Timing → ℕ → Option ℕ → ℕ → Option ℕ → (ℕ → Option ℕ) → ℤ → Wave → Wave
+    → Type 0
 IsOffered clocks timing from None block own lag first wave line = AreSame clocks line wave
 IsOffered clocks timing from (Some source) block None lag first wave line = ⊤
-IsOffered clocks timing from (Some source) block (Some own) lag first wave line = IsLineInto clocks timing from source block own (lag source) first wave line
+IsOffered clocks timing from (Some source) block (Some own) lag first wave line =
+    IsLineInto clocks timing from source block own (lag source) first wave line

@@ -15,5 +15,7 @@ IsSeen cycles None latency ready t clock = t ≡ 0
 IsSeen cycles (Some period) latency ready t clock = IsSeenAt cycles period latency ready t clock
 
 -- at the first clocks the wave shows the entries below sample n wherever they are to be seen
-pub record Shows (clocks n cycles : ℕ) (period : Option ℕ) (latency ready : ℕ) (entry : ℕ → ℤ) (wave : Wave) : Type 0 where
-  pub at : (t clock : ℕ) → t < n → clock < clocks → IsSeen cycles period latency ready t clock → wave clock ≡ entry t
+pub record Shows (clocks n cycles : ℕ) (period : Option ℕ) (latency ready : ℕ) (entry : ℕ → ℤ)
+    (wave : Wave) : Type 0 where
+  pub at : (t clock : ℕ) → t < n → clock < clocks → IsSeen cycles period latency ready t clock
+      → wave clock ≡ entry t

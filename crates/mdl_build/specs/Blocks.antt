@@ -1,4 +1,5 @@
--- The blocks of a tree: their names, where they stand, and what their parameters say (Simulink reference, model files).
+-- The blocks of a tree: their names, where they stand, and what their parameters say (Simulink
+-- reference, model files).
 use Rattle.std.specs.Prelude.{◌≡◌, ℕ, zero, suc, ◌++◌, ◌==◌, ◌&&◌, Bool, false, List, [], ◌∷◌, Option, Some, None, position, codes, bytes_eq, if◌then◌else◌}
 use Rattle.std.specs.List.{list_any}
 use Rattle.std.specs.Option.{unwrap_or}
@@ -21,10 +22,11 @@ use Rattle.mdl_build.specs.Settings.{ReadsAs, unset, with_setting}
 
 -- the block at a place has this name in the System at another
 abbrev pub is_named_in : List Item → ℕ → List ℕ → ℕ → Bool
-is_named_in items system name place = in_system (holder_of items place) && says items place (codes "Name") name where
-  in_system : Option ℕ → Bool
-  in_system None = false
-  in_system (Some holder) = holder == system
+is_named_in items system name place =
+    in_system (holder_of items place) && says items place (codes "Name") name where
+      in_system : Option ℕ → Bool
+      in_system None = false
+      in_system (Some holder) = holder == system
 
 -- the number of the first block of this name in a System
 abbrev pub number_of : List Item → ℕ → List ℕ → Option ℕ
@@ -51,7 +53,8 @@ at other f (Some place) = f place
 -- the subsystem whose System holds the block at a place; none in the root
 abbrev pub parent_of : List Item → ℕ → Option ℕ
 parent_of items place =
-    at None (λ system. at None (λ holder. if_subsystem holder (role_of items holder)) (holder_of items system)) (holder_of items place)
+    at None (λ system. at None (λ holder. if_subsystem holder (role_of items holder))
+    (holder_of items system)) (holder_of items place)
 
 -- the number of a block
 abbrev pub number_at : List Item → ℕ → ℕ
@@ -63,13 +66,16 @@ is_of items block_type place = says items place (codes "BlockType") (type_name b
 
 -- an EnablePort stands in the System at a place
 abbrev pub has_enable : List Item → ℕ → Bool
-has_enable items system = list_any (λ place. at false (λ holder. holder == system) (holder_of items place) && is_of items EnablePort place) (blocks_of items)
+has_enable items system =
+    list_any (λ place. at false (λ holder. holder == system) (holder_of items place)
+    && is_of items EnablePort place) (blocks_of items)
 
 -- where a block stands
 abbrev pub standing_in : List Item → Option ℕ → Option ℕ → Standing
 standing_in items None system = Standing.Root
 standing_in items (Some parent) None = Standing.Root
-standing_in items (Some parent) (Some system) = if has_enable items system then Standing.Enabled else Standing.Plain
+standing_in items (Some parent) (Some system) =
+    if has_enable items system then Standing.Enabled else Standing.Plain
 
 abbrev pub standing_of : List Item → ℕ → Standing
 standing_of items place = standing_in items (parent_of items place) (holder_of items place)
@@ -86,7 +92,8 @@ abbrev pub path_at : List Item → ℕ → ℕ → List ℕ
 path_at items zero place = path_name (value_of items place (codes "Name"))
 path_at items (suc zero) place = path_name (value_of items place (codes "Name"))
 path_at items (suc (suc depth)) place =
-    at [] (λ parent. path_at items depth parent ++ codes "/") (parent_of items place) ++ path_name (value_of items place (codes "Name"))
+    at [] (λ parent. path_at items depth parent ++ codes "/") (parent_of items place)
+    ++ path_name (value_of items place (codes "Name"))
 
 -- the path of the block at a place
 abbrev pub path_of : List Item → ℕ → List ℕ
@@ -108,18 +115,22 @@ is_single items block_type place = among (parameters_of block_type) block_type w
 -- a parameter of the block at a place says this
 abbrev pub IsRead : List Item → BlockType → ℕ → ParameterRow → Setting → Type 0
 IsRead items block_type place parameter setting =
-    ReadsAs (is_single items block_type place) parameter.reader parameter.default (text_of items block_type place parameter) setting
+    ReadsAs (is_single items block_type place) parameter.reader parameter.default
+    (text_of items block_type place parameter) setting
 
 -- it says something
 abbrev pub IsReadable : List Item → BlockType → ℕ → ParameterRow → Type 0
-IsReadable items block_type place parameter = (setting : Setting) × IsRead items block_type place parameter setting
+IsReadable items block_type place parameter =
+    (setting : Setting) × IsRead items block_type place parameter setting
 
 -- what these parameters say, put in place one after the other
 abbrev pub AreRead : List Item → BlockType → ℕ → List ParameterRow → Settings → Settings → Type 0
 AreRead items block_type place [] before after = after ≡ before
 AreRead items block_type place (parameter ∷ parameters) before after =
-    (setting : Setting) × IsRead items block_type place parameter setting × AreRead items block_type place parameters (with_setting before setting) after
+    (setting : Setting) × IsRead items block_type place parameter setting
+    × AreRead items block_type place parameters (with_setting before setting) after
 
 -- what all parameters of the block at a place say
 abbrev pub HasSettings : List Item → BlockType → ℕ → Settings → Type 0
-HasSettings items block_type place settings = AreRead items block_type place (parameters_of block_type) unset settings
+HasSettings items block_type place settings =
+    AreRead items block_type place (parameters_of block_type) unset settings

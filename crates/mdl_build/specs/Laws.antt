@@ -9,16 +9,22 @@ use Rattle.mdl_build.specs.Rules.{Breaks}
 
 -- a tree has its blocks and lines in one way
 abbrev pub NestedIsOne : Type 0
-NestedIsOne = (tree : Tree) (one other : Nested) → IsNestedOf tree one → IsNestedOf tree other → one ≡ other
+NestedIsOne =
+    (tree : Tree) (one other : Nested) → IsNestedOf tree one → IsNestedOf tree other → one ≡ other
 
 -- the first broken rule has one fault
 abbrev pub FaultIsOne : Type 0
-FaultIsOne = (tree : Tree) (one other : RuleFault) → Breaks tree one → Breaks tree other → one ≡ other
+FaultIsOne =
+    (tree : Tree) (one other : RuleFault) → Breaks tree one → Breaks tree other → one ≡ other
 
 -- rules that are kept aren't broken
 abbrev pub NestedIsNotBroken : Type 0
-NestedIsNotBroken = (tree : Tree) (nested : Nested) (fault : RuleFault) → IsNestedOf tree nested → Breaks tree fault → ⊥
+NestedIsNotBroken =
+    (tree : Tree) (nested : Nested) (fault : RuleFault) → IsNestedOf tree nested → Breaks tree fault
+    → ⊥
 
 -- a tree that breaks none of the rules isn't without blocks and lines, which are well formed
 abbrev pub NestedIsThere : Type 0
-NestedIsThere = (tree : Tree) → ((nested : Nested) → IsNestedOf tree nested → ¬ IsSound nested) → ((fault : RuleFault) → ¬ Breaks tree fault) → ⊥
+NestedIsThere =
+    (tree : Tree) → ((nested : Nested) → IsNestedOf tree nested → ¬ IsSound nested)
+    → ((fault : RuleFault) → ¬ Breaks tree fault) → ⊥

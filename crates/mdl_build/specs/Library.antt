@@ -1,4 +1,5 @@
--- Which block types are known, and which parameters are read of each: the same table as the code has, line by line (Simulink reference, each block's page; the defaults are own).
+-- Which block types are known, and which parameters are read of each: the same table as the code
+-- has, line by line (Simulink reference, each block's page; the defaults are own).
 use Rattle.std.specs.Prelude.{ℕ, List, [], ◌∷◌, Option, codes}
 use Rattle.std.specs.List.{find}
 use Rattle.std.specs.Str.{bytes_eq}
@@ -15,7 +16,8 @@ pub record ParameterRow : Type 0 where
 
 -- the same, as the code has it
 abbrev pub row_of : Parameter → ParameterRow
-row_of parameter = record { name = parameter.0.now; default = parameter.1.now; reader = parameter.2 }
+row_of parameter =
+    record { name = parameter.0.now; default = parameter.1.now; reader = parameter.2 }
 
 abbrev pub row : List ℕ → List ℕ → Reader → ParameterRow
 row name default reader = record { name = name; default = default; reader = reader }
@@ -32,7 +34,8 @@ type_or_auto = row (codes "OutDataTypeStr") (codes "Inherit: auto") Reader.TypeO
 
 -- a type, the internal rule, or the first input's type
 abbrev pub type_or_first : ParameterRow
-type_or_first = row (codes "OutDataTypeStr") (codes "Inherit: Inherit via internal rule") Reader.TypeOrFirst
+type_or_first =
+    row (codes "OutDataTypeStr") (codes "Inherit: Inherit via internal rule") Reader.TypeOrFirst
 
 -- the type of what is true or false
 abbrev pub truth : ParameterRow
@@ -46,7 +49,8 @@ initial_condition = row (codes "InitialCondition") (codes "0") Reader.List
 abbrev pub sample_time : ParameterRow
 sample_time = row (codes "SampleTime") (codes "-1") Reader.SampleTime
 
--- how a result is rounded, whether one that is too large is held at the end of its type, and a period
+-- how a result is rounded, whether one that is too large is held at the end of its type, and a
+-- period
 abbrev pub settling : List ParameterRow
 settling =
     row (codes "RndMeth") (codes "Floor") Reader.Rounding ∷
@@ -56,7 +60,8 @@ settling =
 
 -- ---- block types
 
--- a block type: its place among all of them, its name, and its parameters in the order in which they are tried
+-- a block type: its place among all of them, its name, and its parameters in the order in which
+-- they are tried
 pub record TypeRow : Type 0 where
   pub number : ℕ
   pub name : List ℕ
@@ -82,7 +87,8 @@ type_row Outport = type_as 1 (codes "Outport") (
     )
 type_row Constant = type_as 2 (codes "Constant") (
     row (codes "Value") (codes "1") Reader.List ∷
-    row (codes "OutDataTypeStr") (codes "Inherit: Inherit from 'Constant value'") Reader.TypeOrAuto ∷
+    row (codes "OutDataTypeStr")
+    (codes "Inherit: Inherit from 'Constant value'") Reader.TypeOrAuto ∷
     row (codes "SampleTime") (codes "inf") Reader.ConstantTime ∷
     []
     )
@@ -95,7 +101,8 @@ type_row Sum = type_as 5 (codes "Sum") (
     )
 type_row Gain = type_as 6 (codes "Gain") (
     row (codes "Gain") (codes "1") Reader.List ∷
-    row (codes "ParamDataTypeStr") (codes "Inherit: Inherit via internal rule") Reader.CoefficientType ∷
+    row (codes "ParamDataTypeStr")
+    (codes "Inherit: Inherit via internal rule") Reader.CoefficientType ∷
     fixed (codes "Multiplication") (codes "Element-wise(K.*u)") ∷
     row (codes "OutDataTypeStr") (codes "Inherit: Inherit via internal rule") Reader.TypeOrInput ∷
     settling
@@ -149,7 +156,8 @@ type_row RateTransition = type_as 16 (codes "RateTransition") (
     initial_condition ∷
     []
     )
-type_row SubSystem = type_as 17 (codes "SubSystem") (fixed (codes "SystemSampleTime") (codes "-1") ∷ [])
+type_row SubSystem =
+    type_as 17 (codes "SubSystem") (fixed (codes "SystemSampleTime") (codes "-1") ∷ [])
 type_row EnablePort = type_as 18 (codes "EnablePort") (
     row (codes "StatesWhenEnabling") (codes "held") Reader.Reset ∷
     fixed (codes "ShowOutputPort") (codes "off") ∷
@@ -169,7 +177,8 @@ parameters_of block_type = (type_row block_type).parameters
 -- all of them
 abbrev pub block_types : List BlockType
 block_types =
-    Inport ∷ Outport ∷ Constant ∷ Ground ∷ Terminator ∷ Sum ∷ Gain ∷ Product ∷ UnitDelay ∷ Delay ∷ Switch ∷ RelationalOperator ∷ Logic ∷
+    Inport ∷ Outport ∷ Constant ∷ Ground ∷ Terminator ∷ Sum ∷ Gain ∷ Product ∷ UnitDelay ∷ Delay
+    ∷ Switch ∷ RelationalOperator ∷ Logic ∷
     DataTypeConversion ∷ Mux ∷ Demux ∷ RateTransition ∷ SubSystem ∷ EnablePort ∷ []
 
 -- the block type of a name

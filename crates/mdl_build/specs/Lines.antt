@@ -1,4 +1,5 @@
--- The lines of a tree, one for each of their ends (Simulink reference, `Line` and `Branch`; the order is own).
+-- The lines of a tree, one for each of their ends (Simulink reference, `Line` and `Branch`; the
+-- order is own).
 use Rattle.std.specs.Prelude.{ℕ, ◌&&◌, nat_lt, nat_le, Bool, true, false, List, Option, Some, None, length, filter_map, codes, bytes_eq, if◌then◌else◌}
 use Rattle.std.specs.List.{list_all}
 use Rattle.std.specs.Char.{is_ascii_digit}
@@ -18,7 +19,8 @@ use Rattle.mdl_build.specs.Sections.{places_of, holder_of, value_of}
 -- digits alone, whose number is one of a port
 abbrev pub is_port : List ℕ → Bool
 is_port text =
-    nat_lt 0 (length text) && list_all is_ascii_digit text && nat_le 1 (digits_value 10 text) && nat_le (digits_value 10 text) most_blocks
+    nat_lt 0 (length text) && list_all is_ascii_digit text && nat_le 1 (digits_value 10 text)
+    && nat_le (digits_value 10 text) most_blocks
 
 -- the port of an end; one that is missing is 1
 abbrev pub port_of : Option (List ℕ) → Option ℕ
@@ -32,12 +34,14 @@ to_port (Some port) = Some (Target.Port port)
 
 abbrev pub target_of : Option (List ℕ) → Option Target
 target_of None = Some (Target.Port 1)
-target_of (Some text) = if bytes_eq text (codes "enable") then Some Target.Enable else to_port (port_of (Some text))
+target_of (Some text) =
+    if bytes_eq text (codes "enable") then Some Target.Enable else to_port (port_of (Some text))
 
 -- the block that an end of a line names in its System
 abbrev pub named_by : List Item → ℕ → Option (List ℕ) → Option ℕ
 named_by items line None = None
-named_by items line (Some name) = at None (λ system. number_of items system name) (holder_of items line)
+named_by items line (Some name) =
+    at None (λ system. number_of items system name) (holder_of items line)
 
 -- a source, of a block and a port that are there
 abbrev pub source_from : Option ℕ → Option ℕ → Option Source
@@ -47,7 +51,9 @@ source_from (Some from) (Some port) = Some (record { from = from; port = port })
 
 -- the source of a line
 abbrev pub source_of : List Item → ℕ → Option Source
-source_of items line = source_from (named_by items line (value_of items line (codes "SrcBlock"))) (port_of (value_of items line (codes "SrcPort")))
+source_of items line =
+    source_from (named_by items line (value_of items line (codes "SrcBlock")))
+    (port_of (value_of items line (codes "SrcPort")))
 
 -- a goal, of a block and a port that are there
 abbrev pub goal_to : Option ℕ → Option Target → Goal
@@ -61,7 +67,9 @@ goal_by items line (Some name) port = goal_to (named_by items line (Some name)) 
 
 -- where the branch of a line at a place goes to
 abbrev pub goal_of : List Item → ℕ → ℕ → Goal
-goal_of items line place = goal_by items line (value_of items place (codes "DstBlock")) (value_of items place (codes "DstPort"))
+goal_of items line place =
+    goal_by items line (value_of items place (codes "DstBlock"))
+    (value_of items place (codes "DstPort"))
 
 -- source and end are well formed
 abbrev pub is_joined : Option Source → Goal → Bool
@@ -74,7 +82,8 @@ is_joined (Some source) Goal.Wrong = false
 abbrev pub line_from : Option Source → Goal → Option NestedLine
 line_from None goal = None
 line_from (Some source) Goal.Nowhere = None
-line_from (Some source) (Goal.To to target) = Some (record { from = source.from; from_port = source.port; to = to; target = target })
+line_from (Some source) (Goal.To to target) =
+    Some (record { from = source.from; from_port = source.port; to = to; target = target })
 line_from (Some source) Goal.Wrong = None
 
 -- the line that an item is a branch of
@@ -84,11 +93,13 @@ branch_of _ = None
 
 -- the item at a place, if it is a branch of a line, is well formed
 abbrev pub keeps_line : List Item → ℕ → Role → Bool
-keeps_line items place role = at true (λ line. is_joined (source_of items line) (goal_of items line place)) (branch_of role)
+keeps_line items place role =
+    at true (λ line. is_joined (source_of items line) (goal_of items line place)) (branch_of role)
 
 -- the line to its end
 abbrev pub line_at : List Item → ℕ → Role → Option NestedLine
-line_at items place role = at None (λ line. line_from (source_of items line) (goal_of items line place)) (branch_of role)
+line_at items place role =
+    at None (λ line. line_from (source_of items line) (goal_of items line place)) (branch_of role)
 
 -- the lines in the order of their ends
 abbrev pub lines_of : List Item → List NestedLine

@@ -1,4 +1,5 @@
--- The blocks and lines of a tree that keeps the rules of structure, library and parameter (Simulink reference, model files).
+-- The blocks and lines of a tree that keeps the rules of structure, library and parameter (Simulink
+-- reference, model files).
 use Rattle.std.specs.Prelude.{◌≡◌, ℕ, List, Some, None, option_map, codes}
 use Rattle.std.specs.List.{AllZip}
 use Rattle.dg_model.specs.declared.nested.Nested.{Nested}

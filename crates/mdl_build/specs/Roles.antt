@@ -1,4 +1,5 @@
--- What each item of a tree is: which Systems, blocks and lines count (Simulink reference, model files; which count is own).
+-- What each item of a tree is: which Systems, blocks and lines count (Simulink reference, model
+-- files; which count is own).
 use Rattle.std.specs.Prelude.{ℕ, zero, suc, ◌==◌, Bool, true, false, is_some, List, Option, Some, None, map, filter, nat_lt, codes, bytes_eq, if◌then◌else◌}
 use Rattle.mdl_text.specs.declared.tree.Item.{Item}
 use Rattle.mdl_build.specs.declared.roles.Role.{Role}
@@ -28,11 +29,14 @@ role_in_model items place =
 
 -- what a block of a System of this level is, by its type
 abbrev pub block_role : List Item → ℕ → ℕ → Role
-block_role items level place = if says items place (codes "BlockType") (codes "SubSystem") then SubSystem level else Block level
+block_role items level place =
+    if says items place (codes "BlockType") (codes "SubSystem") then SubSystem level
+    else Block level
 
 -- what a line is; one without a source is dropped with its branches
 abbrev pub line_role : List Item → ℕ → Role
-line_role items place = if is_some (value_of items place (codes "SrcBlock")) then Branch place else Other
+line_role items place =
+    if is_some (value_of items place (codes "SrcBlock")) then Branch place else Other
 
 -- what an item directly in a System of this level is
 abbrev pub role_in_system : List Item → ℕ → ℕ → Role
@@ -46,9 +50,12 @@ role_under items holder Other place = Other
 role_under items holder Model place = role_in_model items place
 role_under items holder (System level) place = role_in_system items level place
 role_under items holder (Block level) place = Other
-role_under items holder (SubSystem level) place = if is_section_at items place (codes "System") then System (deeper level) else Other
-role_under items holder (Branch line) place = if is_section_at items place (codes "Branch") then Branch line else Other
-role_under items holder Defaults place = if is_section_at items place (codes "Block") then TypeDefaults holder else Other
+role_under items holder (SubSystem level) place =
+    if is_section_at items place (codes "System") then System (deeper level) else Other
+role_under items holder (Branch line) place =
+    if is_section_at items place (codes "Branch") then Branch line else Other
+role_under items holder Defaults place =
+    if is_section_at items place (codes "Block") then TypeDefaults holder else Other
 role_under items holder (TypeDefaults section) place = Other
 
 -- the same, where the last item that is less deep is one less deep
@@ -60,7 +67,8 @@ role_if items depth role place (Some holder) =
 -- what the item of this depth at a place is
 abbrev pub role_at : List Item → ℕ → ℕ → Role
 role_at items zero place = outer_role items place
-role_at items (suc depth) place = role_if items depth (role_at items depth) place (last_above items (suc depth) place)
+role_at items (suc depth) place =
+    role_if items depth (role_at items depth) place (last_above items (suc depth) place)
 
 -- what the item at a place is
 abbrev pub role_of : List Item → ℕ → Role

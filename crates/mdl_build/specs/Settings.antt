@@ -1,4 +1,5 @@
--- What the value of a parameter says, and what the parameters of a block say together (Simulink reference, each block's page; the spellings are own).
+-- What the value of a parameter says, and what the parameters of a block say together (Simulink
+-- reference, each block's page; the spellings are own).
 use Rattle.std.specs.Prelude.{◌≡◌, ℕ, ◌++◌, Bool, true, false, List, [], ◌∷◌, Some, ◌⊎◌, pos, length, MatchBool, codes}
 use Rattle.std.proofs.Math.Dec.{lit<}
 use Rattle.dg_model.specs.Limits.{longest_delay, longest_list, most_blocks}
@@ -26,7 +27,15 @@ use Rattle.mdl_build.specs.declared.settings.Settings.{Settings}
 
 -- 0 as a decimal
 abbrev pub zero_decimal : Decimal
-zero_decimal = record { negative = false; digits = 0; exponent = pos 0; eighteen_digits = lit< tt; least_exponent = le_z_yes tt; greatest_exponent = le_z_yes tt }
+zero_decimal =
+    record {
+      negative = false;
+      digits = 0;
+      exponent = pos 0;
+      eighteen_digits = lit< tt;
+      least_exponent = le_z_yes tt;
+      greatest_exponent = le_z_yes tt;
+    }
 
 -- what is said of a block of which nothing is said
 abbrev pub unsaid : Said
@@ -59,8 +68,10 @@ with_setting settings (Setting.Coefficient spec) = record settings { said = reco
 with_setting settings (Setting.Period spec) = record settings { said = record settings.said { period = spec } }
 with_setting settings (Setting.Rate rate) = record settings { said = record settings.said { period = Every rate; rate = rate } }
 with_setting settings (Setting.List list) = record settings { list = list }
-with_setting settings (Setting.Signs count signs) = record settings { said = record settings.said { number = count }; signs = signs }
-with_setting settings (Setting.Parts count sizes) = record settings { said = record settings.said { number = count }; sizes = sizes }
+with_setting settings (Setting.Signs count signs) =
+    record settings { said = record settings.said { number = count }; signs = signs }
+with_setting settings (Setting.Parts count sizes) =
+    record settings { said = record settings.said { number = count }; sizes = sizes }
 with_setting settings (Setting.Rounding rounding) = record settings { said = record settings.said { rounding = rounding } }
 with_setting settings (Setting.Saturate flag) = record settings { said = record settings.said { saturate = flag } }
 with_setting settings (Setting.Flag flag) = record settings { said = record settings.said { flag = flag } }
@@ -109,31 +120,52 @@ IsOperands single text number = MatchBool single (number ≡ 1) (IsNumberText 2 
 abbrev pub IsTruth : List ℕ → List ℕ → Type 0
 IsTruth default text = (text ≡ default) ⊎ ((more : List ℕ) × (text ≡ codes "Inherit: Logical" ++ more))
 
--- a reader, at its parameter's default, reads a text as a setting; `single` says that the block is a gate of one input
+-- a reader, at its parameter's default, reads a text as a setting; `single` says that the block is
+-- a gate of one input
 abbrev pub ReadsAs : Bool → Reader → List ℕ → List ℕ → Setting → Type 0
 ReadsAs single Reader.Default default text setting = (text ≡ default) × (setting ≡ Setting.Unsaid)
-ReadsAs single Reader.Port default text setting = (number : ℕ) × IsNumberText 1 most_blocks text number × (setting ≡ Setting.Number number)
+ReadsAs single Reader.Port default text setting =
+    (number : ℕ) × IsNumberText 1 most_blocks text number × (setting ≡ Setting.Number number)
 ReadsAs single Reader.Width default text setting = (width : ℕ) × IsWidthText text width × (setting ≡ Setting.Width width)
-ReadsAs single Reader.Length default text setting = (number : ℕ) × IsNumberText 1 longest_delay text number × (setting ≡ Setting.Number number)
-ReadsAs single Reader.Operands default text setting = (number : ℕ) × IsOperands single text number × (setting ≡ Setting.Number number)
+ReadsAs single Reader.Length default text setting =
+    (number : ℕ) × IsNumberText 1 longest_delay text number × (setting ≡ Setting.Number number)
+ReadsAs single Reader.Operands default text setting =
+    (number : ℕ) × IsOperands single text number × (setting ≡ Setting.Number number)
 ReadsAs single Reader.TypeOrAuto default text setting = IsTypeOr default Auto text setting
 ReadsAs single Reader.TypeOrFirst default text setting = IsTypeOrFirst default (codes "Inherit: Same as first input") text setting
 ReadsAs single Reader.TypeOrInput default text setting = IsTypeOrFirst default (codes "Inherit: Same as input") text setting
-ReadsAs single Reader.CoefficientType default text setting = (spec : TypeSpec) × IsCoefficient default text spec × (setting ≡ Setting.Coefficient spec)
+ReadsAs single Reader.CoefficientType default text setting =
+    (spec : TypeSpec) × IsCoefficient default text spec × (setting ≡ Setting.Coefficient spec)
 ReadsAs single Reader.Type default text setting = IsGivenType text setting
 ReadsAs single Reader.Truth default text setting = IsTruth default text × (setting ≡ Setting.Unsaid)
-ReadsAs single Reader.SampleTime default text setting = (spec : PeriodSpec) × IsSampleTime text spec × (setting ≡ Setting.Period spec)
-ReadsAs single Reader.ConstantTime default text setting = (spec : PeriodSpec) × IsConstantTime text spec × (setting ≡ Setting.Period spec)
-ReadsAs single Reader.Period default text setting = (period : Decimal) × IsPeriodText text period × (setting ≡ Setting.Rate period)
+ReadsAs single Reader.SampleTime default text setting =
+    (spec : PeriodSpec) × IsSampleTime text spec × (setting ≡ Setting.Period spec)
+ReadsAs single Reader.ConstantTime default text setting =
+    (spec : PeriodSpec) × IsConstantTime text spec × (setting ≡ Setting.Period spec)
+ReadsAs single Reader.Period default text setting =
+    (period : Decimal) × IsPeriodText text period × (setting ≡ Setting.Rate period)
 ReadsAs single Reader.List default text setting = (list : List Decimal) × IsListText text list × (setting ≡ Setting.List list)
-ReadsAs single Reader.ListOrEmpty default text setting = (list : List Decimal) × IsListOrEmpty text list × (setting ≡ Setting.List list)
-ReadsAs single Reader.Signs default text setting = (signs : List Bool) × IsSignsText text signs × (setting ≡ Setting.Signs (length signs) signs)
+ReadsAs single Reader.ListOrEmpty default text setting =
+    (list : List Decimal) × IsListOrEmpty text list × (setting ≡ Setting.List list)
+ReadsAs single Reader.Signs default text setting =
+    (signs : List Bool) × IsSignsText text signs × (setting ≡ Setting.Signs (length signs) signs)
 ReadsAs single Reader.Factors default text setting = ((text ≡ codes "2") ⊎ (text ≡ codes "**")) × (setting ≡ Setting.Unsaid)
-ReadsAs single Reader.Parts default text setting = (count : ℕ) × ((sizes : List ℕ) × IsPartsText text count sizes × (setting ≡ Setting.Parts count sizes))
-ReadsAs single Reader.Rounding default text setting = (rounding : Rounding) × (rounding_of text ≡ Some rounding) × (setting ≡ Setting.Rounding rounding)
-ReadsAs single Reader.Saturation default text setting = (flag : Bool) × (switch_of text ≡ Some flag) × (setting ≡ Setting.Saturate flag)
+ReadsAs single Reader.Parts default text setting =
+    (count : ℕ)
+    × ((sizes : List ℕ) × IsPartsText text count sizes × (setting ≡ Setting.Parts count sizes))
+ReadsAs single Reader.Rounding default text setting =
+    (rounding : Rounding) × (rounding_of text ≡ Some rounding)
+    × (setting ≡ Setting.Rounding rounding)
+ReadsAs single Reader.Saturation default text setting =
+    (flag : Bool) × (switch_of text ≡ Some flag) × (setting ≡ Setting.Saturate flag)
 ReadsAs single Reader.Reset default text setting = (flag : Bool) × (reset_of text ≡ Some flag) × (setting ≡ Setting.Flag flag)
-ReadsAs single Reader.Criterion default text setting = (criterion : Criterion) × (criterion_of text ≡ Some criterion) × (setting ≡ Setting.Criterion criterion)
-ReadsAs single Reader.Relation default text setting = (relation : Relation) × (relation_of text ≡ Some relation) × (setting ≡ Setting.Relation relation)
+ReadsAs single Reader.Criterion default text setting =
+    (criterion : Criterion) × (criterion_of text ≡ Some criterion)
+    × (setting ≡ Setting.Criterion criterion)
+ReadsAs single Reader.Relation default text setting =
+    (relation : Relation) × (relation_of text ≡ Some relation)
+    × (setting ≡ Setting.Relation relation)
 ReadsAs single Reader.Gate default text setting = (gate : Gate) × (gate_of text ≡ Some gate) × (setting ≡ Setting.Gate gate)
-ReadsAs single Reader.Conversion default text setting = ((text ≡ default) × (setting ≡ Setting.Flag false)) ⊎ ((text ≡ codes "Stored Integer (SI)") × (setting ≡ Setting.Flag true))
+ReadsAs single Reader.Conversion default text setting =
+    ((text ≡ default) × (setting ≡ Setting.Flag false))
+    ⊎ ((text ≡ codes "Stored Integer (SI)") × (setting ≡ Setting.Flag true))

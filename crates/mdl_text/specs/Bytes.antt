@@ -12,7 +12,9 @@ is_blank byte = byte == code " " || byte == code "\t" || byte == code "\r"
 
 -- a letter, a digit, `_`, `.` or `$`
 unfoldable pub is_name_byte : ℕ → Bool
-is_name_byte byte = is_ascii_alphabetic byte || is_ascii_digit byte || byte == code "_" || byte == code "." || byte == code "$"
+is_name_byte byte =
+    is_ascii_alphabetic byte || is_ascii_digit byte || byte == code "_" || byte == code "."
+    || byte == code "$"
 
 -- blanks alone, or nothing
 abbrev pub AreBlanks : List ℕ → Type 0
@@ -31,7 +33,8 @@ on_first byte (line ∷ lines) = (byte ∷ line) ∷ lines
 -- the pieces between newlines, so one more than there are newlines
 abbrev pub lines_of : List ℕ → List (List ℕ)
 lines_of [] = [] ∷ []
-lines_of (byte ∷ bytes) = if byte == code "\n" then [] ∷ lines_of bytes else on_first byte (lines_of bytes)
+lines_of (byte ∷ bytes) =
+    if byte == code "\n" then [] ∷ lines_of bytes else on_first byte (lines_of bytes)
 
 -- a quoted string and the blanks after it
 pub record Quote : Type 0 where
@@ -73,14 +76,17 @@ piece_bytes Closing = code "]" ∷ []
 piece_bytes (String chars) = quoted chars
 piece_bytes (Other byte) = byte ∷ []
 
--- the pieces close so many open brackets and one more, that one by the last piece and not before; each string stands on one line
+-- the pieces close so many open brackets and one more, that one by the last piece and not before;
+-- each string stands on one line
 abbrev pub Closes : ℕ → List Piece → Type 0
 Closes nesting [] = ⊥
 Closes nesting (Opening ∷ pieces) = Closes (suc nesting) pieces
 Closes zero (Closing ∷ pieces) = pieces ≡ []
 Closes (suc nesting) (Closing ∷ pieces) = Closes nesting pieces
-Closes nesting (String chars ∷ pieces) = IsTrue (list_all is_char chars) × IsOneLine (quoted chars) × Closes nesting pieces
-Closes nesting (Other byte ∷ pieces) = (byte ≢ code "\"") × (byte ≢ code "[") × (byte ≢ code "]") × Closes nesting pieces
+Closes nesting (String chars ∷ pieces) =
+    IsTrue (list_all is_char chars) × IsOneLine (quoted chars) × Closes nesting pieces
+Closes nesting (Other byte ∷ pieces) =
+    (byte ≢ code "\"") × (byte ≢ code "[") × (byte ≢ code "]") × Closes nesting pieces
 
 -- a list: its first bracket, and the pieces up to the bracket that closes it
 pub record IsList (value : List ℕ) : Type 0 where

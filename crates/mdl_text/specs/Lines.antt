@@ -95,7 +95,8 @@ pub record IsQuotedParameter (lines : List (List ℕ)) (name value : List ℕ) :
   pub form : lines ≡ line ∷ flat_map (λ next. next.line ∷ []) further
   pub joined : value ≡ said ++ flat_map (λ next. next.value) further
 
--- the lines of a parameter whose value is a list, which may go over several; blanks alone follow it on its last line
+-- the lines of a parameter whose value is a list, which may go over several; blanks alone follow it
+-- on its last line
 pub record IsListParameter (lines : List (List ℕ)) (name value : List ℕ) : Type 0 where
   pub bytes : List ℕ
   pub after : List ℕ

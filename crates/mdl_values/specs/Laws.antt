@@ -22,4 +22,5 @@ pub record ValuesAreOne : Type 0 where
   pub widths : (text : List ℕ) → IsOne (IsWidthText text)
   pub signs : (text : List ℕ) → IsOne (IsSignsText text)
   -- a number is no list of sizes
-  pub apart : (low high : ℕ) (text : List ℕ) (number : ℕ) (sizes : List ℕ) → IsNumberText low high text number → IsSizesText text sizes → ⊥
+  pub apart : (low high : ℕ) (text : List ℕ) (number : ℕ) (sizes : List ℕ)
+      → IsNumberText low high text number → IsSizesText text sizes → ⊥

@@ -9,7 +9,8 @@ use Rattle.mdl_values.specs.Numbers.{IsNumberText}
 use Rattle.mdl_values.specs.Pieces.{bracket_elements, list_elements}
 
 -- 1 to 1024 values, one of each element
-pub record IsListOf {A : Type 0} (elements : Option (List (List ℕ))) (IsValue : List ℕ → A → Type 0) (list : List A) : Type 0 where
+pub record IsListOf {A : Type 0} (elements : Option (List (List ℕ))) (IsValue : List ℕ → A → Type 0)
+    (list : List A) : Type 0 where
   pub texts : List (List ℕ)
   pub are_elements : elements ≡ Some texts
   pub read : AllZip IsValue texts list

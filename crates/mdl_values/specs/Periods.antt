@@ -1,4 +1,5 @@
--- Periods and declared widths (Simulink reference, `SampleTime` and `PortDimensions`; the spellings are own).
+-- Periods and declared widths (Simulink reference, `SampleTime` and `PortDimensions`; the spellings
+-- are own).
 use Rattle.std.specs.Prelude.{◌≡◌, ℕ, List, [], ◌∷◌, Some, MatchBool, ◌⊎◌, codes, bytes_eq}
 use Rattle.fx_type.specs.declared.decimal.Decimal.{Decimal}
 use Rattle.fx_round.specs.DecimalText.{IsDecimal}
@@ -30,7 +31,8 @@ pub record IsWithOffset (text : List ℕ) (period : Decimal) : Type 0 where
 
 -- a period: with its offset in brackets, or alone
 abbrev pub IsPeriodText : List ℕ → Decimal → Type 0
-IsPeriodText text period = MatchBool (opens text) (IsWithOffset text period) (IsAboveZero text period)
+IsPeriodText text period =
+    MatchBool (opens text) (IsWithOffset text period) (IsAboveZero text period)
 
 -- -1, or a period
 abbrev pub IsSampleTime : List ℕ → PeriodSpec → Type 0
@@ -56,4 +58,5 @@ IsWidthNumber text width = IsNumberText 1 widest_signal text width ⊎ IsBracket
 
 -- a declared width: -1 for none, which is 0, or such a number
 abbrev pub IsWidthText : List ℕ → ℕ → Type 0
-IsWidthText text width = MatchBool (bytes_eq text (codes "-1")) (width ≡ 0) (IsWidthNumber text width)
+IsWidthText text width =
+    MatchBool (bytes_eq text (codes "-1")) (width ≡ 0) (IsWidthNumber text width)

@@ -12,7 +12,8 @@ is_other separator byte = not (byte == separator)
 abbrev pub pieces_at : ℕ → List ℕ → List (List ℕ)
 pieces_at separator [] = [] ∷ []
 pieces_at separator (byte ∷ bytes) =
-    if is_other separator byte then on_first byte (pieces_at separator bytes) else [] ∷ pieces_at separator bytes
+    if is_other separator byte then on_first byte (pieces_at separator bytes)
+    else [] ∷ pieces_at separator bytes
 
 -- no blank
 abbrev pub is_solid : ℕ → Bool
@@ -30,7 +31,8 @@ on_word touches byte words = if touches then on_first byte words else (byte ∷ 
 -- the words between blanks
 abbrev pub words_of : List ℕ → List (List ℕ)
 words_of [] = []
-words_of (byte ∷ bytes) = if is_solid byte then on_word (goes_on bytes) byte (words_of bytes) else words_of bytes
+words_of (byte ∷ bytes) =
+    if is_solid byte then on_word (goes_on bytes) byte (words_of bytes) else words_of bytes
 
 -- the text from its first word on
 abbrev pub unblanked : List ℕ → List ℕ
@@ -54,7 +56,8 @@ with_words words (Some more) = Some (words ++ more)
 abbrev pub joined : ℕ → List (List ℕ) → Option (List (List ℕ))
 joined separator [] = Some []
 joined separator (piece ∷ pieces) =
-    if may_stand separator (length (words_of piece)) then with_words (words_of piece) (joined separator pieces) else None
+    if may_stand separator (length (words_of piece))
+    then with_words (words_of piece) (joined separator pieces) else None
 
 -- the elements of what stands in brackets
 abbrev pub elements_of : List ℕ → Option (List (List ℕ))
@@ -103,7 +106,9 @@ alone [] = None
 alone (word ∷ []) = Some (word ∷ [])
 alone (word ∷ other ∷ more) = None
 
--- the elements of a list: those in its brackets, or the one that it is; blanks around are passed over
+-- the elements of a list: those in its brackets, or the one that it is; blanks around are passed
+-- over
 abbrev pub list_elements : List ℕ → Option (List (List ℕ))
 list_elements text =
-    if opens (unblanked text) then inside_and_blanks (bracketed (unblanked text)) else alone (words_of text)
+    if opens (unblanked text) then inside_and_blanks (bracketed (unblanked text))
+    else alone (words_of text)

@@ -1,4 +1,5 @@
--- Parameters whose values are words, and what each word says (Simulink reference, each block's page).
+-- Parameters whose values are words, and what each word says (Simulink reference, each block's
+-- page).
 use Rattle.std.specs.Prelude.{ℕ, Bool, true, false, List, [], ◌∷◌, Option, Some, None, map, codes, bytes_eq, if◌then◌else◌}
 use Rattle.std.specs.Borrow.{Bor}
 use Rattle.fx_type.specs.declared.rounding.Rounding.{Rounding}
@@ -13,7 +14,8 @@ use Rattle.dg_model.specs.declared.kind.Gate.TheVariants.{And, Or, Nand, Nor, Xo
 -- the value that stands beside a text in a list of words, if any does
 abbrev pub value_beside : {A : Type 0} → List (List ℕ × A) → List ℕ → Option A
 value_beside [] text = None
-value_beside (entry ∷ entries) text = if bytes_eq text entry.0 then Some entry.1 else value_beside entries text
+value_beside (entry ∷ entries) text =
+    if bytes_eq text entry.0 then Some entry.1 else value_beside entries text
 
 -- the list of words that a table in the code has
 abbrev pub listed : {A : Type 0} → List (Bor (List ℕ) × A) → List (List ℕ × A)
@@ -36,7 +38,10 @@ reset_of = value_beside ((codes "held", false) ∷ (codes "reset", true) ∷ [])
 
 -- `Criteria` of a Switch
 abbrev pub criterion_of : List ℕ → Option Criterion
-criterion_of = value_beside ((codes "u2 >= Threshold", AtLeast) ∷ (codes "u2 > Threshold", Above) ∷ (codes "u2 ~= 0", NotZero) ∷ [])
+criterion_of =
+    value_beside
+    ((codes "u2 >= Threshold", AtLeast) ∷ (codes "u2 > Threshold", Above)
+    ∷ (codes "u2 ~= 0", NotZero) ∷ [])
 
 -- `Operator` of a Relational Operator
 abbrev pub relation_of : List ℕ → Option Relation

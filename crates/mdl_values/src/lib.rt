@@ -21,4 +21,6 @@ pub use numbers::read_number;
 pub use periods::{read_constant_time, read_period, read_sample_time, read_width};
 pub use signs::read_signs;
 pub use types::read_type;
-pub use words::{read_criterion, read_gate, read_relation, read_reset, read_rounding, read_switch, value_beside};
+pub use words::{
+    read_criterion, read_gate, read_relation, read_reset, read_rounding, read_switch, value_beside,
+};

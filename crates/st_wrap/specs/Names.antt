@@ -8,7 +8,8 @@ use Rattle.vl_names.specs.Identifiers.{is_identifier}
 -- the names that no column may have
 abbrev pub own_names : List (List ℕ)
 own_names =
-    codes "clk" ∷ codes "reset" ∷ codes "clk_enable" ∷ codes "ce_out" ∷ codes "in_valid" ∷ codes "out_ready"
+    codes "clk" ∷ codes "reset" ∷ codes "clk_enable" ∷ codes "ce_out" ∷ codes "in_valid"
+    ∷ codes "out_ready"
     ∷ codes "in_ready" ∷ codes "out_valid" ∷ []
 
 -- a name that a column may have

@@ -6,8 +6,8 @@ use Rattle.hw_sched.specs.Scheduled.{IsScheduled}
 use Rattle.tests_premises.specs.Sharing.{AreSharedByOne}
 use Rattle.tests_premises.specs.Whole.{diagram, model_text, plan_text, resolved, stimulus, table, timing}
 
--- The texts are those of the design: the model and the plan keep their rules. One multiplier serves two operations, and
--- the table solves the diagram.
+-- The texts are those of the design: the model and the plan keep their rules. One multiplier serves
+-- two operations, and the table solves the diagram.
 pub record MeetsPremises : Type 0 where
   pub design : IsDesignOf model_text plan_text diagram resolved timing
   pub scheduled : IsScheduled diagram resolved timing

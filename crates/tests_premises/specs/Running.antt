@@ -22,10 +22,12 @@ column = column_of_stimulus (root_inputs diagram (attributes_of diagram)) stimul
 
 -- the ports that carry numbers
 abbrev pub input_of : List ℕ → Port
-input_of name = input_port (record { name = name; width = 8; signed = true; period = 1; latency = 0 })
+input_of name =
+    input_port (record { name = name; width = 8; signed = true; period = 1; latency = 0 })
 
 abbrev pub output_of : List ℕ → Port
-output_of name = output_port (record { name = name; width = 16; signed = true; period = 1; latency = 5 })
+output_of name =
+    output_port (record { name = name; width = 16; signed = true; period = 1; latency = 5 })
 
 abbrev pub input_ports : List Port
 input_ports = input_of (codes "u_0") ∷ input_of (codes "u_1") ∷ []
@@ -33,7 +35,8 @@ input_ports = input_of (codes "u_0") ∷ input_of (codes "u_1") ∷ []
 abbrev pub output_ports : List Port
 output_ports = output_of (codes "y_0") ∷ output_of (codes "y_1") ∷ []
 
--- a run from this start that is driven by the stimulus, and in which each row behind the one with `reset` counts
+-- a run from this start that is driven by the stimulus, and in which each row behind the one with
+-- `reset` counts
 pub record RunsWhole (m : Module) (start : Row) : Type 0 where
   pub inputs : Rows
   pub rows : Rows
@@ -43,4 +46,6 @@ pub record RunsWhole (m : Module) (start : Row) : Type 0 where
 
 -- each module with these ports that breaks no condition has such a run from each start that fits
 abbrev pub WholeModulesRun : Type 0
-WholeModulesRun = (m : Module) (start : Row) → HasHeader m 3 input_ports output_ports → BreaksNone m → StartFits m start → RunsWhole m start
+WholeModulesRun =
+    (m : Module) (start : Row) → HasHeader m 3 input_ports output_ports → BreaksNone m
+    → StartFits m start → RunsWhole m start

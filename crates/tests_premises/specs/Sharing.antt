@@ -6,8 +6,8 @@ use Rattle.hw_sched.specs.Ready.{declared_latency, owed}
 use Rattle.hw_sched.specs.Slots.{operation, shared_operations, slot_of, unit_of}
 use Rattle.tests_premises.specs.Whole.{diagram, resolved, timing}
 
--- both elements of the Gain are served by one multiplier, in the first clock and in the next, a register stands behind
--- each, and the output shows a hit from the sixth clock on
+-- both elements of the Gain are served by one multiplier, in the first clock and in the next, a
+-- register stands behind each, and the output shows a hit from the sixth clock on
 pub record AreSharedByOne (attributes : Attributes) : Type 0 where
   pub both : shared_operations diagram attributes resolved ≡ operation 1 0 ∷ operation 1 1 ∷ []
   pub first_slot : slot_of diagram attributes resolved timing 0 (operation 1 0) ≡ 0

@@ -19,20 +19,31 @@ use Rattle.tests_premises.specs.Whole.{diagram, fives, gain, resolved, table, ti
 abbrev pub gain_block : Block
 gain_block = gain (codes "G")
 
--- from this start there is a run in which each output shows each of its three numbers in the sixth clock from the hit,
--- the one multiplication serves the first element in the first clock and the second in the next, and a register
--- stands behind each element and shows its number a base sample late
+-- from this start there is a run in which each output shows each of its three numbers in the sixth
+-- clock from the hit, the one multiplication serves the first element in the first clock and the
+-- second in the next, and a register stands behind each element and shows its number a base sample
+-- late
 pub record ShowsWhole (m : Module) (start : Row) : Type 0 where
   pub run : RunsWhole m start
-  pub first_output : (t : ℕ) → t < 3 → run.rows (row_at window (t * 3 + 5)) (codes "y_0") ≡ bits_of 16 (triples t)
-  pub second_output : (t : ℕ) → t < 3 → run.rows (row_at window (t * 3 + 5)) (codes "y_1") ≡ bits_of 16 (fives t)
-  pub first_served : (t : ℕ) → t < 3 → IsServed m diagram table (run.rows (row_at window (t * 3 + 0))) 0 (operation 1 0) gain_block t
-  pub second_served : (t : ℕ) → t < 3 → IsServed m diagram table (run.rows (row_at window (t * 3 + 1))) 0 (operation 1 1) gain_block t
+  pub first_output : (t : ℕ) → t < 3
+      → run.rows (row_at window (t * 3 + 5)) (codes "y_0") ≡ bits_of 16 (triples t)
+  pub second_output : (t : ℕ) → t < 3
+      → run.rows (row_at window (t * 3 + 5)) (codes "y_1") ≡ bits_of 16 (fives t)
+  pub first_served : (t : ℕ) → t < 3
+      → IsServed m diagram table (run.rows (row_at window (t * 3 + 0))) 0
+      (operation 1 0) gain_block t
+  pub second_served : (t : ℕ) → t < 3
+      → IsServed m diagram table (run.rows (row_at window (t * 3 + 1))) 0
+      (operation 1 1) gain_block t
   pub one : length (multiplications m) ≡ 1
   pub registers : (element : ℕ) → element < 2 → IsPipeline m 1 element 1
-  pub first_register : (t : ℕ) → t < 3 → run.rows (row_at window (t * 3 + 3)) (stage_name 1 0 1) ≡ bits_of 16 (triples t)
-  pub second_register : (t : ℕ) → t < 3 → run.rows (row_at window (t * 3 + 3)) (stage_name 1 1 1) ≡ bits_of 16 (fives t)
+  pub first_register : (t : ℕ) → t < 3
+      → run.rows (row_at window (t * 3 + 3)) (stage_name 1 0 1) ≡ bits_of 16 (triples t)
+  pub second_register : (t : ℕ) → t < 3
+      → run.rows (row_at window (t * 3 + 3)) (stage_name 1 1 1) ≡ bits_of 16 (fives t)
 
 -- each module that is owed of the design does so from each start that fits
 abbrev pub WholeModulesShow : Type 0
-WholeModulesShow = (m : Module) (start : Row) → IsModuleOf m diagram resolved timing → StartFits m start → ShowsWhole m start
+WholeModulesShow =
+    (m : Module) (start : Row) → IsModuleOf m diagram resolved timing → StartFits m start
+    → ShowsWhole m start

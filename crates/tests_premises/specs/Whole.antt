@@ -1,6 +1,6 @@
--- A whole model with its plan, and what both say, written out by hand: an input of two elements, a Gain that multiplies
--- them by 3 and 5, and an output. One multiplier serves both elements, in the first two of the three clocks of a base
--- sample, and one register stands behind each.
+-- A whole model with its plan, and what both say, written out by hand: an input of two elements, a
+-- Gain that multiplies them by 3 and 5, and an output. One multiplier serves both elements, in the
+-- first two of the three clocks of a base sample, and one register stands behind each.
 use Rattle.std.specs.Prelude.{ℕ, zero, suc, ℤ, pos, negsuc, true, false, List, [], ◌∷◌, None, codes, slice_index_or}
 use Rattle.std.proofs.Math.Dec.{lit<}
 use lib.Signed.{le_z_yes}

@@ -1,4 +1,5 @@
--- The numbers that a module and its ports carry as attributes (IEEE 1364-2005, 3.8; the names are own).
+-- The numbers that a module and its ports carry as attributes (IEEE 1364-2005, 3.8; the names are
+-- own).
 use Rattle.std.specs.Prelude.{ℕ, nat_le, ◌&&◌, if◌then◌else◌, List, find, bytes_eq, codes, Option, Some, None, unwrap_or}
 use Rattle.vl_ast.specs.declared.modules.Attr.{Attr}
 use Rattle.vl_ast.specs.declared.modules.Port.{Port}
@@ -7,11 +8,13 @@ use Rattle.vl_ast.specs.declared.modules.Module.{Module}
 -- an attribute's number, where it is in a range
 abbrev pub value_between : ℕ → ℕ → Option Attr → Option ℕ
 value_between low high None = None
-value_between low high (Some attr) = if nat_le low attr.value && nat_le attr.value high then Some attr.value else None
+value_between low high (Some attr) =
+    if nat_le low attr.value && nat_le attr.value high then Some attr.value else None
 
 -- the number of the first attribute of a name, where it is in the range
 abbrev pub attribute : List Attr → List ℕ → ℕ → ℕ → Option ℕ
-attribute attrs name low high = value_between low high (find (λ attr. bytes_eq attr.name name) attrs)
+attribute attrs name low high =
+    value_between low high (find (λ attr. bytes_eq attr.name name) attrs)
 
 -- the most clocks of a base sample
 abbrev pub most_cycles : ℕ

@@ -1,5 +1,5 @@
--- The six conditions on a module, tried in this order, each with the first name at fault in the text
--- (own; widths are bounded by 128 so that a value fits the program's numbers).
+-- The six conditions on a module, tried in this order, each with the first name at fault in the
+-- text (own; widths are bounded by 128 so that a value fits the program's numbers).
 use Rattle.std.specs.Prelude.{◌≡◌, ℕ, ◌+◌, ◌%◌, ◌^◌, ◌<◌, ◌≤◌, nat_le, nat_lt, Bool, true, false, not, ◌&&◌, ◌||◌, if◌then◌else◌, List, [], ◌∷◌, ◌++◌, map, length, slice_index_or, find, All, Contains, bytes_eq, codes, Option, Some, None, option_map, is_none}
 use Rattle.std.specs.List.{list_any, list_all, IsDistinct}
 use Rattle.vl_ast.specs.declared.expressions.Sized.{Sized}
@@ -45,10 +45,12 @@ mentioned (Reads name) = name
 mentioned Clocks = codes "clk"
 
 -- the name at the first place at fault, where a test sees what stands before a place
-abbrev pub first_fault : (List Mention → Mention → Bool) → List Mention → List Mention → Option (List ℕ)
+abbrev pub first_fault : (List Mention → Mention → Bool) → List Mention → List Mention
+    → Option (List ℕ)
 first_fault at_fault before [] = None
 first_fault at_fault before (here ∷ after) =
-    if at_fault before here then Some (mentioned here) else first_fault at_fault (before ++ here ∷ []) after
+    if at_fault before here then Some (mentioned here)
+    else first_fault at_fault (before ++ here ∷ []) after
 
 -- 1. a name that is read or driven isn't declared before, or one that needs a driver has none
 
@@ -61,7 +63,8 @@ needs_driver Register = true
 
 -- the place breaks the first condition
 abbrev pub is_undriven : List Mention → List Mention → Mention → Bool
-is_undriven all before (Declares declared) = needs_driver declared.kind && not (list_any (is_driver_of declared.name) all)
+is_undriven all before (Declares declared) =
+    needs_driver declared.kind && not (list_any (is_driver_of declared.name) all)
 is_undriven all before (Drives clocked name) = not (list_any (is_declaration_of name) before)
 is_undriven all before (Reads name) = not (list_any (is_declaration_of name) before)
 is_undriven all before Clocks = false
@@ -107,7 +110,9 @@ pub record AssignmentReads (m : Module) (name read : List ℕ) : Type 0 where
 -- the names are different, the assignment of each reads the next and that of the last reads the
 -- first, and the first is the one that stands first in the text
 pub record IsLoop (m : Module) (first : List ℕ) (others : List (List ℕ)) : Type 0 where
-  pub reads : (k : ℕ) → k < length (first ∷ others) → AssignmentReads m (slice_index_or (first ∷ others) k []) (slice_index_or (first ∷ others) ((k + 1) % length (first ∷ others)) [])
+  pub reads : (k : ℕ) → k < length (first ∷ others)
+      → AssignmentReads m (slice_index_or (first ∷ others) k [])
+      (slice_index_or (first ∷ others) ((k + 1) % length (first ∷ others)) [])
   pub different : IsDistinct bytes_eq (first ∷ others)
   pub begun : All (λ other. place_of m first ≤ place_of m other) others
 
@@ -128,7 +133,8 @@ is_narrow nets operand = operand.1 && nat_le (own_length nets operand.0) 128
 -- `is_sound` by the form of an expression
 abbrev pub is_sound_step : (List ℕ → Net) → Expr-F (Expr × Bool) → Bool
 is_sound_step nets (Expr-F.Name name) = true
-is_sound_step nets (Expr-F.Bit name place) = nat_lt 1 (nets name).width && nat_lt place (nets name).width
+is_sound_step nets (Expr-F.Bit name place) =
+    nat_lt 1 (nets name).width && nat_lt place (nets name).width
 is_sound_step nets (Expr-F.Part name high low) =
     nat_lt 1 (nets name).width && nat_le low high && nat_lt high (nets name).width
 is_sound_step nets (Expr-F.Literal number) = is_number number
@@ -181,7 +187,8 @@ too_wide m = option_map (λ part. part.0) (find (λ part. not part.1) (soundness
 -- `clk` is no such input, or is read
 abbrev pub is_clk_at_fault : Module → Bool
 is_clk_at_fault m =
-    not (list_any (is_bit_input (codes "clk")) m.ports) || list_any (is_read_of (codes "clk")) (mentions m)
+    not (list_any (is_bit_input (codes "clk")) m.ports)
+    || list_any (is_read_of (codes "clk")) (mentions m)
 
 -- `reset` is no such input
 abbrev pub is_reset_at_fault : Module → Bool
@@ -191,8 +198,10 @@ is_reset_at_fault m = not (list_any (is_bit_input (codes "reset")) m.ports)
 abbrev pub no_reset : Module → Option (List ℕ)
 no_reset m =
     if is_clk_at_fault m && is_reset_at_fault m
-    then Some (if nat_le (place_of m (codes "clk")) (place_of m (codes "reset")) then codes "clk" else codes "reset")
-    else (if is_clk_at_fault m then Some (codes "clk") else (if is_reset_at_fault m then Some (codes "reset") else None))
+    then Some (if nat_le (place_of m (codes "clk")) (place_of m (codes "reset")) then codes "clk"
+    else codes "reset")
+    else (if is_clk_at_fault m then Some (codes "clk")
+    else (if is_reset_at_fault m then Some (codes "reset") else None))
 
 -- 6. the module or a port that carries numbers lacks an attribute in its range
 
@@ -200,12 +209,15 @@ no_reset m =
 abbrev pub lacks_attribute : Bool → Port → Bool
 lacks_attribute stalls port =
     if port.input then not (is_control_input stalls port) && is_none (period_of port)
-    else not (is_control_output stalls port) && (is_none (period_of port) || is_none (latency_of port))
+    else not (is_control_output stalls port)
+    && (is_none (period_of port) || is_none (latency_of port))
 
--- sixth condition: the module or the first port that carries numbers and lacks an attribute in its range
+-- sixth condition: the module or the first port that carries numbers and lacks an attribute in its
+-- range
 abbrev pub no_attribute : Module → Option (List ℕ)
 no_attribute m =
-    if is_none (cycles_of m) then Some m.name else option_map (λ port. port.name) (find (lacks_attribute (is_stallable m)) m.ports)
+    if is_none (cycles_of m) then Some m.name
+    else option_map (λ port. port.name) (find (lacks_attribute (is_stallable m)) m.ports)
 
 -- a broken condition, with the name or the names that it shows
 pub data Fault : Type 0 where

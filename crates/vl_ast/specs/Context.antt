@@ -14,7 +14,8 @@ pub record Net : Type 0 where
   pub width : ℕ
   pub signed : Bool
 
--- where the operands of an operator stand: in the context of the whole, in one of their own, or alone
+-- where the operands of an operator stand: in the context of the whole, in one of their own, or
+-- alone
 pub data Place : Type 0 where
   InWhole : Place
   Together : Place
@@ -128,6 +129,7 @@ in_context nets length signed (Expr-F.Unary op part) =
 in_context nets length signed (Expr-F.Binary op left right) =
     Expr-F.Binary op (operand_at nets (binary_place op) length signed left right)
     (operand_at nets (binary_place op) length signed right left)
-in_context nets length signed (Expr-F.Shift op part amount) = Expr-F.Shift op (part.1 length signed) amount
+in_context nets length signed (Expr-F.Shift op part amount) =
+    Expr-F.Shift op (part.1 length signed) amount
 in_context nets length signed (Expr-F.Choose test chosen other) =
     Expr-F.Choose (alone nets test) (chosen.1 length signed) (other.1 length signed)

@@ -18,11 +18,13 @@ is_stallable m = list_any (is_bit_input (codes "clk_enable")) m.ports
 
 -- the port is `clk`, `reset`, or of a module that stalls `clk_enable`
 abbrev pub is_control_input : Bool → Port → Bool
-is_control_input stalls port = (stalls && bytes_eq port.name (codes "clk_enable")) || is_clock_or_reset port
+is_control_input stalls port =
+    (stalls && bytes_eq port.name (codes "clk_enable")) || is_clock_or_reset port
 
 -- the port is `ce_out` of a module that stalls: unsigned, of one bit
 abbrev pub is_control_output : Bool → Port → Bool
-is_control_output stalls port = stalls && bytes_eq port.name (codes "ce_out") && not port.signed && port.width == 1
+is_control_output stalls port =
+    stalls && bytes_eq port.name (codes "ce_out") && not port.signed && port.width == 1
 
 -- the port is an input that carries numbers
 abbrev pub is_number_input : Bool → Port → Bool

@@ -19,7 +19,8 @@ abbrev pub gated_item : ModItem → ModItem
 gated_item (Wire signed width name) = Wire signed width name
 gated_item (Reg signed width name) = Reg signed width name
 gated_item (Assign name value) = Assign name value
-gated_item (Always name first condition value) = Always name first (Some (gated_condition condition)) value
+gated_item (Always name first condition value) =
+    Always name first (Some (gated_condition condition)) value
 
 -- the same module, where no register takes its value without `clk_enable`
 abbrev pub gated : Module → Module
@@ -47,5 +48,6 @@ pub record IsOpened (m o : Module) : Type 0 where
   pub middle : List Port
   pub back : List Port
   pub were : m.ports ≡ front ++ (middle ++ back)
-  pub ports : o.ports ≡ front ++ bit_input (codes "clk_enable") ∷ (middle ++ bit_output (codes "ce_out") ∷ back)
+  pub ports : o.ports ≡ front ++ bit_input (codes "clk_enable")
+      ∷ (middle ++ bit_output (codes "ce_out") ∷ back)
   pub items : o.items ≡ m.items ++ shows_enable ∷ []

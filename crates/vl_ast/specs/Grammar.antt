@@ -25,22 +25,30 @@ comma = Sign (codes ",") ∷ []
 --      | "(" expr shift sized ")" | "(" expr "?" expr ":" expr ")"
 abbrev pub tokens_step : Expr-F (List Token) → List Token
 tokens_step (Expr-F.Name name) = Identifier name ∷ []
-tokens_step (Expr-F.Bit name place) = Identifier name ∷ Sign (codes "[") ∷ Number place ∷ Sign (codes "]") ∷ []
+tokens_step (Expr-F.Bit name place) =
+    Identifier name ∷ Sign (codes "[") ∷ Number place ∷ Sign (codes "]") ∷ []
 tokens_step (Expr-F.Part name high low) =
-    Identifier name ∷ Sign (codes "[") ∷ Number high ∷ Sign (codes ":") ∷ Number low ∷ Sign (codes "]") ∷ []
+    Identifier name
+    ∷ Sign (codes "[") ∷ Number high ∷ Sign (codes ":") ∷ Number low ∷ Sign (codes "]") ∷ []
 tokens_step (Expr-F.Literal number) = Based number ∷ []
 tokens_step (Expr-F.Concat parts) = Sign (codes "{") ∷ (joined comma parts ++ Sign (codes "}") ∷ [])
 tokens_step (Expr-F.Repeat count part) =
-    Sign (codes "{") ∷ Number count ∷ Sign (codes "{") ∷ (part ++ Sign (codes "}") ∷ Sign (codes "}") ∷ [])
-tokens_step (Expr-F.AsSigned part) = Key (codes "$signed") ∷ Sign (codes "(") ∷ (part ++ Sign (codes ")") ∷ [])
-tokens_step (Expr-F.AsUnsigned part) = Key (codes "$unsigned") ∷ Sign (codes "(") ∷ (part ++ Sign (codes ")") ∷ [])
-tokens_step (Expr-F.Unary op part) = Sign (codes "(") ∷ Sign (unary_text op) ∷ (part ++ Sign (codes ")") ∷ [])
+    Sign (codes "{") ∷ Number count
+    ∷ Sign (codes "{") ∷ (part ++ Sign (codes "}") ∷ Sign (codes "}") ∷ [])
+tokens_step (Expr-F.AsSigned part) =
+    Key (codes "$signed") ∷ Sign (codes "(") ∷ (part ++ Sign (codes ")") ∷ [])
+tokens_step (Expr-F.AsUnsigned part) =
+    Key (codes "$unsigned") ∷ Sign (codes "(") ∷ (part ++ Sign (codes ")") ∷ [])
+tokens_step (Expr-F.Unary op part) =
+    Sign (codes "(") ∷ Sign (unary_text op) ∷ (part ++ Sign (codes ")") ∷ [])
 tokens_step (Expr-F.Binary op left right) =
     Sign (codes "(") ∷ (left ++ Sign (binary_text op) ∷ (right ++ Sign (codes ")") ∷ []))
 tokens_step (Expr-F.Shift op part amount) =
     Sign (codes "(") ∷ (part ++ Sign (shift_text op) ∷ Based amount ∷ Sign (codes ")") ∷ [])
 tokens_step (Expr-F.Choose test chosen other) =
-    Sign (codes "(") ∷ (test ++ Sign (codes "?") ∷ (chosen ++ Sign (codes ":") ∷ (other ++ Sign (codes ")") ∷ [])))
+    Sign (codes "(")
+    ∷ (test ++ Sign (codes "?")
+    ∷ (chosen ++ Sign (codes ":") ∷ (other ++ Sign (codes ")") ∷ [])))
 
 -- the tokens of an expression
 abbrev pub expr_tokens : Expr → List Token
@@ -107,18 +115,24 @@ signed_tokens signed = if signed then Key (codes "signed") ∷ [] else []
 abbrev pub IsRange : ℕ → List Token → Type 0
 IsRange width tokens =
     ((width ≡ 1) × (tokens ≡ []))
-    ⊎ ((0 < width) × (tokens ≡ Sign (codes "[") ∷ Number (width - 1) ∷ Sign (codes ":") ∷ Key (codes "0") ∷ Sign (codes "]") ∷ []))
+    ⊎ ((0 < width)
+    × (tokens
+    ≡ Sign (codes "[") ∷ Number (width - 1) ∷ Sign (codes ":") ∷ Key (codes "0")
+    ∷ Sign (codes "]") ∷ []))
 
 -- a net's declaration, from its first word to its name
 abbrev pub declaration_tokens : List Token → Bool → List Token → List ℕ → List Token
-declaration_tokens words signed range name = words ++ (signed_tokens signed ++ (range ++ Identifier name ∷ []))
+declaration_tokens words signed range name =
+    words ++ (signed_tokens signed ++ (range ++ Identifier name ∷ []))
 
 -- port = [attrs] ("input" | "output") "wire" ["signed"] [range] id
 abbrev pub IsPortText : Port → List Token → Type 0
 IsPortText port tokens =
     (range : List Token) × IsRange port.width range
     × (tokens ≡ attrs_tokens port.attrs
-    ++ declaration_tokens (Key (if port.input then codes "input" else codes "output") ∷ Key (codes "wire") ∷ []) port.signed range port.name)
+    ++ declaration_tokens
+    (Key (if port.input then codes "input" else codes "output") ∷ Key (codes "wire") ∷ [])
+    port.signed range port.name)
 
 -- the tokens of the condition of a clocked item, or none
 abbrev pub condition_tokens : Option Expr → List Token
@@ -140,20 +154,26 @@ IsCondition (Some condition) = IsExpr condition
 abbrev pub IsItemText : ModItem → List Token → Type 0
 IsItemText (Wire signed width name) tokens =
     (range : List Token) × IsRange width range
-    × (tokens ≡ declaration_tokens (Key (codes "wire") ∷ []) signed range name ++ Sign (codes ";") ∷ [])
+    × (tokens ≡ declaration_tokens (Key (codes "wire") ∷ []) signed range name ++ Sign (codes ";")
+    ∷ [])
 IsItemText (Reg signed width name) tokens =
     (range : List Token) × IsRange width range
-    × (tokens ≡ declaration_tokens (Key (codes "reg") ∷ []) signed range name ++ Sign (codes ";") ∷ [])
+    × (tokens ≡ declaration_tokens (Key (codes "reg") ∷ []) signed range name ++ Sign (codes ";")
+    ∷ [])
 IsItemText (Assign name value) tokens =
     IsExpr value
-    × (tokens ≡ Key (codes "assign") ∷ Identifier name ∷ Sign (codes "=") ∷ (expr_tokens value ++ Sign (codes ";") ∷ []))
+    × (tokens ≡ Key (codes "assign") ∷ Identifier name ∷ Sign (codes "=")
+    ∷ (expr_tokens value ++ Sign (codes ";") ∷ []))
 IsItemText (Always name first condition value) tokens =
     IsCondition condition × IsExpr value
-    × (tokens ≡ Key (codes "always") ∷ Sign (codes "@") ∷ Sign (codes "(") ∷ Key (codes "posedge") ∷ Key (codes "clk")
-    ∷ Sign (codes ")") ∷ Key (codes "begin") ∷ Key (codes "if") ∷ Sign (codes "(") ∷ Key (codes "reset") ∷ Sign (codes ")")
+    × (tokens ≡ Key (codes "always") ∷ Sign (codes "@")
+    ∷ Sign (codes "(") ∷ Key (codes "posedge") ∷ Key (codes "clk")
+    ∷ Sign (codes ")") ∷ Key (codes "begin") ∷ Key (codes "if")
+    ∷ Sign (codes "(") ∷ Key (codes "reset") ∷ Sign (codes ")")
     ∷ Identifier name ∷ Sign (codes "<=") ∷ Based first ∷ Sign (codes ";") ∷ Key (codes "else")
     ∷ (condition_tokens condition
-    ++ Identifier name ∷ Sign (codes "<=") ∷ (expr_tokens value ++ Sign (codes ";") ∷ Key (codes "end") ∷ [])))
+    ++ Identifier name ∷ Sign (codes "<=")
+    ∷ (expr_tokens value ++ Sign (codes ";") ∷ Key (codes "end") ∷ [])))
 
 -- module = [attrs] "module" id "(" port {"," port} ")" ";" {item} "endmodule"
 pub record IsModuleText (m : Module) (tokens : List Token) : Type 0 where
@@ -163,7 +183,10 @@ pub record IsModuleText (m : Module) (tokens : List Token) : Type 0 where
   pub each_port : AllZip IsPortText m.ports ports
   pub each_item : AllZip IsItemText m.items items
   pub text : tokens ≡ attrs_tokens m.attrs ++
-      (Key (codes "module") ∷ Identifier m.name ∷ Sign (codes "(") ∷ (joined comma ports ++ (Sign (codes ")") ∷ Sign (codes ";") ∷ (flat_map (λ item. item) items ++ Key (codes "endmodule") ∷ []))))
+      (Key (codes "module") ∷ Identifier m.name
+      ∷ Sign (codes "(")
+      ∷ (joined comma ports ++ (Sign (codes ")") ∷ Sign (codes ";")
+      ∷ (flat_map (λ item. item) items ++ Key (codes "endmodule") ∷ []))))
 
 -- the bytes are a text of the module
 pub record Spells (bytes : List ℕ) (m : Module) : Type 0 where

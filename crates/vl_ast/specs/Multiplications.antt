@@ -1,5 +1,5 @@
--- The multiplications of a module: the `*` of its expressions in the order of the text, each with its operands and
--- the context in which they stand (own).
+-- The multiplications of a module: the `*` of its expressions in the order of the text, each with
+-- its operands and the context in which they stand (own).
 use Rattle.std.specs.Prelude.{ℕ, max, Bool, List, [], ◌∷◌, ◌++◌, flat_map, Option, Some, None}
 use Rattle.vl_ast.specs.declared.expressions.BinOp.{BinOp}
 use Rattle.vl_ast.specs.declared.expressions.BinOp.TheVariants.{Add, Subtract, Multiply, And, Or, Xor, Equal, NotEqual, Less, LessEqual, Greater, GreaterEqual, Both, Either}
@@ -68,7 +68,8 @@ in_text_order here (Expr-F.Shift op part amount) = part
 in_text_order here (Expr-F.Choose test chosen other) = test ++ (chosen ++ other)
 
 -- `multiplications_in` by the form
-abbrev pub multiplications_step : (List ℕ → Net) → Expr-F (Operand (List Multiplication)) → ℕ → Bool → List Multiplication
+abbrev pub multiplications_step : (List ℕ → Net) → Expr-F (Operand (List Multiplication)) → ℕ → Bool
+    → List Multiplication
 multiplications_step nets layer width signed =
     in_text_order (product_here layer width signed) (in_context nets width signed layer)
 

@@ -1,5 +1,5 @@
--- What a module declares, and the names that its text declares, drives and reads, in the order of the
--- text (IEEE 1364-2005, 4.2, 6.1, 9.2.2 and 12.3).
+-- What a module declares, and the names that its text declares, drives and reads, in the order of
+-- the text (IEEE 1364-2005, 4.2, 6.1, 9.2.2 and 12.3).
 use Rattle.std.specs.Prelude.{ℕ, Bool, true, false, ◌||◌, if◌then◌else◌, List, [], ◌∷◌, ◌++◌, map, flat_map, find, length, take_while, not, bytes_eq, codes, Option, Some, None}
 use Rattle.vl_ast.specs.declared.expressions.Expr.{Expr}
 use Rattle.vl_ast.specs.declared.expressions.Expr.TheOpen.{Expr-F}

@@ -43,7 +43,8 @@ unary_operators = Negate ∷ Invert ∷ IsZero ∷ []
 -- every binary operator
 abbrev pub binary_operators : List BinOp
 binary_operators =
-    Add ∷ Subtract ∷ Multiply ∷ And ∷ Or ∷ Xor ∷ Equal ∷ NotEqual ∷ Less ∷ LessEqual ∷ Greater ∷ GreaterEqual
+    Add ∷ Subtract ∷ Multiply ∷ And ∷ Or ∷ Xor ∷ Equal ∷ NotEqual ∷ Less ∷ LessEqual ∷ Greater
+    ∷ GreaterEqual
     ∷ Both ∷ Either ∷ []
 
 -- every shift

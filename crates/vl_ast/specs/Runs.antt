@@ -27,15 +27,23 @@ takes_value m row (Some condition) = is_true (nets_of m) row condition
 abbrev pub next_bits : Module → Row → List ℕ → Sized → Option Expr → Expr → ℕ
 next_bits m row name first condition value =
     if row (codes "reset") == 1 then assigned_number (nets_of m name).width first
-    else (if takes_value m row condition then assigned (nets_of m) row (nets_of m name).width value else row name)
+    else (if takes_value m row condition then assigned (nets_of m) row (nets_of m name).width value
+    else row name)
 
--- these are rows of the module, `count` of them, where `start` gives each register its bits in row 0
--- and `inputs` gives the input ports their bits in each row
+-- these are rows of the module, `count` of them, where `start` gives each register its bits in row
+-- 0 and `inputs` gives the input ports their bits in each row
 pub record Runs (m : Module) (count : ℕ) (start : Row) (inputs rows : Rows) : Type 0 where
   -- each name has bits of its width
-  pub fits : (k : ℕ) → k < count → (declared : Declared) → Contains (declarations m) declared → rows k declared.name < 2 ^ declared.net.width
-  pub starts : 0 < count → (signed : Bool) (width : ℕ) (name : List ℕ) → Contains m.items (Reg signed width name) → rows 0 name ≡ start name
-  pub driven : (k : ℕ) → k < count → (port : Port) → Contains m.ports port → port.input ≡ true → rows k port.name ≡ inputs k port.name
-  pub assigns : (k : ℕ) → k < count → (name : List ℕ) (value : Expr) → Contains m.items (Assign name value) → rows k name ≡ assigned (nets_of m) (rows k) (nets_of m name).width value
-  pub steps : (k : ℕ) → k + 1 < count → (name : List ℕ) (first : Sized) (condition : Option Expr) (value : Expr)
-      → Contains m.items (Always name first condition value) → rows (k + 1) name ≡ next_bits m (rows k) name first condition value
+  pub fits : (k : ℕ) → k < count → (declared : Declared) → Contains (declarations m) declared
+      → rows k declared.name < 2 ^ declared.net.width
+  pub starts : 0 < count → (signed : Bool) (width : ℕ) (name : List ℕ)
+      → Contains m.items (Reg signed width name) → rows 0 name ≡ start name
+  pub driven : (k : ℕ) → k < count → (port : Port) → Contains m.ports port → port.input ≡ true
+      → rows k port.name ≡ inputs k port.name
+  pub assigns : (k : ℕ) → k < count → (name : List ℕ) (value : Expr)
+      → Contains m.items (Assign name value)
+      → rows k name ≡ assigned (nets_of m) (rows k) (nets_of m name).width value
+  pub steps : (k : ℕ) → k + 1 < count
+      → (name : List ℕ) (first : Sized) (condition : Option Expr) (value : Expr)
+      → Contains m.items (Always name first condition value)
+      → rows (k + 1) name ≡ next_bits m (rows k) name first condition value

@@ -1,5 +1,5 @@
--- What a module asks of its names, its attributes and its expressions so that some text spells it, beside that
--- it breaks no condition (own).
+-- What a module asks of its names, its attributes and its expressions so that some text spells it,
+-- beside that it breaks no condition (own).
 use Rattle.std.specs.Prelude.{◌≡◌, ◌≢◌, ◌^◌, ◌<◌, true, [], Contains, ⊤}
 use Rattle.vl_ast.specs.declared.modules.Attr.{Attr}
 use Rattle.vl_ast.specs.declared.modules.Port.{Port}
@@ -28,5 +28,6 @@ pub record IsSpellable (m : Module) : Type 0 where
   pub has_port : m.ports ≢ []
   pub declared : (d : Declared) → Contains (declarations m) d → is_identifier d.name ≡ true
   pub attrs : (attr : Attr) → Contains m.attrs attr → IsShortAttr attr
-  pub port_attrs : (port : Port) → Contains m.ports port → (attr : Attr) → Contains port.attrs attr → IsShortAttr attr
+  pub port_attrs : (port : Port) → Contains m.ports port → (attr : Attr) → Contains port.attrs attr
+      → IsShortAttr attr
   pub items : (i : ModItem) → Contains m.items i → HasExprs i

@@ -30,13 +30,15 @@ is_word (Based number) = true
 -- the signs of more than one byte
 abbrev pub long_signs : List (List ℕ)
 long_signs =
-    codes "(*" ∷ codes "*)" ∷ codes "<=" ∷ codes ">=" ∷ codes "==" ∷ codes "!=" ∷ codes "<<" ∷ codes ">>" ∷ codes ">>>"
+    codes "(*" ∷ codes "*)" ∷ codes "<=" ∷ codes ">=" ∷ codes "==" ∷ codes "!=" ∷ codes "<<"
+    ∷ codes ">>" ∷ codes ">>>"
     ∷ codes "&&" ∷ codes "||" ∷ []
 
 -- whether no longer sign begins where this one does, before these bytes
 abbrev pub is_longest : List ℕ → List ℕ → Bool
 is_longest sign after =
-    list_all (λ longer. nat_le (length longer) (length sign) || not (starts_with nat_eq (sign ++ after) longer)) long_signs
+    list_all (λ longer. nat_le (length longer) (length sign)
+    || not (starts_with nat_eq (sign ++ after) longer)) long_signs
 
 -- one to nine decimal digits
 pub record IsDec (number : ℕ) (digits : List ℕ) : Type 0 where
@@ -48,15 +50,16 @@ pub record IsDec (number : ℕ) (digits : List ℕ) : Type 0 where
 abbrev pub base_of : ℕ → Option ℕ
 base_of letter =
     if letter == code "b" || letter == code "B" then Some 2
-    else (if letter == code "d" || letter == code "D" then Some 10 else (if letter == code "h" || letter == code "H" then Some 16 else None))
+    else (if letter == code "d" || letter == code "D" then Some 10
+    else (if letter == code "h" || letter == code "H" then Some 16 else None))
 
 -- `s` or `S` for a signed number, and else nothing
 abbrev pub IsSignMark : Bool → List ℕ → Type 0
 IsSignMark true mark = (mark ≡ codes "s") ⊎ (mark ≡ codes "S")
 IsSignMark false mark = mark ≡ []
 
--- the width, an apostrophe, the mark of a signed number, the letter of a base, and one to 128 digits
--- in it, of a number below 2 ^ 128
+-- the width, an apostrophe, the mark of a signed number, the letter of a base, and one to 128
+-- digits in it, of a number below 2 ^ 128
 pub record IsBased (number : Sized) (bytes : List ℕ) : Type 0 where
   pub width : List ℕ
   pub mark : List ℕ
@@ -103,7 +106,9 @@ filler_text (BlockComment body) = codes "/*" ++ body ++ codes "*/"
 
 -- a space, a tab, a newline, a form feed or a carriage return
 abbrev pub is_blank : ℕ → Bool
-is_blank byte = byte == code " " || byte == code "\t" || byte == code "\n" || byte == code "\u{c}" || byte == code "\r"
+is_blank byte =
+    byte == code " " || byte == code "\t" || byte == code "\n" || byte == code "\u{c}"
+    || byte == code "\r"
 
 -- no newline among the bytes
 abbrev pub IsOneLine : List ℕ → Type 0
@@ -117,12 +122,15 @@ IsFiller (BlockComment body) = (before after : List ℕ) → body ≢ before ++ 
 
 -- blanks and comments
 abbrev pub IsGap : List ℕ → Type 0
-IsGap bytes = (fillers : List Filler) × All IsFiller fillers × (bytes ≡ flat_map filler_text fillers)
+IsGap bytes =
+    (fillers : List Filler) × All IsFiller fillers × (bytes ≡ flat_map filler_text fillers)
 
 -- the same at the end of the text, where a comment to the end of the line may lack its newline
 abbrev pub IsLastGap : List ℕ → Type 0
 IsLastGap bytes =
-    IsGap bytes ⊎ ((gap : List ℕ) × (body : List ℕ) × IsGap gap × IsOneLine body × (bytes ≡ gap ++ codes "//" ++ body))
+    IsGap bytes
+    ⊎ ((gap : List ℕ) × (body : List ℕ) × IsGap gap × IsOneLine body
+    × (bytes ≡ gap ++ codes "//" ++ body))
 
 -- the longest token is taken
 abbrev pub IsLongest : Token → List ℕ → Type 0
@@ -137,5 +145,7 @@ IsLongest (Based number) after = ⊤
 abbrev pub Lays : Bool → List Token → List ℕ → Type 0
 Lays after_word [] bytes = IsLastGap bytes
 Lays after_word (token ∷ tokens) bytes =
-    (gap : List ℕ) × (written : List ℕ) × (rest : List ℕ) × IsGap gap × ((after_word && is_word token) ≡ true → gap ≢ [])
-    × IsWritten token written × IsLongest token rest × Lays (is_word token) tokens rest × (bytes ≡ gap ++ written ++ rest)
+    (gap : List ℕ) × (written : List ℕ) × (rest : List ℕ) × IsGap gap
+    × ((after_word && is_word token) ≡ true → gap ≢ [])
+    × IsWritten token written × IsLongest token rest × Lays (is_word token) tokens rest
+    × (bytes ≡ gap ++ written ++ rest)

@@ -26,7 +26,8 @@ is_negative operand = operand.signed && nat_le (2 ^ (operand.width - 1)) operand
 
 -- the number, by two's complement where the bits are signed
 abbrev pub number_of : Bits → ℤ
-number_of operand = if is_negative operand then pos operand.bits -ℤ pos (2 ^ operand.width) else pos operand.bits
+number_of operand =
+    if is_negative operand then pos operand.bits -ℤ pos (2 ^ operand.width) else pos operand.bits
 
 -- the bits of a number, by two's complement
 abbrev pub bits_of : ℕ → ℤ → ℕ
@@ -35,7 +36,8 @@ bits_of width (negsuc n) = 2 ^ width - 1 - n % 2 ^ width
 
 -- in a longer context: the sign bit fills the left where the whole is signed, and else zeros do
 abbrev pub extended : Bits → ℕ → ℕ
-extended operand width = if is_negative operand then operand.bits + (2 ^ width - 2 ^ operand.width) else operand.bits
+extended operand width =
+    if is_negative operand then operand.bits + (2 ^ width - 2 ^ operand.width) else operand.bits
 
 -- two operands side by side, the first on the left
 abbrev pub beside : ℕ → Bits → ℕ
@@ -81,7 +83,8 @@ abbrev pub bits_step : (List ℕ → Net) → (List ℕ → ℕ) → ℕ → Boo
 bits_step nets row width signed (Expr-F.Name name) =
     extended (record { width = (nets name).width; signed = signed; bits = row name }) width
 bits_step nets row width signed (Expr-F.Bit name place) = bit_at (row name) place
-bits_step nets row width signed (Expr-F.Part name high low) = row name / 2 ^ low % 2 ^ (high + 1 - low)
+bits_step nets row width signed (Expr-F.Part name high low) =
+    row name / 2 ^ low % 2 ^ (high + 1 - low)
 bits_step nets row width signed (Expr-F.Literal number) =
     extended (record { width = number.width; signed = signed; bits = number.bits }) width
 bits_step nets row width signed (Expr-F.Concat parts) = fold beside 0 parts
@@ -98,15 +101,21 @@ bits_step nets row width signed (Expr-F.Choose test chosen other) =
 -- the bits of an expression in each context, by its form
 abbrev pub meaning_step : (List ℕ → Net) → (List ℕ → ℕ) → Expr-F (Operand Bits) → ℕ → Bool → Bits
 meaning_step nets row layer width signed =
-    record { width = width; signed = signed; bits = bits_step nets row width signed (in_context nets width signed layer) }
+    record {
+      width = width;
+      signed = signed;
+      bits = bits_step nets row width signed (in_context nets width signed layer);
+    }
 
 -- an expression's bits in a context, where the row gives each name its bits
 abbrev pub value_in : (List ℕ → Net) → (List ℕ → ℕ) → ℕ → Bool → Expr → ℕ
-value_in nets row width signed e = (para-Expr (ℕ → Bool → Bits) (meaning_step nets row) e width signed).bits
+value_in nets row width signed e =
+    (para-Expr (ℕ → Bool → Bits) (meaning_step nets row) e width signed).bits
 
 -- the same with the context's length and sign
 abbrev pub bits_in : (List ℕ → Net) → (List ℕ → ℕ) → ℕ → Bool → Expr → Bits
-bits_in nets row width signed e = record { width = width; signed = signed; bits = value_in nets row width signed e }
+bits_in nets row width signed e =
+    record { width = width; signed = signed; bits = value_in nets row width signed e }
 
 -- an operand with its bits in each context
 abbrev pub operand_of : (List ℕ → Net) → (List ℕ → ℕ) → Expr → Operand Bits
@@ -114,7 +123,8 @@ operand_of nets row e = (e, λ width signed. bits_in nets row width signed e)
 
 -- what an assignment gives a left side of this width, which has no say in the sign
 abbrev pub assigned : (List ℕ → Net) → (List ℕ → ℕ) → ℕ → Expr → ℕ
-assigned nets row width e = value_in nets row (max width (own_length nets e)) (is_signed nets e) e % 2 ^ width
+assigned nets row width e =
+    value_in nets row (max width (own_length nets e)) (is_signed nets e) e % 2 ^ width
 
 -- whether a condition is true: its value, which stands alone, isn't 0
 abbrev pub is_true : (List ℕ → Net) → (List ℕ → ℕ) → Expr → Bool
@@ -123,5 +133,6 @@ is_true nets row e = not (value_in nets row (own_length nets e) (is_signed nets 
 -- what the assignment of a number gives a left side of this width
 abbrev pub assigned_number : ℕ → Sized → ℕ
 assigned_number width number =
-    extended (record { width = number.width; signed = number.signed; bits = number.bits }) (max width number.width)
+    extended (record { width = number.width; signed = number.signed; bits = number.bits })
+    (max width number.width)
     % 2 ^ width

@@ -40,14 +40,16 @@ abbrev pub counts_at : Module → Window → Rows → ℕ → Bool
 counts_at m window inputs place = is_counted m (inputs (row_at window place))
 
 -- the row at this place behind the last row with `reset` is the counted row of this number
-pub record IsClock (m : Module) (window : Window) (inputs : Rows) (clock : Clock) (place : ℕ) : Type 0 where
+pub record IsClock (m : Module) (window : Window) (inputs : Rows) (clock : Clock)
+    (place : ℕ) : Type 0 where
   pub within : row_at window place < window.rows
   pub counts : counts_at m window inputs place ≡ true
   pub number : counted (counts_at m window inputs) place ≡ clock
 
 -- how many counted rows there are
 abbrev pub clocks_in : Module → Window → Rows → ℕ
-clocks_in m window inputs = counted (counts_at m window inputs) (window.rows - (window.last_reset + 1))
+clocks_in m window inputs =
+    counted (counts_at m window inputs) (window.rows - (window.last_reset + 1))
 
 -- at each clock from one to before another that stands among the rows, the name has the bits of the
 -- number in its width

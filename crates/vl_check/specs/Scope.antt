@@ -20,7 +20,9 @@ number_in scope name = position (λ (key : Bor (List ℕ)). bytes_eq name key.no
 
 -- its declaration
 abbrev pub declaration_in : Scope → List ℕ → Option Declared
-declaration_in scope name = option_and_then (λ k. option_map declared_of (slice_index_or scope.declared.items k None)) (number_in scope name)
+declaration_in scope name =
+    option_and_then (λ k. option_map declared_of (slice_index_or scope.declared.items k None))
+    (number_in scope name)
 
 -- its width and sign
 abbrev pub nets_in : Scope → List ℕ → Net
@@ -33,6 +35,7 @@ number_at scope name = unwrap_or (number_in scope name) (length (names_in scope)
 -- the scope of a module's text: the names that stand in it, each once, with their declarations
 pub record IsScopeOf (m : Module) (scope : Scope) : Type 0 where
   pub declares : (name : List ℕ) → declaration_in scope name ≡ declaration_of m name
-  pub knows : (name : List ℕ) → Contains (map mentioned (mentions m)) name → (k : ℕ) × (number_in scope name ≡ Some k)
+  pub knows : (name : List ℕ) → Contains (map mentioned (mentions m)) name → (k : ℕ)
+      × (number_in scope name ≡ Some k)
   pub apart : IsDistinct bytes_eq (names_in scope)
   pub names : names_in scope ≡ names_of m

@@ -11,4 +11,5 @@ driven_ports m = filter (λ port. port.input && not (bytes_eq port.name (codes "
 abbrev pub given : List Port → List ℕ → List ℕ → ℕ
 given [] bits name = 0
 given (port ∷ ports) [] name = 0
-given (port ∷ ports) (here ∷ bits) name = if bytes_eq port.name name then here else given ports bits name
+given (port ∷ ports) (here ∷ bits) name =
+    if bytes_eq port.name name then here else given ports bits name

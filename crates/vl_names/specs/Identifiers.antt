@@ -17,4 +17,5 @@ continues_name byte = is_ascii_alphanumeric byte || byte == code "_"
 abbrev pub is_identifier : List ℕ → Bool
 is_identifier [] = false
 is_identifier (first ∷ others) =
-    begins_name first && list_all continues_name others && not (list_any (bytes_eq (first ∷ others)) reserved)
+    begins_name first && list_all continues_name others
+    && not (list_any (bytes_eq (first ∷ others)) reserved)

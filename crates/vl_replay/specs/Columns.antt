@@ -1,4 +1,5 @@
--- The columns of a module's stimulus and response: a port's period and the range of its numbers (own).
+-- The columns of a module's stimulus and response: a port's period and the range of its numbers
+-- (own).
 use Rattle.std.specs.Prelude.{ℤ, pos, ◌-◌, ◌^◌, ◌==◌, neg_ℤ, Bool, ◌||◌, if◌then◌else◌, List, map}
 use Rattle.vl_ast.specs.declared.modules.Port.{Port}
 use Rattle.vl_ast.specs.Attributes.{step_of}

@@ -16,10 +16,12 @@ module_of replay = source_of replay.machine
 abbrev pub stimulus_of : Replay → Table
 stimulus_of replay = replay.score.stimulus
 
--- the numbers of all samples before this one are given, and the clocks of those that it waits for are passed
+-- the numbers of all samples before this one are given, and the clocks of those that it waits for
+-- are passed
 pub record StandsBefore (replay : Replay) (t : Sample) : Type 0 where
   pub few : replay.score.stimulus.lines ≤ most_cells
   pub wide : length replay.bits.items ≡ length replay.score.drivers.items
   pub delay : IsDelay replay.score replay.delay
   pub window : IsWindow replay.score replay.delay replay.window
-  pub played : IsPlayed replay.score replay.window ((t + replay.delay) * replay.score.cycles) replay.machine replay.cells.items
+  pub played : IsPlayed replay.score replay.window
+      ((t + replay.delay) * replay.score.cycles) replay.machine replay.cells.items

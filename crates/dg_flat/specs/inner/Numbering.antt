@@ -21,19 +21,26 @@ count_at blocks side slot = count_in blocks (system_of slot) (λ part. is_some (
 
 -- the first of a number
 abbrev pub numbered_at : List NestedBlock → Side → ℕ → ℕ → Option ℕ
-numbered_at blocks side slot number = first_in blocks (system_of slot) (λ part. is_number number (number_on side part))
+numbered_at blocks side slot number =
+    first_in blocks (system_of slot) (λ part. is_number number (number_on side part))
 
 -- one row a System, and the first port of each number
-pub record IsNumbering (blocks : List NestedBlock) (side : Side) (numbering : Numbering) : Type 0 where
+pub record IsNumbering (blocks : List NestedBlock) (side : Side)
+    (numbering : Numbering) : Type 0 where
   pub rows : AreRows numbering.rows
   pub counts : IsTable (suc (length blocks)) (count_at blocks side) numbering.rows.lengths.items
-  pub ports : IsRowTable numbering.rows.lengths.items (numbered_at blocks side) numbering.ports.items
+  pub ports : IsRowTable numbering.rows.lengths.items
+      (numbered_at blocks side) numbering.ports.items
 
 -- what is found at a number: the first port that has it, and nothing above their count
-pub record IsNumberedAt (blocks : List NestedBlock) (side : Side) (slot number : ℕ) (found : Option ℕ) : Type 0 where
-  pub within : 1 ≤ number → number ≤ count_at blocks side slot → found ≡ numbered_at blocks side slot number
+pub record IsNumberedAt (blocks : List NestedBlock) (side : Side) (slot number : ℕ)
+    (found : Option ℕ) : Type 0 where
+  pub within : 1 ≤ number → number ≤ count_at blocks side slot
+      → found ≡ numbered_at blocks side slot number
   pub none : ¬ ((1 ≤ number) × (number ≤ count_at blocks side slot)) → found ≡ None
 
 -- no port has a number that is none of those from 1 to their count
 pub record AreNumbersWithin (blocks : List NestedBlock) : Type 0 where
-  pub past : (side : Side) (slot number : ℕ) → ¬ ((1 ≤ number) × (number ≤ count_at blocks side slot)) → numbered_at blocks side slot number ≡ None
+  pub past : (side : Side) (slot number : ℕ)
+      → ¬ ((1 ≤ number) × (number ≤ count_at blocks side slot))
+      → numbered_at blocks side slot number ≡ None

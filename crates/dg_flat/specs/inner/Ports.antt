@@ -47,7 +47,9 @@ lacks_input blocks line = lacks_end blocks line.to line.target
 
 -- the block at a place lacks a port that some line meets
 abbrev pub is_lacking : List NestedBlock → List NestedLine → ℕ → Bool
-is_lacking blocks lines place = list_any (λ line. ((line.from == place) && lacks_output blocks line) || ((line.to == place) && lacks_input blocks line)) lines
+is_lacking blocks lines place =
+    list_any (λ line. ((line.from == place) && lacks_output blocks line)
+    || ((line.to == place) && lacks_input blocks line)) lines
 
 -- one driver more, where 2 stands for more than one
 abbrev pub one_more : ℕ → ℕ

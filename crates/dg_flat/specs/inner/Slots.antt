@@ -19,6 +19,8 @@ first_of None later = later
 
 -- each System is that of a subsystem, which stands before the blocks in it
 pub record HaveParents (blocks : List NestedBlock) : Type 0 where
-  pub before : (place : ℕ) (block : NestedBlock) → slice_get blocks place ≡ Some block → slot_of block.parent ≤ place
-  pub subsystem : (place system : ℕ) (block holder : NestedBlock) → slice_get blocks place ≡ Some block → block.parent ≡ Some system
+  pub before : (place : ℕ) (block : NestedBlock) → slice_get blocks place ≡ Some block
+      → slot_of block.parent ≤ place
+  pub subsystem : (place system : ℕ) (block holder : NestedBlock)
+      → slice_get blocks place ≡ Some block → block.parent ≡ Some system
       → slice_get blocks system ≡ Some holder → is_subsystem holder.part ≡ true

@@ -12,5 +12,7 @@ use Rattle.dg_flat.specs.inner.Tables.{IsTable}
 pub record AreSystems (blocks : List NestedBlock) (systems : Systems) : Type 0 where
   pub ins : IsNumbering blocks In systems.ins
   pub outs : IsNumbering blocks Out systems.outs
-  pub enables : IsTable (suc (length blocks)) (λ slot. enable_port blocks (system_of slot)) systems.enables.items
-  pub controls : IsTable (suc (length blocks)) (λ slot. control_of blocks (system_of slot)) systems.controls.items
+  pub enables : IsTable (suc (length blocks))
+      (λ slot. enable_port blocks (system_of slot)) systems.enables.items
+  pub controls : IsTable (suc (length blocks))
+      (λ slot. control_of blocks (system_of slot)) systems.controls.items

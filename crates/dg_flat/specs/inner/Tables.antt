@@ -20,14 +20,18 @@ cell_at lengths row number = sum (take row lengths) + (number - 1)
 -- the cell of a number, or none where its row has no such number
 abbrev pub IsCell : List ℕ → ℕ → ℕ → Option ℕ → Type 0
 IsCell lengths row number None = ¬ HasCell lengths row number
-IsCell lengths row number (Some cell) = HasCell lengths row number × (cell ≡ cell_at lengths row number) × (cell < sum lengths)
+IsCell lengths row number (Some cell) =
+    HasCell lengths row number × (cell ≡ cell_at lengths row number) × (cell < sum lengths)
 
 -- the table has the value of each number of each row
-pub record IsRowTable {X : Type 0} (lengths : List ℕ) (value : ℕ → ℕ → X) (table : List X) : Type 0 where
+pub record IsRowTable {X : Type 0} (lengths : List ℕ) (value : ℕ → ℕ → X)
+    (table : List X) : Type 0 where
   pub size : length table ≡ sum lengths
-  pub at : (row number : ℕ) (d : X) → HasCell lengths row number → slice_index_or table (cell_at lengths row number) d ≡ value row number
+  pub at : (row number : ℕ) (d : X) → HasCell lengths row number
+      → slice_index_or table (cell_at lengths row number) d ≡ value row number
 
 -- the rows start where those before them end
 pub record AreRows (rows : Rows) : Type 0 where
-  pub starts : IsTable (length rows.lengths.items) (λ row. sum (take row rows.lengths.items)) rows.starts.items
+  pub starts : IsTable (length rows.lengths.items)
+      (λ row. sum (take row rows.lengths.items)) rows.starts.items
   pub cells : rows.cells ≡ sum rows.lengths.items

@@ -11,7 +11,8 @@ abbrev pub HaveEnds : List NestedBlock → List NestedLine → Type 0
 HaveEnds blocks lines = All (λ line. (line.from < length blocks) × (line.to < length blocks)) lines
 
 -- the tally of the lines
-pub record IsTally (blocks : List NestedBlock) (lines : List NestedLine) (tally : Tally) : Type 0 where
+pub record IsTally (blocks : List NestedBlock) (lines : List NestedLine)
+    (tally : Tally) : Type 0 where
   pub rows : AreRows tally.rows
   pub lengths : IsTable (length blocks) (inputs_at blocks) tally.rows.lengths.items
   pub drivers : IsRowTable tally.rows.lengths.items (port_drivers lines) tally.drivers.items

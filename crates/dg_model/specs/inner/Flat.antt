@@ -9,7 +9,8 @@ next_start total (start ∷ starts) = start
 -- the parts that begin at these places
 abbrev pub parts_of : List ℕ → List ℕ → List (List ℕ)
 parts_of [] items = []
-parts_of (start ∷ starts) items = take (next_start (length items) starts - start) (drop start items) ∷ parts_of starts items
+parts_of (start ∷ starts) items =
+    take (next_start (length items) starts - start) (drop start items) ∷ parts_of starts items
 
 -- none begins behind the next one
 abbrev pub AreStarts : List ℕ → ℕ → Type 0

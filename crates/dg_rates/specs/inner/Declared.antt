@@ -15,11 +15,14 @@ IsAbove block = MatchOption (declared_period block.period) ⊤ (λ decimal. 0 < 
 
 -- the least declared period of these blocks
 abbrev pub least_units : List Block → Option ℕ
-least_units blocks = least (map units_of (filter_map (λ block. declared_period block.period) blocks))
+least_units blocks =
+    least (map units_of (filter_map (λ block. declared_period block.period) blocks))
 
 -- a declared period is a whole multiple of a base period of so many units, at most 4096 times
 abbrev pub KeepsIn : ℕ → Block → Type 0
-KeepsIn base block = MatchOption (declared_period block.period) ⊤ (λ decimal. (times : ℕ) × (times ≤ most_times) × (units_of decimal ≡ times * base))
+KeepsIn base block =
+    MatchOption (declared_period block.period) ⊤
+    (λ decimal. (times : ℕ) × (times ≤ most_times) × (units_of decimal ≡ times * base))
 
 -- the period that a block has before the first round, with a base period of so many units
 abbrev pub first_in : ℕ → Kind → PeriodSpec → Option Period

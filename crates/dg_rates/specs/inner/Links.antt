@@ -12,24 +12,29 @@ pub record AreOwn (count : ℕ) (rows : List (List ℕ)) : Type 0 where
   pub size : length rows ≡ count
   pub own : (block : ℕ) → block < count → row_at rows block ≡ block ∷ []
 
--- so many blocks read blocks that are there, and these know them as their readers; each is a reader of itself
+-- so many blocks read blocks that are there, and these know them as their readers; each is a reader
+-- of itself
 pub record AreTied (count : ℕ) (sources readers : List (List ℕ)) : Type 0 where
   pub sources_size : length sources ≡ count
   pub readers_size : length readers ≡ count
   pub there : (block : ℕ) → All (λ source. source < count) (row_at sources block)
   pub readers_there : (block : ℕ) → All (λ reader. reader < count) (row_at readers block)
   pub own : (block : ℕ) → block < count → is_in block (row_at readers block) ≡ true
-  pub known : (block k source : ℕ) → slice_get (row_at sources block) k ≡ Some source → is_in block (row_at readers source) ≡ true
+  pub known : (block k source : ℕ) → slice_get (row_at sources block) k ≡ Some source
+      → is_in block (row_at readers source) ≡ true
 
 -- the rows have the drivers of these edges, in order
 pub record AreDrivers (count : ℕ) (edges : List Edge) (rows : List (List ℕ)) : Type 0 where
-  pub row : (block : ℕ) → block < count → row_at rows block ≡ map (λ edge. edge.from) (filter (λ edge. edge.to == block) edges)
+  pub row : (block : ℕ) → block < count
+      → row_at rows block ≡ map (λ edge. edge.from) (filter (λ edge. edge.to == block) edges)
 
 -- the rows have the drivers of all blocks, and the controls of those before `done`
 pub record AreControlled (diagram : Diagram) (done : ℕ) (rows : List (List ℕ)) : Type 0 where
   pub row : (place : ℕ) (block : Block) → slice_get diagram.blocks place ≡ Some block
-      → row_at rows place ≡ drivers_of diagram place ++ (if nat_lt place done then control_of block else [])
+      → row_at rows place ≡ drivers_of diagram place
+      ++ (if nat_lt place done then control_of block else [])
 
 -- the rows have the sources of all blocks
 pub record AreSources (diagram : Diagram) (rows : List (List ℕ)) : Type 0 where
-  pub row : (place : ℕ) (block : Block) → slice_get diagram.blocks place ≡ Some block → row_at rows place ≡ sources_of diagram place block
+  pub row : (place : ℕ) (block : Block) → slice_get diagram.blocks place ≡ Some block
+      → row_at rows place ≡ sources_of diagram place block

@@ -31,4 +31,5 @@ taken_by rests sources = by_least (least_finite sources) where
 -- the period of a block after one more round
 abbrev pub next_known : List Bool → List (List ℕ) → Periods → ℕ → Option Period
 next_known rests sources values block =
-    known_or (known_at values block) (taken_by (slice_index_or rests block false) (known_of values (row_at sources block)))
+    known_or (known_at values block)
+    (taken_by (slice_index_or rests block false) (known_of values (row_at sources block)))

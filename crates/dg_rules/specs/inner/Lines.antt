@@ -14,11 +14,14 @@ paths_in lines = lines.by_path.entries
 
 -- the number of this path among them
 abbrev pub number_of : List (Bor (List ℕ) × ℕ) → List ℕ → Option ℕ
-number_of entries path = lookup (is_at (λ (key : Bor (List ℕ)). slice_cmp nat_cmp path key.now)) entries
+number_of entries path =
+    lookup (is_at (λ (key : Bor (List ℕ)). slice_cmp nat_cmp path key.now)) entries
 
 -- each path has the number of the first line that has it
 abbrev pub AreNumbered : List Pipeline → List (Bor (List ℕ) × ℕ) → Type 0
-AreNumbered pipelines entries = (path : List ℕ) → number_of entries path ≡ position (λ (line : Pipeline). bytes_eq path line.path) pipelines
+AreNumbered pipelines entries =
+    (path : List ℕ)
+    → number_of entries path ≡ position (λ (line : Pipeline). bytes_eq path line.path) pipelines
 
 -- these are the paths of the lines
 abbrev pub AreLines : List Pipeline → Lines → Type 0

@@ -12,20 +12,25 @@ use Rattle.dg_rules.specs.declared.standing.Standing.{Standing}
 use Rattle.dg_rules.specs.declared.standing.Standing.TheVariants.{Unseen, Found, Refused}
 
 -- a block stands at this place, before `count`, and has this path
-pub record HasPath (diagram : Diagram) (count : ℕ) (path : List ℕ) (place : ℕ) (block : Block) : Type 0 where
+pub record HasPath (diagram : Diagram) (count : ℕ) (path : List ℕ) (place : ℕ)
+    (block : Block) : Type 0 where
   pub before : place < count
   pub there : slice_get diagram.blocks place ≡ Some block
   pub named : block.path ≡ path
 
--- every block of this path that stands before `count` may have registers behind it, and there is one
-pub record IsFoundBefore (diagram : Diagram) (attributes : Attributes) (count : ℕ) (path : List ℕ) : Type 0 where
+-- every block of this path that stands before `count` may have registers behind it, and there is
+-- one
+pub record IsFoundBefore (diagram : Diagram) (attributes : Attributes) (count : ℕ)
+    (path : List ℕ) : Type 0 where
   pub place : ℕ
   pub block : Block
   pub some : HasPath diagram count path place block
-  pub each : (other : ℕ) (b : Block) → HasPath diagram count path other b → MayBePipelined attributes other b
+  pub each : (other : ℕ) (b : Block) → HasPath diagram count path other b
+      → MayBePipelined attributes other b
 
 -- one may not
-pub record IsRefusedBefore (diagram : Diagram) (attributes : Attributes) (count : ℕ) (path : List ℕ) : Type 0 where
+pub record IsRefusedBefore (diagram : Diagram) (attributes : Attributes) (count : ℕ)
+    (path : List ℕ) : Type 0 where
   pub place : ℕ
   pub block : Block
   pub some : HasPath diagram count path place block
@@ -33,7 +38,8 @@ pub record IsRefusedBefore (diagram : Diagram) (attributes : Attributes) (count 
 
 -- how a path stands with the blocks before `count`
 abbrev pub Stands : Diagram → Attributes → ℕ → List ℕ → Standing → Type 0
-Stands diagram attributes count path Unseen = (place : ℕ) (block : Block) → ¬ HasPath diagram count path place block
+Stands diagram attributes count path Unseen =
+    (place : ℕ) (block : Block) → ¬ HasPath diagram count path place block
 Stands diagram attributes count path Found = IsFoundBefore diagram attributes count path
 Stands diagram attributes count path Refused = IsRefusedBefore diagram attributes count path
 
@@ -45,7 +51,8 @@ next_standing true Refused = Refused
 next_standing false standing = Refused
 
 -- how each line stands with the blocks before `count`
-pub record AreStandings (diagram : Diagram) (attributes : Attributes) (count : ℕ) (lines : List Pipeline) (standings : List Standing) : Type 0 where
+pub record AreStandings (diagram : Diagram) (attributes : Attributes) (count : ℕ)
+    (lines : List Pipeline) (standings : List Standing) : Type 0 where
   pub long : length standings ≡ length lines
   pub each : (number : ℕ) (line : Pipeline) → slice_get lines number ≡ Some line
       → Stands diagram attributes count line.path (slice_index_or standings number Unseen)
@@ -53,7 +60,8 @@ pub record AreStandings (diagram : Diagram) (attributes : Attributes) (count : �
 -- the standings after one more block, whose path the line of this number has
 abbrev pub looked_at : Option ℕ → Bool → List Standing → List Standing
 looked_at None may standings = standings
-looked_at (Some number) may standings = slice_set standings number (next_standing may (slice_index_or standings number Unseen))
+looked_at (Some number) may standings =
+    slice_set standings number (next_standing may (slice_index_or standings number Unseen))
 
 -- the registers that the line of this number sets
 abbrev pub count_in : Option ℕ → List Pipeline → ℕ
@@ -65,9 +73,11 @@ count_in (Some number) lines = count_if (slice_get lines number) where
 
 -- the lines before a number are found
 abbrev pub AllFound : List Standing → ℕ → Type 0
-AllFound standings count = (number : ℕ) → number < count → slice_index_or standings number Unseen ≡ Found
+AllFound standings count =
+    (number : ℕ) → number < count → slice_index_or standings number Unseen ≡ Found
 
 -- all blocks were looked at
 pub record IsWalked (diagram : Diagram) (plan : Plan) (walk : Walk) : Type 0 where
-  pub standings : AreStandings diagram (attributes_of diagram) (length diagram.blocks) plan.pipelines walk.standings.items
+  pub standings : AreStandings diagram (attributes_of diagram)
+      (length diagram.blocks) plan.pipelines walk.standings.items
   pub stages : walk.stages ≡ map (λ block. count_of plan block.path) diagram.blocks

@@ -23,22 +23,31 @@ use Rattle.dg_tables.specs.State.{move_at}
 use Rattle.dg_sim.specs.Sim.{Agrees, Keep, IsRowOf, IsMemory, IsCell}
 
 -- a rule for the entry at a place, which stands at k in the program's list
-pub record IsRule (diagram : Diagram) (attributes : Attributes) (program : Program) (k : ℕ) (place : Place) (rule : Rule) : Type 0 where
+pub record IsRule (diagram : Diagram) (attributes : Attributes) (program : Program) (k : ℕ)
+    (place : Place) (rule : Rule) : Type 0 where
   pub within : IsWithin program rule
-  pub serves : (stimulus : Stimulus) (table : Table) (t : ℕ) (look : ℕ → ℤ) (kept : ℕ → List ℤ) (row : List ℤ) (v : ℤ)
-      → Agrees diagram attributes program.places k look table t → Keep diagram attributes program.memories kept table t
+  pub serves : (stimulus : Stimulus) (table : Table) (t : ℕ) (look : ℕ → ℤ) (kept : ℕ → List ℤ)
+      (row : List ℤ) (v : ℤ)
+      → Agrees diagram attributes program.places k look table t
+      → Keep diagram attributes program.memories kept table t
       → IsRowOf diagram attributes stimulus t row → Hits (attributes.period_at place.block) t
-      → Gives program look kept row t rule v → Equation diagram attributes stimulus table place.block place.port place.element t v
-  pub can : (table : Table) (t : ℕ) (look : ℕ → ℤ) → Agrees diagram attributes program.places k look table t → EntriesAreInRange diagram attributes table (suc t) → CanGive program look rule
+      → Gives program look kept row t rule v
+      → Equation diagram attributes stimulus table place.block place.port place.element t v
+  pub can : (table : Table) (t : ℕ) (look : ℕ → ℤ)
+      → Agrees diagram attributes program.places k look table t
+      → EntriesAreInRange diagram attributes table (suc t) → CanGive program look rule
 
 -- the value of an input port is that of the block
 abbrev pub HandsOn : Diagram → Attributes → Place → ℕ → ℕ → Type 0
 HandsOn diagram attributes place port element = (stimulus : Stimulus) (table : Table) (t : ℕ)
-    → Equation diagram attributes stimulus table place.block place.port place.element t (value_into diagram attributes table place.block port element t)
+    → Equation diagram attributes stimulus table place.block place.port place.element t
+    (value_into diagram attributes table place.block port element t)
 
 -- v is always the value of the block
 abbrev pub IsAlways : Diagram → Attributes → Place → ℤ → Type 0
-IsAlways diagram attributes place v = (stimulus : Stimulus) (table : Table) (t : ℕ) → Equation diagram attributes stimulus table place.block place.port place.element t v
+IsAlways diagram attributes place v =
+    (stimulus : Stimulus) (table : Table) (t : ℕ)
+    → Equation diagram attributes stimulus table place.block place.port place.element t v
 
 -- a program with more parts behind the others
 pub record Grows (old new : Program) : Type 0 where
@@ -50,22 +59,28 @@ pub record Grows (old new : Program) : Type 0 where
   pub signs : (more : List Bool) × (new.signs ≡ old.signs ++ more)
   pub memories : (more : List Memory) × (new.memories ≡ old.memories ++ more)
 
--- these entries, of which each stands before k, are what the input ports of a block offer to an element
+-- these entries, of which each stands before k, are what the input ports of a block offer to an
+-- element
 abbrev pub AreRead : Diagram → Attributes → List Place → ℕ → ℕ → ℕ → List ℕ → Type 0
 AreRead diagram attributes places block element k numbers =
-    (i j : ℕ) → slice_get numbers i ≡ Some j → (j < k) × Reads diagram attributes places block (suc i) element j
+    (i j : ℕ) → slice_get numbers i ≡ Some j → (j < k)
+    × Reads diagram attributes places block (suc i) element j
 
 -- a block that works element by element
 abbrev pub IsElementwise : Diagram → Attributes → Block → Place → Type 0
 IsElementwise diagram attributes b place = (stimulus : Stimulus) (table : Table) (t : ℕ) (v : ℤ)
-    → ElementEquation diagram attributes stimulus table b place.block place.element t v → Equation diagram attributes stimulus table place.block place.port place.element t v
+    → ElementEquation diagram attributes stimulus table b place.block place.element t v
+    → Equation diagram attributes stimulus table place.block place.port place.element t v
 
 -- all memories of a program keep what their blocks ask for
 abbrev pub AreMemories : Diagram → Attributes → Program → Type 0
-AreMemories diagram attributes program = (m : ℕ) (memory : Memory) → slice_get program.memories m ≡ Some memory → (b : Block) × IsMemory diagram attributes program memory b
+AreMemories diagram attributes program =
+    (m : ℕ) (memory : Memory) → slice_get program.memories m ≡ Some memory → (b : Block)
+    × IsMemory diagram attributes program memory b
 
 -- a rule was made, and the program has grown for it
-pub record IsMade (diagram : Diagram) (attributes : Attributes) (old new : Program) (k : ℕ) (place : Place) (rule : Rule) : Type 0 where
+pub record IsMade (diagram : Diagram) (attributes : Attributes) (old new : Program) (k : ℕ)
+    (place : Place) (rule : Rule) : Type 0 where
   pub grows : Grows old new
   pub memories : AreMemories diagram attributes old → AreMemories diagram attributes new
   pub made : IsRule diagram attributes new k place rule
@@ -73,15 +88,22 @@ pub record IsMade (diagram : Diagram) (attributes : Attributes) (old new : Progr
 -- the control of a block's subsystem is on where the subsystem is enabled
 abbrev pub IsControl : Diagram → Attributes → List Place → Option ℕ → Option ℕ → Type 0
 IsControl diagram attributes places enable control =
-    (table : Table) (t : ℕ) (look : ℕ → ℤ) → Agrees diagram attributes places (length places) look table t → is_on look control ≡ is_enabled table enable t
+    (table : Table) (t : ℕ) (look : ℕ → ℤ)
+    → Agrees diagram attributes places (length places) look table t
+    → is_on look control ≡ is_enabled table enable t
 
 -- a memory of this period and control moves as its block asks for
-abbrev pub Moves : Diagram → Attributes → List Place → Place → Block → Option ℕ → Option ℕ → Bool → Type 0
-Moves diagram attributes places place b period control reset = (table : Table) (t : ℕ) (look : ℕ → ℤ) → Agrees diagram attributes places (length places) look table t
-    → move_of (is_hit period t) (is_on look control) reset ≡ move_at diagram attributes table place.block b.enable b.kind t
+abbrev pub Moves : Diagram → Attributes → List Place → Place → Block → Option ℕ → Option ℕ → Bool
+    → Type 0
+Moves diagram attributes places place b period control reset =
+    (table : Table) (t : ℕ) (look : ℕ → ℤ)
+    → Agrees diagram attributes places (length places) look table t
+    → move_of (is_hit period t) (is_on look control) reset
+    ≡ move_at diagram attributes table place.block b.enable b.kind t
 
 -- a memory for a place was put behind the others
-pub record IsRemembered (diagram : Diagram) (attributes : Attributes) (old new : Program) (place : Place) (m : ℕ) : Type 0 where
+pub record IsRemembered (diagram : Diagram) (attributes : Attributes) (old new : Program)
+    (place : Place) (m : ℕ) : Type 0 where
   pub grows : Grows old new
   pub memories : AreMemories diagram attributes old → AreMemories diagram attributes new
   pub memory : Memory
@@ -89,28 +111,37 @@ pub record IsRemembered (diagram : Diagram) (attributes : Attributes) (old new :
   pub place_is : memory.place ≡ place
 
 -- the first k cells of a program are made
-pub record IsFilled (diagram : Diagram) (attributes : Attributes) (program : Program) (k : ℕ) : Type 0 where
+pub record IsFilled (diagram : Diagram) (attributes : Attributes) (program : Program)
+    (k : ℕ) : Type 0 where
   pub entries : AreEntries diagram attributes program.places
   pub memories : AreMemories diagram attributes program
   pub paired : length program.types ≡ length program.args
   pub size : length program.cells ≡ k
-  pub cells : (j : ℕ) (place : Place) (cell : Cell) → slice_get program.places j ≡ Some place → slice_get program.cells j ≡ Some cell → IsCell diagram attributes program j place cell
+  pub cells : (j : ℕ) (place : Place) (cell : Cell) → slice_get program.places j ≡ Some place
+      → slice_get program.cells j ≡ Some cell → IsCell diagram attributes program j place cell
 
--- the first n of these numbers are the places at which a list of places has the entries of root elements
-pub record AreShown (places : List Place) (roots : List Root) (shown : List ℕ) (n : ℕ) : Type 0 where
+-- the first n of these numbers are the places at which a list of places has the entries of root
+-- elements
+pub record AreShown (places : List Place) (roots : List Root) (shown : List ℕ)
+    (n : ℕ) : Type 0 where
   pub size : length shown ≡ n
-  pub each : (i k : ℕ) (root : Root) → slice_get shown i ≡ Some k → slice_get roots i ≡ Some root → slice_get places k ≡ Some (record { block = root.block; port = 1; element = root.element })
+  pub each : (i k : ℕ) (root : Root) → slice_get shown i ≡ Some k → slice_get roots i ≡ Some root
+      → slice_get places k ≡ Some (record { block = root.block; port = 1; element = root.element })
 
 -- the first n memories have their rooms, with nothing kept
 pub record AreRooms (memories : List Memory) (pasts : List PastValues) (n : ℕ) : Type 0 where
   pub size : length pasts ≡ n
-  pub each : (m : ℕ) (memory : Memory) (past : PastValues) → slice_get memories m ≡ Some memory → slice_get pasts m ≡ Some past → past ≡ record { room = memory.room; values = [] }
+  pub each : (m : ℕ) (memory : Memory) (past : PastValues) → slice_get memories m ≡ Some memory
+      → slice_get pasts m ≡ Some past → past ≡ record { room = memory.room; values = [] }
 
 -- the cell stands for the control of the enabled subsystem
 abbrev pub IsControlCell : List Place → Option ℕ → ℕ → Type 0
-IsControlCell places enable cell = (control : ℕ) × (enable ≡ Some control) × (slice_get places cell ≡ Some (record { block = control; port = 1; element = 0 }))
+IsControlCell places enable cell =
+    (control : ℕ) × (enable ≡ Some control)
+    × (slice_get places cell ≡ Some (record { block = control; port = 1; element = 0 }))
 
--- these entries, of which each stands before k, are the elements that input port 1 of a block offers
+-- these entries, of which each stands before k, are the elements that input port 1 of a block
+-- offers
 abbrev pub AreElements : Diagram → Attributes → List Place → ℕ → ℕ → List ℕ → Type 0
 AreElements diagram attributes places block k numbers =
     (i j : ℕ) → slice_get numbers i ≡ Some j → (j < k) × Reads diagram attributes places block 1 i j

@@ -9,12 +9,16 @@ use Rattle.dg_sim.specs.declared.joining.Cursors.{Cursors}
 
 -- the first input ports of a block have so many elements together
 abbrev pub IsInto : Diagram → Attributes → Cursor → Type 0
-IsInto diagram attributes cursor = cursor.before ≡ sum (map (width_into diagram attributes cursor.block) (numbers_from 1 cursor.ports))
+IsInto diagram attributes cursor =
+    cursor.before
+    ≡ sum (map (width_into diagram attributes cursor.block) (numbers_from 1 cursor.ports))
 
 -- its first output ports have
 abbrev pub IsOut : Attributes → Cursor → Type 0
-IsOut attributes cursor = cursor.before ≡ sum (map (attributes.width_at cursor.block) (numbers_from 1 cursor.ports))
+IsOut attributes cursor =
+    cursor.before ≡ sum (map (attributes.width_at cursor.block) (numbers_from 1 cursor.ports))
 
-pub record AreCursors (diagram : Diagram) (attributes : Attributes) (cursors : Cursors) : Type 0 where
+pub record AreCursors (diagram : Diagram) (attributes : Attributes)
+    (cursors : Cursors) : Type 0 where
   pub into : IsInto diagram attributes cursors.into
   pub out : IsOut attributes cursors.out

@@ -15,14 +15,17 @@ use Rattle.dg_sim.specs.declared.turn.Turn.{Turn}
 use Rattle.dg_sim.specs.inner.Building.{IsMade}
 
 -- a rule is to be made for the entry that stands at k
-pub record IsTurn (checked : CheckedDiagram) (starts : Starts) (places : List Place) (k : ℕ) (place : Place) (b : Block) : Type 0 where
+pub record IsTurn (checked : CheckedDiagram) (starts : Starts) (places : List Place) (k : ℕ)
+    (place : Place) (b : Block) : Type 0 where
   pub finds : Finds checked starts places
   pub at : slice_get places k ≡ Some place
-  pub shown : IsShown checked.diagram (attributes_of checked.diagram) place.block b place.port place.element
+  pub shown : IsShown checked.diagram
+      (attributes_of checked.diagram) place.block b place.port place.element
 
 -- a rule is to be made for the entry of a turn
 abbrev pub IsTurnOf : Turn → List Place → Type 0
-IsTurnOf turn places = IsTurn turn.checked.now turn.starts.now places turn.cell turn.place turn.block.now
+IsTurnOf turn places =
+    IsTurn turn.checked.now turn.starts.now places turn.cell turn.place turn.block.now
 
 -- what the turn's block reads is found among the places, before the turn's cell
 pub record CanOffer (turn : Turn) (places : List Place) : Type 0 where
@@ -31,7 +34,9 @@ pub record CanOffer (turn : Turn) (places : List Place) : Type 0 where
 
 -- the rule of a turn was made, and the program has grown for it
 abbrev pub IsMadeFor : Turn → Program → Program → Rule → Type 0
-IsMadeFor turn old new rule = IsMade turn.checked.now.diagram (attributes_of turn.checked.now.diagram) old new turn.cell turn.place rule
+IsMadeFor turn old new rule =
+    IsMade turn.checked.now.diagram
+    (attributes_of turn.checked.now.diagram) old new turn.cell turn.place rule
 
 -- a list parameter has an entry for an element
 abbrev pub HasEntry : List Decimal → ℕ → Type 0

@@ -5,7 +5,8 @@ use Rattle.dg_sort.specs.Rows.{Reads}
 -- so many readings lead from a block back to another
 abbrev pub LeadsBackIn : List (List ℕ) → ℕ → ℕ → ℕ → Type 0
 LeadsBackIn rows zero block source = block ≡ source
-LeadsBackIn rows (suc steps) block source = (next : ℕ) × Reads rows block next × LeadsBackIn rows steps next source
+LeadsBackIn rows (suc steps) block source =
+    (next : ℕ) × Reads rows block next × LeadsBackIn rows steps next source
 
 -- readings lead from a block back to another
 pub record LeadsBack (rows : List (List ℕ)) (block source : ℕ) : Type 0 where

@@ -27,13 +27,16 @@ FindsWidths diagram Inputs = ⊤
 FindsWidths diagram (Outputs starts) = AreLines diagram starts.now.lines.items
 
 -- of the first blocks, each root port stands in a list at its number
-pub record ArePortsTo (number_of : Role → Option ℕ) (blocks : List Block) (count : ℕ) (ports : List ℕ) : Type 0 where
+pub record ArePortsTo (number_of : Role → Option ℕ) (blocks : List Block) (count : ℕ)
+    (ports : List ℕ) : Type 0 where
   pub size : length ports ≡ length (filter_map (number_in number_of) blocks)
-  pub each : (block : ℕ) (b : Block) (number : ℕ) → block < count → slice_get blocks block ≡ Some b → number_in number_of b ≡ Some number → slice_get ports (number - 1) ≡ Some block
+  pub each : (block : ℕ) (b : Block) (number : ℕ) → block < count → slice_get blocks block ≡ Some b
+      → number_in number_of b ≡ Some number → slice_get ports (number - 1) ≡ Some block
 
 -- a number is that of a port
 abbrev pub IsPortNumber : (Role → Option ℕ) → List Block → ℕ → Type 0
-IsPortNumber number_of blocks number = (1 ≤ number) × (number ≤ length (filter_map (number_in number_of) blocks))
+IsPortNumber number_of blocks number =
+    (1 ≤ number) × (number ≤ length (filter_map (number_in number_of) blocks))
 
 -- a number, where there is one, is one of so many ports
 abbrev pub IsNumberOf : ℕ → Option ℕ → Type 0

@@ -21,10 +21,13 @@ delayed block row = delay_length block.kind * slice_index_or row 0 0
 
 -- these of all blocks from a place on, and those of all inputs
 abbrev pub outputs_from : Widths → ℕ → List Block → ℕ
-outputs_from widths place blocks = sum (map (λ (place, block). elements_out widths place block) (enumerate_from place blocks))
+outputs_from widths place blocks =
+    sum (map (λ (place, block). elements_out widths place block) (enumerate_from place blocks))
 
 abbrev pub delays_from : Widths → ℕ → List Block → ℕ
-delays_from widths place blocks = sum (map (λ (place, block). (row_of block.kind).timing.delay * width_at widths place 1) (enumerate_from place blocks))
+delays_from widths place blocks =
+    sum (map (λ (place, block). (row_of block.kind).timing.delay * width_at widths place 1)
+    (enumerate_from place blocks))
 
 abbrev pub inputs_of : Widths → List Edge → ℕ
 inputs_of widths edges = sum (map (λ edge. width_at widths edge.from edge.from_port) edges)

@@ -12,9 +12,13 @@ pub record IsScan (diagram : Diagram) (scan : Scan) : Type 0 where
   pub size : length scan.widths ≡ length diagram.blocks
   pub again_size : length scan.again ≡ length diagram.blocks
   pub inputs_size : length scan.inputs ≡ length diagram.blocks
-  pub again : (place : ℕ) → place < length diagram.blocks → slice_index_or scan.again place [] ≡ next_widths diagram (widths_of diagram) place
-  pub inputs : (place : ℕ) → place < length diagram.blocks → slice_index_or scan.inputs place [] ≡ input_widths diagram (widths_of diagram) place
+  pub again : (place : ℕ) → place < length diagram.blocks
+      → slice_index_or scan.again place [] ≡ next_widths diagram (widths_of diagram) place
+  pub inputs : (place : ℕ) → place < length diagram.blocks
+      → slice_index_or scan.inputs place [] ≡ input_widths diagram (widths_of diagram) place
 
 -- each block before a place keeps the rule
 abbrev pub KeepAllBelow : Diagram → ℕ → Type 0
-KeepAllBelow diagram place = (other : ℕ) (block : Block) → other < place → slice_get diagram.blocks other ≡ Some block → KeepsDimension diagram (widths_of diagram) other block
+KeepAllBelow diagram place =
+    (other : ℕ) (block : Block) → other < place → slice_get diagram.blocks other ≡ Some block
+    → KeepsDimension diagram (widths_of diagram) other block

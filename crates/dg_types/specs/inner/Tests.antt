@@ -23,7 +23,8 @@ has_sizes sizes inputs = (length sizes == 0) || bytes_eq inputs sizes
 
 -- the outputs have these sizes, where one is fixed, and are together as wide as the input
 abbrev pub is_divided : List ℕ → List ℕ → List ℕ → Bool
-is_divided sizes outputs inputs = (are_open sizes || bytes_eq outputs sizes) && (slice_index_or inputs 0 0 == sum outputs)
+is_divided sizes outputs inputs =
+    (are_open sizes || bytes_eq outputs sizes) && (slice_index_or inputs 0 0 == sum outputs)
 
 -- the inputs of a block agree with the widths at its outputs
 abbrev pub agrees : Shape → List ℕ → List ℕ → Bool
@@ -51,8 +52,11 @@ is_within count outputs = (count == 0) || are_small outputs
 -- the parameters of a block agree with its own width, and its inputs with its outputs
 abbrev pub fits : Kind → List ℕ → List ℕ → Bool
 fits kind outputs inputs =
-    agrees (shape_of kind) outputs inputs && (lists_fit (slice_index_or outputs 0 0) (row_of kind).signal.lists && is_declared (declared_width kind) (slice_index_or outputs 0 0))
+    agrees (shape_of kind) outputs inputs
+    && (lists_fit (slice_index_or outputs 0 0) (row_of kind).signal.lists
+    && is_declared (declared_width kind) (slice_index_or outputs 0 0))
 
 -- a block of these widths, after one more round and at its inputs, keeps the rule
 abbrev pub keeps : Block → List ℕ → List ℕ → List ℕ → Bool
-keeps block outputs again inputs = bytes_eq again outputs && (is_within block.outputs outputs && fits block.kind outputs inputs)
+keeps block outputs again inputs =
+    bytes_eq again outputs && (is_within block.outputs outputs && fits block.kind outputs inputs)

@@ -1,4 +1,5 @@
--- When a fraction, rounded to the nearest, is a number of so many bits, by whole numbers alone (own).
+-- When a fraction, rounded to the nearest, is a number of so many bits, by whole numbers alone
+-- (own).
 use Rattle.std.specs.Prelude.{◌≡◌, ℕ, ◌+◌, ◌-◌, ◌*◌, ◌^◌, ◌<◌, nat_le, nat_lt, Bool, true, false, List}
 use Rattle.std.specs.List.{find, list_all, range_with_len}
 use Rattle.std.specs.Option.{option_map}
@@ -27,7 +28,8 @@ bits_of false width = width + 1
 
 -- the decimal, rounded to the nearest so many steps below the greatest frac, is in range
 abbrev pub at_step : Decimal → Bool → ℕ → ℕ → Bool
-at_step decimal signed width steps = is_in_range (Num signed width (frac_down steps)) (rounded_of decimal (frac_down steps))
+at_step decimal signed width steps =
+    is_in_range (Num signed width (frac_down steps)) (rounded_of decimal (frac_down steps))
 
 -- where a decimal is below 0, the word has a sign
 abbrev pub HasSign : Bool → Decimal → Type 0
@@ -37,9 +39,11 @@ HasSign signed decimal = is_negative decimal ≡ true → signed ≡ true
 pub record IsLowered (value : List Decimal) (signed : Bool) (width steps : ℕ) : Type 0 where
   pub few : steps < 193
   pub fits : list_all (λ decimal. at_step decimal signed width steps) value ≡ true
-  pub before : (k : ℕ) → k < steps → list_all (λ decimal. at_step decimal signed width k) value ≡ false
+  pub before : (k : ℕ) → k < steps
+      → list_all (λ decimal. at_step decimal signed width k) value ≡ false
 
--- the greatest frac at which a list fits a word, and the internal rule's type, under names that aren't worked out where they are cited
+-- the greatest frac at which a list fits a word, and the internal rule's type, under names that
+-- aren't worked out where they are cited
 unfoldable pub greatest_fit : List Decimal → Bool → ℕ → Option ℤ
 greatest_fit value signed width = greatest_fit_of value signed width
 
@@ -53,4 +57,7 @@ param_type value spec input = param_type_of value spec input
 
 -- the greatest fit among the first n steps
 abbrev pub greatest_among : ℕ → List Decimal → Bool → ℕ → Option ℤ
-greatest_among n value signed width = option_map frac_down (find (λ steps. list_all (λ decimal. at_step decimal signed width steps) value) (range_with_len 0 n))
+greatest_among n value signed width =
+    option_map frac_down
+    (find (λ steps. list_all (λ decimal. at_step decimal signed width steps) value)
+    (range_with_len 0 n))

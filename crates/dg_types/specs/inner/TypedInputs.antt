@@ -46,13 +46,15 @@ joined front (Some rest) = Some (front ++ rest)
 abbrev pub terms_of : List Bool → Types → Option Terms
 terms_of [] types = Some []
 terms_of (negative ∷ signs) [] = Some []
-terms_of (negative ∷ signs) (type ∷ types) = with_known type (λ known. joined ((negative, known) ∷ []) (terms_of signs types))
+terms_of (negative ∷ signs) (type ∷ types) =
+    with_known type (λ known. joined ((negative, known) ∷ []) (terms_of signs types))
 
 -- ---- what makes a block's type one that can be worked out, as tests
 
 -- the type is valid
 abbrev pub is_valid_type : FxType → Bool
-is_valid_type (Num signed width frac) = is_word width signed && (int_le (negsuc 63) frac && int_le frac (pos 128))
+is_valid_type (Num signed width frac) =
+    is_word width signed && (int_le (negsuc 63) frac && int_le frac (pos 128))
 is_valid_type Logical = true
 
 -- a type that is written out is valid
@@ -65,7 +67,8 @@ is_valid_spec Auto = true
 -- a Sum has 1 to 32 terms, one for each input, and a Gain's coefficients a valid type
 abbrev pub is_full_ready : FullRule → ℕ → Bool
 is_full_ready FullRule.NoFull inputs = true
-is_full_ready (FullRule.FullSum negative) inputs = (length negative == inputs) && (nat_le 1 (length negative) && nat_le (length negative) 32)
+is_full_ready (FullRule.FullSum negative) inputs =
+    (length negative == inputs) && (nat_le 1 (length negative) && nat_le (length negative) 32)
 is_full_ready (FullRule.FullScaled value param) inputs = is_valid_spec param
 is_full_ready FullRule.FullProduct inputs = true
 is_full_ready FullRule.UnionOfTwo inputs = true
@@ -73,18 +76,24 @@ is_full_ready FullRule.UnionOfEnds inputs = true
 
 -- the block's type can be worked out of so many inputs
 abbrev pub is_ready : Block → ℕ → Bool
-is_ready block inputs = is_valid_spec block.result && is_full_ready (row_of block.kind).types.full inputs
+is_ready block inputs =
+    is_valid_spec block.result && is_full_ready (row_of block.kind).types.full inputs
 
 -- each block can be typed from the sources of its inputs
 pub record AreReady (blocks : List Block) (sources : List (List Source)) : Type 0 where
   pub size : length sources ≡ length blocks
-  pub ready : (k : ℕ) (block : Block) → slice_get blocks k ≡ Some block → is_ready block (length (slice_index_or sources k [])) ≡ true
+  pub ready : (k : ℕ) (block : Block) → slice_get blocks k ≡ Some block
+      → is_ready block (length (slice_index_or sources k [])) ≡ true
 
 -- the type of the block at a place after one more round, from its sources
 abbrev pub next_typed : List Block → List (List Source) → Types → ℕ → Option FxType
-next_typed blocks sources values block = known_or (known_at values block) (type_of_next (slice_get blocks block) (source_types values (slice_index_or sources block [])))
+next_typed blocks sources values block =
+    known_or (known_at values block)
+    (type_of_next (slice_get blocks block) (source_types values (slice_index_or sources block [])))
 
 -- full sums and unions of valid types are valid
 pub record FullTypesAreValid : Type 0 where
-  pub sums : (terms : Terms) (type : FxType) → All (λ term. IsType term.1) terms → full_sum_of terms ≡ Some type → is_valid_type type ≡ true
-  pub unions : (left right type : FxType) → IsType left → IsType right → union_of left right ≡ Some type → is_valid_type type ≡ true
+  pub sums : (terms : Terms) (type : FxType) → All (λ term. IsType term.1) terms
+      → full_sum_of terms ≡ Some type → is_valid_type type ≡ true
+  pub unions : (left right type : FxType) → IsType left → IsType right
+      → union_of left right ≡ Some type → is_valid_type type ≡ true

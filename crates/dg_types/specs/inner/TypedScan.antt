@@ -12,7 +12,8 @@ use Rattle.dg_types.specs.inner.Shown.{Mirrors}
 use Rattle.dg_types.specs.inner.TypedInputs.{IsKnownValid}
 
 -- these are the blocks, the sources of their inputs and the types of a diagram
-pub record IsTyped (diagram : Diagram) (blocks : List Block) (forms : List Form) (sources : List (List Source)) (types : Types) : Type 0 where
+pub record IsTyped (diagram : Diagram) (blocks : List Block) (forms : List Form)
+    (sources : List (List Source)) (types : Types) : Type 0 where
   pub blocks_are : blocks ≡ diagram.blocks
   pub size : length sources ≡ length diagram.blocks
   pub mirrors : Mirrors diagram forms sources
@@ -37,4 +38,6 @@ word_of Agree = codes "differs"
 
 -- each block before a place keeps a part of the rule
 abbrev pub KeepBelow : Part → Diagram → ℕ → Type 0
-KeepBelow part diagram place = (other : ℕ) (block : Block) → other < place → slice_get diagram.blocks other ≡ Some block → KeepsPart part diagram other block
+KeepBelow part diagram place =
+    (other : ℕ) (block : Block) → other < place → slice_get diagram.blocks other ≡ Some block
+    → KeepsPart part diagram other block

@@ -12,7 +12,9 @@ use Rattle.dg_types.specs.inner.TypedScan.{IsTyped}
 
 -- these are the blocks that they see, and the types after them
 abbrev pub AreTyped : Typed → Type 0
-AreTyped typed = IsTyped typed.diagram.now typed.round.now.blocks.now (all_forms typed.round.now.links.blocks.now) typed.round.now.links.sources typed.types.now
+AreTyped typed =
+    IsTyped typed.diagram.now typed.round.now.blocks.now
+    (all_forms typed.round.now.links.blocks.now) typed.round.now.links.sources typed.types.now
 
 -- these are the types of a diagram that keeps the rule, and those of its coefficients
 pub record AreFound (diagram : Diagram) (types : BlockTypes) : Type 0 where

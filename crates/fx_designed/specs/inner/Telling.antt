@@ -21,7 +21,8 @@ use Rattle.hw_rules.specs.Times.{ArePlanned}
 -- the fault of a model is told: a broken rule by its line, but for want of memory
 abbrev pub IsTold : ModelFault → ModelRefusal → Type 0
 IsTold (model.NotMdl line) told = told ≡ NotMdl line
-IsTold (model.Broken fault blocks) told = (told ≡ OutOfMemory) ⊎ (told ≡ BreaksRule (rule_line (map (λ block. block.path) blocks) fault))
+IsTold (model.Broken fault blocks) told =
+    (told ≡ OutOfMemory) ⊎ (told ≡ BreaksRule (rule_line (map (λ block. block.path) blocks) fault))
 IsTold model.OutOfMemory told = told ≡ OutOfMemory
 
 -- what a fault says of a plan's text
@@ -33,7 +34,9 @@ IsRefusedText text design.OutOfMemory = ⊤
 
 -- the fault of a rule is told by its line, but for want of memory
 abbrev pub IsRefusedBy : Diagram → RuleFault → DesignFault → Type 0
-IsRefusedBy diagram fault told = (told ≡ design.OutOfMemory) ⊎ (told ≡ design.BreaksRule (rule_line (map (λ block. block.path) diagram.blocks) fault))
+IsRefusedBy diagram fault told =
+    (told ≡ design.OutOfMemory)
+    ⊎ (told ≡ design.BreaksRule (rule_line (map (λ block. block.path) diagram.blocks) fault))
 
 -- what a fault says of a plan on a diagram
 abbrev pub IsRefusedPlan : Diagram → Plan → DesignFault → Type 0

@@ -19,7 +19,11 @@ is_port_at None = false
 is_port_at (Some block) = is_root_port block
 
 abbrev pub is_slow : Diagram → ℕ → Bool
-is_slow diagram place = is_port_at (slice_get diagram.blocks place) && not (is_base ((attributes_of diagram).period_at place))
+is_slow diagram place =
+    is_port_at (slice_get diagram.blocks place)
+    && not (is_base ((attributes_of diagram).period_at place))
 
 abbrev pub slow_fault : Diagram → ℕ → RuleFault
-slow_fault diagram place = fault_of Rule.Stream (path_of diagram place) (Periods (unwrap_or ((attributes_of diagram).period_at place) 0) 1)
+slow_fault diagram place =
+    fault_of Rule.Stream (path_of diagram place)
+    (Periods (unwrap_or ((attributes_of diagram).period_at place) 0) 1)

@@ -9,12 +9,14 @@ use Rattle.dg_rules.specs.Laws.{FaultIsOne, ToldIsOne, CheckedIsNotBroken}
 
 -- a text stands for at most one tree
 abbrev pub TreeIsOne : Type 0
-TreeIsOne = (bytes : List ℕ) (one other : Tree) → Stands bytes one → Stands bytes other → one ≡ other
+TreeIsOne =
+    (bytes : List ℕ) (one other : Tree) → Stands bytes one → Stands bytes other → one ≡ other
 
 -- the laws of the lower crates
 pub record EachIsOne : Type 0 where
   pub tree : TreeIsOne
-  pub line : (bytes : List ℕ) (one other : ℕ) → IsMdlFaultLine bytes one → IsMdlFaultLine bytes other → one ≡ other
+  pub line : (bytes : List ℕ) (one other : ℕ) → IsMdlFaultLine bytes one
+      → IsMdlFaultLine bytes other → one ≡ other
   pub nested : NestedIsOne
   pub text : TextIsOne
   pub text_kept : NestedIsNotBroken

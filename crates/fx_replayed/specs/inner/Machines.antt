@@ -33,15 +33,18 @@ pub record CanRespond (machine : Machine) (rows : Rows) (outputs : List Column) 
   pub few_columns : length outputs < 2 ^ 32
 
 -- its response to them
-pub record IsResponseOf (machine : Machine) (rows : Rows) (outputs : List Column) (made : Response) : Type 0 where
+pub record IsResponseOf (machine : Machine) (rows : Rows) (outputs : List Column)
+    (made : Response) : Type 0 where
   pub samples : made.samples ≡ rows.lines
   pub text : periods_of made.text ≡ map (λ column. column.period) outputs
   pub stands : StandsBefore made.replay 0
   pub source : module_of made.replay ≡ source_of machine
   pub stimulus : stimulus_of made.replay ≡ rows
 
--- a replay and the writer of its lines stand before a sample, and are of the module, the stimulus and the periods of the first
-pub record GoesOn (first : Replay) (writer : RowText) (sample : ℕ) (replay : Replay) (text : RowText) : Type 0 where
+-- a replay and the writer of its lines stand before a sample, and are of the module, the stimulus
+-- and the periods of the first
+pub record GoesOn (first : Replay) (writer : RowText) (sample : ℕ) (replay : Replay)
+    (text : RowText) : Type 0 where
   pub stands : StandsBefore replay sample
   pub source : module_of replay ≡ module_of first
   pub stimulus : stimulus_of replay ≡ stimulus_of first

@@ -42,7 +42,8 @@ abbrev pub one_or_two : List ℕ → Option ℕ
 one_or_two [] = None
 one_or_two (a ∷ []) = if is_ascii_digit a then Some (a - code "0") else None
 one_or_two (a ∷ b ∷ []) =
-    if is_ascii_digit a && is_ascii_digit b then Some ((a - code "0") * 10 + (b - code "0")) else None
+    if is_ascii_digit a && is_ascii_digit b then Some ((a - code "0") * 10 + (b - code "0"))
+    else None
 one_or_two (a ∷ b ∷ c ∷ cs) = None
 
 -- the number with its sign, where there is one
@@ -54,7 +55,8 @@ signed_some negative (Some n) = Some (signed negative n)
 abbrev pub exponent_of : List ℕ → Option ℤ
 exponent_of [] = Some (pos 0)
 exponent_of (c ∷ cs) =
-    if (c == code "e") || (c == code "E") then signed_some (is_minus cs) (one_or_two (after_sign cs)) else None
+    if (c == code "e") || (c == code "E")
+    then signed_some (is_minus cs) (one_or_two (after_sign cs)) else None
 
 -- the digits before the point
 abbrev pub whole_digits : List ℕ → List ℕ

@@ -21,7 +21,8 @@ pub record IsSplit (n : ℤ) (d : ℕ) (floor : ℤ) (part : Part) : Type 0 wher
   pub below : rest < d
   pub is_part : IsPart d rest part
 
--- whether the mode takes the upper of the two whole numbers, by the sign of the number and whether the lower one is odd
+-- whether the mode takes the upper of the two whole numbers, by the sign of the number and whether
+-- the lower one is odd
 abbrev pub takes_upper : Rounding → Part → Bool → Bool → Bool
 takes_upper mode Whole negative odd = false
 takes_upper Floor BelowHalf negative odd = false

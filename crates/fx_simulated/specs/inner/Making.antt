@@ -14,7 +14,8 @@ use Rattle.fx_tables.specs.Stimulus.{FitsColumns, most_cells}
 
 -- these are the columns of a diagram
 unfoldable pub HasColumns : Diagram → RootColumns → Type 0
-HasColumns diagram columns = (columns.inputs ≡ input_columns diagram) × (columns.outputs ≡ output_columns diagram)
+HasColumns diagram columns =
+    (columns.inputs ≡ input_columns diagram) × (columns.outputs ≡ output_columns diagram)
 
 -- and these the rows of a stimulus by them
 pub record HaveRows (diagram : Diagram) (own : RootColumns) (rows : Rows) : Type 0 where
@@ -24,7 +25,8 @@ pub record HaveRows (diagram : Diagram) (own : RootColumns) (rows : Rows) : Type
   pub few : rows.lines ≤ most_cells
 
 -- a response to these rows and the writer of its lines are ready
-pub record IsReadyFor (checked : CheckedDiagram) (columns : RootColumns) (rows : Rows) (ready : Simulation) : Type 0 where
+pub record IsReadyFor (checked : CheckedDiagram) (columns : RootColumns) (rows : Rows)
+    (ready : Simulation) : Type 0 where
   pub rows_are : ready.rows ≡ rows
   pub response : SomeResponse checked.diagram ready.rows
   pub before : IsBefore checked ready.rows ready.responding 0

@@ -23,14 +23,18 @@ pub record IsUnfit (files : Files) (file : List ℕ) (answer : Answer) : Type 0 
   pub same : named.now ≡ file
   pub rise : files.met_overlong
   pub overlong : IsOverlong (files.held file) file_limit reported
-  pub held : files.steady → (bytes : List ℕ) × ((files.held file ≡ Some (Some bytes)) × (length bytes ≡ reported))
+  pub held : files.steady → (bytes : List ℕ)
+      × ((files.held file ≡ Some (Some bytes)) × (length bytes ≡ reported))
 
 abbrev pub IsFetchAnswer : Files → List ℕ → Answer → Type 0
 IsFetchAnswer files file answer =
     (answer ≡ OutOfMemory) ⊎ (IsUnread files file answer ⊎ IsUnfit files file answer)
 
--- of two files: the first was not to be had, or it was and this is the answer of the second, which the empty plan has none of
+-- of two files: the first was not to be had, or it was and this is the answer of the second, which
+-- the empty plan has none of
 abbrev pub IsPairAnswer : Files → List ℕ → PlanWord → Answer → Type 0
 IsPairAnswer files first EmptyPlan answer = IsFetchAnswer files first answer
 IsPairAnswer files first (Named second) answer =
-    IsFetchAnswer files first answer ⊎ ((bytes : List ℕ) × (Fetched (files.held first) file_limit bytes × IsFetchAnswer files second answer))
+    IsFetchAnswer files first answer
+    ⊎ ((bytes : List ℕ)
+    × (Fetched (files.held first) file_limit bytes × IsFetchAnswer files second answer))

@@ -29,11 +29,16 @@ IsModelFault model = OfModel model (TellsRule model) (λ line cause. ⊥)
 
 -- of a model and a plan
 abbrev pub IsDesignFault : List ℕ → List ℕ → Fault → Type 0
-IsDesignFault model plan = OfModel model (λ line. TellsRule model line ⊎ TellsPlanRule model plan line) (IsBadPlan model plan)
+IsDesignFault model plan =
+    OfModel model (λ line. TellsRule model line ⊎ TellsPlanRule model plan line)
+    (IsBadPlan model plan)
 
 -- of those, with valid and ready
 abbrev pub IsStreamFault : List ℕ → List ℕ → Fault → Type 0
-IsStreamFault model plan = OfModel model (λ line. TellsRule model line ⊎ (TellsPlanRule model plan line ⊎ TellsStreamRule model plan line)) (IsBadPlan model plan)
+IsStreamFault model plan =
+    OfModel model
+    (λ line. TellsRule model line
+    ⊎ (TellsPlanRule model plan line ⊎ TellsStreamRule model plan line)) (IsBadPlan model plan)
 
 -- of a model and a stimulus
 abbrev pub IsSimulationFault : List ℕ → List ℕ → Fault → Type 0
@@ -45,7 +50,8 @@ IsReplayFault verilog stimulus (fault.NotMdl line) = ⊥
 IsReplayFault verilog stimulus (fault.BreaksRule line) = ⊥
 IsReplayFault verilog stimulus (fault.NotVerilog line) = IsNotVerilog verilog line
 IsReplayFault verilog stimulus (fault.Broken condition) = IsBroken verilog condition
-IsReplayFault verilog stimulus (fault.BadTable line cause) = IsBadStimulus verilog stimulus line cause
+IsReplayFault verilog stimulus (fault.BadTable line cause) =
+    IsBadStimulus verilog stimulus line cause
 IsReplayFault verilog stimulus fault.OutOfMemory = ⊤
 
 -- the answer over files of these names

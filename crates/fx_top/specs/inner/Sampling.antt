@@ -17,7 +17,8 @@ abbrev pub AreOutputs : Diagram → List ℕ → Type 0
 AreOutputs diagram blocks = AreBlocksOf (root_outputs diagram (attributes_of diagram)) blocks
 
 -- the multiplications that are owed, and the latencies of the two outputs
-pub record IsOwed (diagram : Diagram) (plan : Resolved) (timing : Timing) (made : Made) : Type 0 where
+pub record IsOwed (diagram : Diagram) (plan : Resolved) (timing : Timing)
+    (made : Made) : Type 0 where
   pub multiplications_are : made.multiplications ≡ owed diagram (attributes_of diagram) plan timing
   pub out_is : made.out_latency ≡ latency_of_output diagram plan timing 0
   pub slow_is : made.slow_latency ≡ latency_of_output diagram plan timing 1

@@ -1,4 +1,5 @@
--- What a task makes of two texts, which command it is by the words for their files, and how it ends.
+-- What a task makes of two texts, which command it is by the words for their files, and how it
+-- ends.
 use Rattle.std.specs.Prelude.{◌≡◌, ⊤, ℕ, List, Option, None, Some, Result, Ok, Err}
 use Rattle.std.specs.Borrow.{Bor}
 use Rattle.fx_io.specs.declared.sink.PutFault.{PutFault}
@@ -69,10 +70,13 @@ IsFaultOf task.Stream first second = IsStreamFault first second
 
 -- a made text was put, or a part of it
 abbrev pub IsPut : (List ℕ → Type 0) → Stream → Result ⊤ PutFault → Type 0
-IsPut Made stream (Ok whole) = (text : List ℕ) × (Made text × (stream.now ≡ also_took stream.before text))
-IsPut Made stream (Err part) = (text : List ℕ) × (Made text × (TookProperPrefix stream.before stream.now text × stream.failed))
+IsPut Made stream (Ok whole) =
+    (text : List ℕ) × (Made text × (stream.now ≡ also_took stream.before text))
+IsPut Made stream (Err part) =
+    (text : List ℕ) × (Made text × (TookProperPrefix stream.before stream.now text × stream.failed))
 
 -- or there is none, and nothing was put
-abbrev pub IsDone : (List ℕ → Type 0) → (Fault → Type 0) → Stream → Result (Result ⊤ PutFault) Fault → Type 0
+abbrev pub IsDone : (List ℕ → Type 0) → (Fault → Type 0) → Stream → Result (Result ⊤ PutFault) Fault
+    → Type 0
 IsDone Made IsFault stream (Ok put) = IsPut Made stream put
 IsDone Made IsFault stream (Err why) = IsFault why × IsUntouched stream

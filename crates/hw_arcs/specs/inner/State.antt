@@ -9,7 +9,8 @@ use Rattle.hw_arcs.specs.Found.{IsIn, AreKnown, most_joined_blocks}
 use Rattle.hw_arcs.specs.declared.relaxing.Step.{Step}
 use Rattle.hw_arcs.specs.declared.relaxing.Step.TheVariants.{Done, Settled, Above}
 
--- latencies so far, the arc that gave each, the blocks whose arcs are to be looked at, and these in a queue
+-- latencies so far, the arc that gave each, the blocks whose arcs are to be looked at, and these in
+-- a queue
 pub record State : Type 0 where
   pub lat : List ℕ
   pub tight : List (Option ℕ)
@@ -17,7 +18,13 @@ pub record State : Type 0 where
   pub queue : List ℕ
 
 abbrev pub seen : Relaxing → State
-seen state = record { lat = state.lat.items; tight = state.tight.items; pending = state.pending.items; queue = state.queue.items }
+seen state =
+    record {
+      lat = state.lat.items;
+      tight = state.tight.items;
+      pending = state.pending.items;
+      queue = state.queue.items;
+    }
 
 -- what an arc asks of the latency of its end
 abbrev pub label_of : List ℕ → Arc → ℕ
@@ -38,27 +45,34 @@ taken s arc number = record {
 
 -- the same where it asks for more than the end has
 abbrev pub relaxed : State → Arc → ℕ → State
-relaxed s arc number = if nat_lt (latency_at s.lat arc.to) (label_of s.lat arc) then taken s arc number else s
+relaxed s arc number =
+    if nat_lt (latency_at s.lat arc.to) (label_of s.lat arc) then taken s arc number else s
 
--- an arc gave a block its latency: since then its source has at most come later, and where it was given one after the block, it has
-pub record IsPulled (arcs : List Arc) (lat : List ℕ) (time : ℕ → ℕ) (block number : ℕ) : Type 0 where
+-- an arc gave a block its latency: since then its source has at most come later, and where it was
+-- given one after the block, it has
+pub record IsPulled (arcs : List Arc) (lat : List ℕ) (time : ℕ → ℕ)
+    (block number : ℕ) : Type 0 where
   pub arc : Arc
   pub at : slice_get arcs number ≡ Some arc
   pub counts : arc.counts ≡ true
   pub ends : arc.to ≡ block
   pub weak : latency_at lat block + arc.slack ≤ latency_at lat arc.from + arc.gain
-  pub strict : time block ≤ time arc.from → latency_at lat block + arc.slack < latency_at lat arc.from + arc.gain
+  pub strict : time block ≤ time arc.from
+      → latency_at lat block + arc.slack < latency_at lat arc.from + arc.gain
   pub above : 0 < latency_at lat block
 
--- each latency was given by an arc, and is no more than any list has that keeps the arcs; `time` says in which order they were given
+-- each latency was given by an arc, and is no more than any list has that keeps the arcs; `time`
+-- says in which order they were given
 pub record AreLabels (arcs : List Arc) (lat : List ℕ) (tight : List (Option ℕ)) : Type 0 where
   pub size : length tight ≡ length lat
   pub time : ℕ → ℕ
   pub now : ℕ
   pub past : (block : ℕ) → time block < now
   pub none : (block : ℕ) → slice_get tight block ≡ Some None → latency_at lat block ≡ 0
-  pub some : (block number : ℕ) → slice_get tight block ≡ Some (Some number) → IsPulled arcs lat time block number
-  pub least : (other : List ℕ) → IsFeasible arcs other → (block : ℕ) → latency_at lat block ≤ latency_at other block
+  pub some : (block number : ℕ) → slice_get tight block ≡ Some (Some number)
+      → IsPulled arcs lat time block number
+  pub least : (other : List ℕ) → IsFeasible arcs other → (block : ℕ)
+      → latency_at lat block ≤ latency_at other block
 
 -- between two steps
 pub record IsState (arcs : List Arc) (count : ℕ) (s : State) : Type 0 where
@@ -68,10 +82,12 @@ pub record IsState (arcs : List Arc) (count : ℕ) (s : State) : Type 0 where
   pub queued : (block : ℕ) → is_pending s.pending block ≡ true → IsIn s.queue block
   pub inside : (place block : ℕ) → slice_get s.queue place ≡ Some block → block < count
 
--- every arc that counts is kept, is to be looked at with its source, or stands in a list of those that are left
+-- every arc that counts is kept, is to be looked at with its source, or stands in a list of those
+-- that are left
 pub record AreSettled (arcs : List Arc) (s : State) (left : List ℕ) : Type 0 where
   pub settled : (number : ℕ) (arc : Arc) → slice_get arcs number ≡ Some arc → arc.counts ≡ true
-      → (latency_at s.lat arc.from + arc.gain ≤ latency_at s.lat arc.to + arc.slack) ⊎ ((is_pending s.pending arc.from ≡ true) ⊎ IsIn left number)
+      → (latency_at s.lat arc.from + arc.gain ≤ latency_at s.lat arc.to + arc.slack)
+      ⊎ ((is_pending s.pending arc.from ≡ true) ⊎ IsIn left number)
 
 -- no latency is above a limit
 pub record AreWithin (limit : ℕ) (s : State) : Type 0 where
@@ -83,13 +99,15 @@ work_of limit s = sum_by (λ label. limit - label) s.lat + length s.queue
 
 -- numbers of arcs that count
 pub record AreCounted (arcs : List Arc) (row : List ℕ) : Type 0 where
-  pub counted : (place number : ℕ) → slice_get row place ≡ Some number → (arc : Arc) × (slice_get arcs number ≡ Some arc) × (arc.counts ≡ true)
+  pub counted : (place number : ℕ) → slice_get row place ≡ Some number → (arc : Arc)
+      × (slice_get arcs number ≡ Some arc) × (arc.counts ≡ true)
 
 -- by block, the arcs that lead from it and count
 pub record AreRows (arcs : List Arc) (count : ℕ) (rows : List (List ℕ)) : Type 0 where
   pub size : length rows ≡ count
   pub counted : (block : ℕ) → AreCounted arcs (row_at rows block)
-  pub whole : (number : ℕ) (arc : Arc) → slice_get arcs number ≡ Some arc → arc.counts ≡ true → IsIn (row_at rows arc.from) number
+  pub whole : (number : ℕ) (arc : Arc) → slice_get arcs number ≡ Some arc → arc.counts ≡ true
+      → IsIn (row_at rows arc.from) number
 
 -- no limit is passed, and the row is settled; or a block's latency passes it
 pub record IsSettledRow (arcs : List Arc) (limit : ℕ) (s after : State) : Type 0 where
@@ -108,11 +126,23 @@ IsRowEnd arcs limit count s after (Some block) = IsAbove limit after block count
 -- ---- begun, and a step
 
 abbrev pub begun : List ℕ → ℕ → State
-begun order count = record { lat = replicate count 0; tight = replicate count None; pending = replicate count true; queue = order }
+begun order count =
+    record {
+      lat = replicate count 0;
+      tight = replicate count None;
+      pending = replicate count true;
+      queue = order;
+    }
 
 -- the first block of the queue is taken from it
 abbrev pub popped : State → ℕ → State
-popped s block = record { lat = s.lat; tight = s.tight; pending = slice_set s.pending block false; queue = drop 1 s.queue }
+popped s block =
+    record {
+      lat = s.lat;
+      tight = s.tight;
+      pending = slice_set s.pending block false;
+      queue = drop 1 s.queue;
+    }
 
 -- a step: nothing is left to do, or less
 pub record IsStepOn (arcs : List Arc) (count limit : ℕ) (s after : State) (block : ℕ) : Type 0 where
@@ -146,4 +176,5 @@ pub record CanGoBack (arcs : List Arc) (s : State) (block : ℕ) : Type 0 where
 pub record AreRowsOf (arcs : List Arc) (count done : ℕ) (rows : List (List ℕ)) : Type 0 where
   pub size : length rows ≡ count
   pub counted : (block : ℕ) → AreCounted arcs (row_at rows block)
-  pub whole : (number : ℕ) (arc : Arc) → number < done → slice_get arcs number ≡ Some arc → arc.counts ≡ true → IsIn (row_at rows arc.from) number
+  pub whole : (number : ℕ) (arc : Arc) → number < done → slice_get arcs number ≡ Some arc
+      → arc.counts ≡ true → IsIn (row_at rows arc.from) number

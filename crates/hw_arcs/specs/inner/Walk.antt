@@ -14,10 +14,13 @@ pub record IsStepBack (arcs : List Arc) (tight : List (Option ℕ)) (block next 
 -- from the first block back through all of the list to another
 abbrev pub IsChain : List Arc → List (Option ℕ) → ℕ → List ℕ → ℕ → Type 0
 IsChain arcs tight first [] end = first ≡ end
-IsChain arcs tight first (block ∷ blocks) end = (next : ℕ) × (first ≡ block) × IsStepBack arcs tight block next × IsChain arcs tight next blocks end
+IsChain arcs tight first (block ∷ blocks) end =
+    (next : ℕ) × (first ≡ block) × IsStepBack arcs tight block next
+    × IsChain arcs tight next blocks end
 
 -- a way back through different blocks, which ends before another
-pub record IsWay (arcs : List Arc) (tight : List (Option ℕ)) (first : ℕ) (path : List ℕ) (end count : ℕ) : Type 0 where
+pub record IsWay (arcs : List Arc) (tight : List (Option ℕ)) (first : ℕ) (path : List ℕ)
+    (end count : ℕ) : Type 0 where
   pub chain : IsChain arcs tight first path end
   pub once : (block : ℕ) → count_by (λ other. other == block) path ≤ 1
   pub short : length path ≤ count
@@ -25,13 +28,15 @@ pub record IsWay (arcs : List Arc) (tight : List (Option ℕ)) (first : ℕ) (pa
   pub inside : end < count
 
 -- it comes back to the block at a place of itself
-pub record IsClosed (arcs : List Arc) (tight : List (Option ℕ)) (first : ℕ) (path : List ℕ) (count place : ℕ) : Type 0 where
+pub record IsClosed (arcs : List Arc) (tight : List (Option ℕ)) (first : ℕ) (path : List ℕ)
+    (count place : ℕ) : Type 0 where
   pub end : ℕ
   pub way : IsWay arcs tight first path end count
   pub back : slice_get path place ≡ Some end
 
 -- or no arc gave the block that it comes to its latency
-pub record IsEnded (arcs : List Arc) (tight : List (Option ℕ)) (first : ℕ) (path : List ℕ) (count : ℕ) : Type 0 where
+pub record IsEnded (arcs : List Arc) (tight : List (Option ℕ)) (first : ℕ) (path : List ℕ)
+    (count : ℕ) : Type 0 where
   pub end : ℕ
   pub way : IsWay arcs tight first path end count
   pub free : slice_get tight end ≡ Some None
@@ -73,7 +78,8 @@ slacks_of arcs tight ring = sum_by (slack_into arcs tight) ring
 
 -- the blocks of a list in the other direction, from the one at a place on
 abbrev pub back_from : List ℕ → ℕ → List ℕ
-back_from ring place = slice_index ring place ∷ (reverse (take place ring) ++ reverse (drop (place + 1) ring))
+back_from ring place =
+    slice_index ring place ∷ (reverse (take place ring) ++ reverse (drop (place + 1) ring))
 
 -- the same from its least block on
 pub record IsTurnedBack (ring cycle : List ℕ) : Type 0 where
@@ -83,7 +89,8 @@ pub record IsTurnedBack (ring cycle : List ℕ) : Type 0 where
   pub least : All (λ block. slice_index ring place ≤ block) ring
 
 -- a way back that comes to where it began, through blocks that are there, and gains
-pub record IsRing (arcs : List Arc) (tight : List (Option ℕ)) (ring : List ℕ) (count : ℕ) : Type 0 where
+pub record IsRing (arcs : List Arc) (tight : List (Option ℕ)) (ring : List ℕ)
+    (count : ℕ) : Type 0 where
   pub first : ℕ
   pub chain : IsChain arcs tight first ring first
   pub some : 0 < length ring

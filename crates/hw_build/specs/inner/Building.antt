@@ -23,13 +23,16 @@ abbrev pub IsEmptyFor : Design → Circuit → Type 0
 IsEmptyFor design netlist = netlist ≡ empty_circuit design.plan.now.cycles
 
 abbrev pub AreInputBlocks : Design → List ℕ → Type 0
-AreInputBlocks design blocks = AreBlocksOf (root_inputs design.checked.now.diagram (attributes_of design.checked.now.diagram)) blocks
+AreInputBlocks design blocks =
+    AreBlocksOf
+    (root_inputs design.checked.now.diagram (attributes_of design.checked.now.diagram)) blocks
 
 -- all nets stand, those that readers name from these on
 pub record IsFilledFor (design : Design) (netlist : Circuit) (firsts : List (List ℕ)) : Type 0 where
   pub places : Places
   pub place_of : ℕ → ℕ
-  pub filled : IsFilled design.checked.now.diagram design.plan.now (times_for design) firsts places place_of netlist
+  pub filled : IsFilled design.checked.now.diagram design.plan.now
+      (times_for design) firsts places place_of netlist
   pub inputs : AreInputFirsts design.checked.now.diagram firsts
   pub outputs : AreOutputFirsts design.checked.now.diagram firsts
 
@@ -42,7 +45,9 @@ pub record CanBuild (design : Design) : Type 0 where
 -- the netlist is done
 pub record IsDoneFor (design : Design) (netlist : Circuit) : Type 0 where
   pub places : Places
-  pub done : IsDone design.checked.now.diagram design.plan.now (times_for design) places (hubs_in_all design.checked.now.diagram) netlist
+  pub done : IsDone design.checked.now.diagram design.plan.now (times_for design) places
+      (hubs_in_all design.checked.now.diagram) netlist
 
 abbrev pub IsBuiltFor : Design → Circuit → Type 0
-IsBuiltFor design netlist = IsBuilt design.checked.now.diagram design.plan.now (times_for design) netlist
+IsBuiltFor design netlist =
+    IsBuilt design.checked.now.diagram design.plan.now (times_for design) netlist

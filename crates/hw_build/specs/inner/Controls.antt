@@ -35,14 +35,19 @@ pub record PutsControl (before after : Circuit) (operands : List ℕ) (number : 
   pub grows : Grows before after operands IsGate 0
   pub word : HasWord after.nets number 1 false
   pub new : length before.nets ≤ number
-  pub tells : (closed hubs : ℕ) → hubs ≤ length before.nets → InLater closed hubs after (λ n rows. Tells n (any_above operands rows) (rows number))
+  pub tells : (closed hubs : ℕ) → hubs ≤ length before.nets
+      → InLater closed hubs after (λ n rows. Tells n (any_above operands rows) (rows number))
 
 -- one was put in that tells it of the first, and a 0 beside it
-pub record PutsAny (before after : Circuit) (operands : List ℕ) (count zero_at some : ℕ) : Type 0 where
+pub record PutsAny (before after : Circuit) (operands : List ℕ)
+    (count zero_at some : ℕ) : Type 0 where
   pub grows : Grows before after operands IsGate 0
   pub word : HasWord after.nets some 1 false
   pub new : length before.nets ≤ some
   pub zero_new : length before.nets ≤ zero_at
   pub zero_inside : zero_at < length after.nets
-  pub zeros : (closed hubs : ℕ) → hubs ≤ length before.nets → InLater closed hubs after (λ n rows. AreSame n (rows zero_at) (steady (pos 0)))
-  pub tells : (closed hubs : ℕ) → hubs ≤ length before.nets → InLater closed hubs after (λ n rows. Tells n (any_above (take count operands) rows) (rows some))
+  pub zeros : (closed hubs : ℕ) → hubs ≤ length before.nets
+      → InLater closed hubs after (λ n rows. AreSame n (rows zero_at) (steady (pos 0)))
+  pub tells : (closed hubs : ℕ) → hubs ≤ length before.nets
+      → InLater closed hubs after
+      (λ n rows. Tells n (any_above (take count operands) rows) (rows some))

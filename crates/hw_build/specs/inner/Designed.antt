@@ -23,4 +23,7 @@ pub record IsDesigned (design : Design) : Type 0 where
 -- the base sample at which a block sees the first entry of another, by the registers of its line
 abbrev pub seen_at : Design → ℕ → ℕ → ℕ
 seen_at design from to =
-    latency_at design.latencies.now.lat to + (arc_between design.checked.now.diagram (attributes_of design.checked.now.diagram) design.plan.now design.latencies.now.fed from to).slack
+    latency_at design.latencies.now.lat to
+    + (arc_between design.checked.now.diagram
+    (attributes_of design.checked.now.diagram) design.plan.now design.latencies.now.fed from
+    to).slack

@@ -22,21 +22,26 @@ use Rattle.hw_build.specs.Times.{timing_by}
 use Rattle.hw_build.specs.inner.Facts.{HaveFacts}
 use Rattle.hw_build.specs.inner.Units.{HaveUnits}
 
-pub record IsDone (diagram : Diagram) (plan : Resolved) (times : Times) (places : Places) (hubs : ℕ) (netlist : Circuit) : Type 0 where
-  pub facts : HaveFacts diagram (timing_by diagram plan times) places hubs hubs netlist (length diagram.blocks)
+pub record IsDone (diagram : Diagram) (plan : Resolved) (times : Times) (places : Places) (hubs : ℕ)
+    (netlist : Circuit) : Type 0 where
+  pub facts : HaveFacts diagram (timing_by diagram plan times) places hubs hubs netlist
+      (length diagram.blocks)
   pub units : HaveUnits diagram plan times places hubs hubs netlist
-  pub shared : length (multipliers netlist) ≡ units_in_all diagram (attributes_of diagram) plan times
+  pub shared : length (multipliers netlist)
+      ≡ units_in_all diagram (attributes_of diagram) plan times
   pub own : length (others netlist) ≡ unshared diagram (attributes_of diagram) plan
   pub multiplied : AreMultiplied diagram plan netlist
   pub pipelined : ArePipelined diagram plan netlist places
   pub ports : HasPorts diagram plan times netlist places
   pub runs : IsNetlist netlist
   pub emittable : IsEmittable netlist
-  pub few : register_count netlist.nets + counter_count netlist.nets ≤ chained diagram (attributes_of diagram) plan times
+  pub few : register_count netlist.nets
+      + counter_count netlist.nets ≤ chained diagram (attributes_of diagram) plan times
 
 -- that is all that the netlist owes
 abbrev pub DoneIsBuilt : Type 0
 DoneIsBuilt =
-    (diagram : Diagram) (order : List ℕ) (plan : Resolved) (times : Times) (places : Places) (hubs : ℕ) (netlist : Circuit) → IsOrdered diagram order
+    (diagram : Diagram) (order : List ℕ) (plan : Resolved) (times : Times) (places : Places)
+    (hubs : ℕ) (netlist : Circuit) → IsOrdered diagram order
     → IsScheduled diagram plan times → IsDone diagram plan times places hubs netlist
     → IsBuilt diagram plan times netlist

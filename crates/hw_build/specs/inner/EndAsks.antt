@@ -41,25 +41,39 @@ use Rattle.hw_build.specs.inner.Wants.{AreWants}
 
 -- the hubs of what blocks show have numbers of 32 bits
 pub record AreHubPlaces (diagram : Diagram) (firsts : List (List ℕ)) : Type 0 where
-  pub there : (block : ℕ) (b : Block) (port : ℕ) → slice_get diagram.blocks block ≡ Some b → 1 ≤ port → port ≤ shown_ports b.kind b.outputs → port - 1 < length (slice_index_or firsts block [])
-  pub small : (block : ℕ) (b : Block) (port element : ℕ) → IsShown diagram (attributes_of diagram) block b port element → hub_at firsts block port element < 2 ^ 32
+  pub there : (block : ℕ) (b : Block) (port : ℕ) → slice_get diagram.blocks block ≡ Some b
+      → 1 ≤ port → port ≤ shown_ports b.kind b.outputs
+      → port - 1 < length (slice_index_or firsts block [])
+  pub small : (block : ℕ) (b : Block) (port element : ℕ)
+      → IsShown diagram (attributes_of diagram) block b port element
+      → hub_at firsts block port element < 2 ^ 32
 
 -- and the words of what they show
 pub record HaveHubWords (diagram : Diagram) (firsts : List (List ℕ)) (now : Circuit) : Type 0 where
-  pub each : (block : ℕ) (b : Block) (port element : ℕ) → IsShown diagram (attributes_of diagram) block b port element
-      → HasWord now.nets (hub_at firsts block port element) (width_of ((attributes_of diagram).type_at block port)) (is_signed ((attributes_of diagram).type_at block port))
+  pub each : (block : ℕ) (b : Block) (port element : ℕ)
+      → IsShown diagram (attributes_of diagram) block b port element
+      → HasWord now.nets (hub_at firsts block port element)
+      (width_of ((attributes_of diagram).type_at block port))
+      (is_signed ((attributes_of diagram).type_at block port))
 
 -- a use as a want
 abbrev pub want_for : Diagram → Resolved → Times → List (List ℕ) → Use → Want
 want_for diagram plan times firsts one = record {
-  feed = record { hub = hub_at firsts one.from one.port one.element; frame = frame_behind (timing_by diagram plan times) one.source one.from; first = one.first };
+  feed =
+      record {
+        hub = hub_at firsts one.from one.port one.element;
+        frame = frame_behind (timing_by diagram plan times) one.source one.from;
+        first = one.first;
+      };
   to = record { shift = one.shift; period = one.period };
 }
 
 module _ (diagram : Diagram) (plan : Resolved) (times : Times) (firsts : List (List ℕ)) where
   -- the hub that serves an element of an end
   abbrev pub hub_for : LatencyEdge → ℕ → ℕ
-  hub_for edge element = hub_at firsts edge.from edge.from_port (repeated ((attributes_of diagram).width_at edge.from edge.from_port) element)
+  hub_for edge element =
+      hub_at firsts edge.from edge.from_port
+      (repeated ((attributes_of diagram).width_at edge.from edge.from_port) element)
 
   -- what the registers of an end have first
   abbrev pub first_for : LatencyEdge → Target → ℕ → ℤ
@@ -69,59 +83,81 @@ module _ (diagram : Diagram) (plan : Resolved) (times : Times) (firsts : List (L
   -- how many elements an end has, of a block that shows something
   abbrev pub count_for : Block → LatencyEdge → Target → ℕ
   count_for b edge (Port port) =
-      count_by ((attributes_of diagram).width_at edge.from edge.from_port) ((attributes_of diagram).width_at edge.to 1)
-      (lag_into diagram (attributes_of diagram) edge.to b (Port port)) ((attributes_of diagram).period_at edge.from)
+      count_by ((attributes_of diagram).width_at edge.from edge.from_port)
+      ((attributes_of diagram).width_at edge.to 1)
+      (lag_into diagram (attributes_of diagram) edge.to b (Port port))
+      ((attributes_of diagram).period_at edge.from)
   count_for b edge Enable = 1
 
   abbrev pub end_count : Block → LatencyEdge → ℕ
   end_count b edge = if shown_ports b.kind b.outputs == 0 then 0 else count_for b edge edge.target
 
   -- an element of an end asks for a hub that is shown later
-  pub record IsLateAt (list : List Ask) (wants : List Want) (b : Block) (edge : LatencyEdge) (place element : ℕ) : Type 0 where
+  pub record IsLateAt (list : List Ask) (wants : List Want) (b : Block) (edge : LatencyEdge)
+      (place element : ℕ) : Type 0 where
     pub p : ℕ
     pub moves : (attributes_of diagram).period_at edge.from ≡ Some p
     pub want : Want
     pub asked : IsAskOf list wants place (hub_for edge element) (Some want)
-    pub is : IsEndWant diagram (timing_by diagram plan times) edge.to b edge.target edge.from p (first_for edge edge.target element) (hub_for edge element) want
+    pub is : IsEndWant diagram (timing_by diagram plan times) edge.to b edge.target edge.from p
+        (first_for edge edge.target element) (hub_for edge element) want
 
   -- or for one that never changes
   abbrev pub IsAskAt : List Ask → List Want → Block → LatencyEdge → ℕ → ℕ → Type 0
-  IsAskAt list wants b edge place element = (((attributes_of diagram).period_at edge.from ≡ None) × IsAskOf list wants place (hub_for edge element) None) ⊎ IsLateAt list wants b edge place element
+  IsAskAt list wants b edge place element =
+      (((attributes_of diagram).period_at edge.from ≡ None)
+      × IsAskOf list wants place (hub_for edge element) None)
+      ⊎ IsLateAt list wants b edge place element
 
   -- the wants of an edge
   abbrev pub edge_wants : LatencyEdge → List Want
-  edge_wants edge = map (want_for diagram plan times firsts) (uses_from diagram (attributes_of diagram) plan times edge ((attributes_of diagram).period_at edge.from))
+  edge_wants edge =
+      map (want_for diagram plan times firsts)
+      (uses_from diagram (attributes_of diagram) plan times edge
+      ((attributes_of diagram).period_at edge.from))
 
   -- an end was put behind the others
-  pub record IsEndPut (old new : List Ask) (wants more : List Want) (b : Block) (edge : LatencyEdge) : Type 0 where
+  pub record IsEndPut (old new : List Ask) (wants more : List Want) (b : Block)
+      (edge : LatencyEdge) : Type 0 where
     pub grow : AsksGrow old new wants more
     pub size : length new ≡ length old + end_count b edge
-    pub each : (element : ℕ) → element < end_count b edge → IsAskAt new more b edge (length old + element) element
+    pub each : (element : ℕ) → element < end_count b edge
+        → IsAskAt new more b edge (length old + element) element
     pub added : more ≡ wants ++ edge_wants edge
-    pub allowed : (net : Circuit) → HaveHubWords diagram firsts net → AreWants net wants → AreWants net more
+    pub allowed : (net : Circuit) → HaveHubWords diagram firsts net → AreWants net wants
+        → AreWants net more
 
   -- an end has its asks at these places
-  pub record IsEndAt (list : List Ask) (wants : List Want) (spans : List Span) (number : ℕ) (b : Block) (edge : LatencyEdge) : Type 0 where
+  pub record IsEndAt (list : List Ask) (wants : List Want) (spans : List Span) (number : ℕ)
+      (b : Block) (edge : LatencyEdge) : Type 0 where
     pub span : Span
     pub is : slice_get spans number ≡ Some span
     pub count : span.count ≡ end_count b edge
-    pub each : (element : ℕ) → element < end_count b edge → IsAskAt list wants b edge (span.first + element) element
+    pub each : (element : ℕ) → element < end_count b edge
+        → IsAskAt list wants b edge (span.first + element) element
 
   -- the first lines and the first blocks have theirs, and these edges are left
-  pub record AreEnds (list : List Ask) (wants : List Want) (lines controls : List Span) (lined controlled : ℕ) (left : List LatencyEdge) : Type 0 where
+  pub record AreEnds (list : List Ask) (wants : List Want) (lines controls : List Span)
+      (lined controlled : ℕ) (left : List LatencyEdge) : Type 0 where
     pub line_count_is : length lines ≡ lined
     pub control_count_is : length controls ≡ controlled
-    pub each_line : (number : ℕ) (edge : Edge) (b : Block) → number < lined → slice_get diagram.edges number ≡ Some edge
-        → slice_get diagram.blocks edge.to ≡ Some b → IsEndAt list wants lines number b (signal_edge edge)
-    pub each_control : (block : ℕ) (b : Block) (control : ℕ) → block < controlled → slice_get diagram.blocks block ≡ Some b
-        → Feeds diagram block b Enable control → IsEndAt list wants controls block b (record { from = control; from_port = 1; to = block; target = Enable })
+    pub each_line : (number : ℕ) (edge : Edge) (b : Block) → number < lined
+        → slice_get diagram.edges number ≡ Some edge
+        → slice_get diagram.blocks edge.to ≡ Some b
+        → IsEndAt list wants lines number b (signal_edge edge)
+    pub each_control : (block : ℕ) (b : Block) (control : ℕ) → block < controlled
+        → slice_get diagram.blocks block ≡ Some b
+        → Feeds diagram block b Enable control
+        → IsEndAt list wants controls block b
+        (record { from = control; from_port = 1; to = block; target = Enable })
     pub numbered : AreNumbered list (length wants)
     pub whole : wants ++ flat_map edge_wants left ≡ flat_map edge_wants (latency_edges diagram)
     pub allowed : (net : Circuit) → HaveHubWords diagram firsts net → AreWants net wants
 
 -- ---- what is known where ends ask
 
-pub record IsLawful (diagram : Diagram) (order : List ℕ) (plan : Resolved) (times : Times) (firsts : List (List ℕ)) : Type 0 where
+pub record IsLawful (diagram : Diagram) (order : List ℕ) (plan : Resolved) (times : Times)
+    (firsts : List (List ℕ)) : Type 0 where
   pub scheduled : IsScheduled diagram plan times
   pub timed : IsTimed diagram (attributes_of diagram) (timing_by diagram plan times)
   pub lines : LinesAreEdges
@@ -160,18 +196,26 @@ IsSpan first end span = (span.first ≡ first) × (first + span.count ≡ end)
 module _ (diagram : Diagram) (plan : Resolved) (times : Times) (firsts : List (List ℕ)) where
   -- a line's end was put behind the others
   pub record IsLinePut (old new : Asks) (edge : Edge) : Type 0 where
-    pub end : (b : Block) → slice_get diagram.blocks edge.to ≡ Some b → IsEndPut diagram plan times firsts old.list.items new.list.items old.wants.items new.wants.items b (signal_edge edge)
+    pub end : (b : Block) → slice_get diagram.blocks edge.to ≡ Some b
+        → IsEndPut diagram plan times firsts old.list.items new.list.items old.wants.items
+        new.wants.items b (signal_edge edge)
 
   -- a control's, if there is one
   abbrev pub IsControlEnd : Asks → Asks → ℕ → Block → Option ℕ → Type 0
-  IsControlEnd old new block b None = (new.list.items ≡ old.list.items) × (new.wants.items ≡ old.wants.items)
-  IsControlEnd old new block b (Some control) = IsEndPut diagram plan times firsts old.list.items new.list.items old.wants.items new.wants.items b (control_edge control block)
+  IsControlEnd old new block b None =
+      (new.list.items ≡ old.list.items) × (new.wants.items ≡ old.wants.items)
+  IsControlEnd old new block b (Some control) =
+      IsEndPut diagram plan times firsts old.list.items new.list.items old.wants.items
+      new.wants.items b (control_edge control block)
 
   pub record IsControlPut (old new : Asks) (block : ℕ) : Type 0 where
-    pub end : (b : Block) → slice_get diagram.blocks block ≡ Some b → IsControlEnd old new block b (control_ever b)
+    pub end : (b : Block) → slice_get diagram.blocks block ≡ Some b
+        → IsControlEnd old new block b (control_ever b)
 
   abbrev pub AreEndsFor : Asks → List Span → List Span → ℕ → ℕ → List LatencyEdge → Type 0
-  AreEndsFor asks lines controls lined controlled left = AreEnds diagram plan times firsts asks.list.items asks.wants.items lines controls lined controlled left
+  AreEndsFor asks lines controls lined controlled left =
+      AreEnds diagram plan times firsts asks.list.items asks.wants.items lines controls lined
+      controlled left
 
 -- ---- of the ends of a design
 
@@ -180,15 +224,22 @@ pub record CanAsk (ends : Ends) : Type 0 where
   pub hubs : AreHubPlaces ends.design.checked.now.diagram ends.hubs.now
 
 abbrev pub AreLawful : Ends → Type 0
-AreLawful ends = IsLawful ends.design.checked.now.diagram ends.design.checked.now.order ends.design.plan.now (times_for ends.design) ends.hubs.now
+AreLawful ends =
+    IsLawful ends.design.checked.now.diagram ends.design.checked.now.order ends.design.plan.now
+    (times_for ends.design) ends.hubs.now
 
 abbrev pub PutsLine : Ends → Asks → Asks → Edge → Type 0
-PutsLine ends old new edge = IsLinePut ends.design.checked.now.diagram ends.design.plan.now (times_for ends.design) ends.hubs.now old new edge
+PutsLine ends old new edge =
+    IsLinePut ends.design.checked.now.diagram ends.design.plan.now
+    (times_for ends.design) ends.hubs.now old new edge
 
 abbrev pub PutsControl : Ends → Asks → Asks → ℕ → Type 0
-PutsControl ends old new block = IsControlPut ends.design.checked.now.diagram ends.design.plan.now (times_for ends.design) ends.hubs.now old new block
+PutsControl ends old new block =
+    IsControlPut ends.design.checked.now.diagram ends.design.plan.now
+    (times_for ends.design) ends.hubs.now old new block
 
 -- lines and controls of these counts have asked, and these controls are left
 abbrev pub HaveAsked : Ends → Asks → List Span → List Span → ℕ → ℕ → List LatencyEdge → Type 0
 HaveAsked ends asks lines controls lined controlled left =
-    AreEndsFor ends.design.checked.now.diagram ends.design.plan.now (times_for ends.design) ends.hubs.now asks lines controls lined controlled left
+    AreEndsFor ends.design.checked.now.diagram ends.design.plan.now
+    (times_for ends.design) ends.hubs.now asks lines controls lined controlled left

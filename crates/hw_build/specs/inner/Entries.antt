@@ -47,10 +47,12 @@ enable_types attributes None = []
 enable_types attributes (Some control) = attributes.type_at control 1 ∷ []
 
 -- what the input offers in whose part an element of a Mux stands
-pub record IsPartOffered (diagram : Diagram) (places : Places) (block : ℕ) (b : Block) (element : ℕ) (operands : List ℕ) : Type 0 where
+pub record IsPartOffered (diagram : Diagram) (places : Places) (block : ℕ) (b : Block) (element : ℕ)
+    (operands : List ℕ) : Type 0 where
   pub signal : ℕ
   pub place : ℕ
-  pub part : IsPart (widths_into diagram (attributes_of diagram) block b.inputs) element signal place
+  pub part : IsPart
+      (widths_into diagram (attributes_of diagram) block b.inputs) element signal place
   pub is : operands ≡ places.offered block (suc signal) place ∷ []
 
 module _ (diagram : Diagram) (places : Places) (block : ℕ) (b : Block) (port element : ℕ) where
@@ -67,35 +69,57 @@ module _ (diagram : Diagram) (places : Places) (block : ℕ) (b : Block) (port e
   AreOffered (Relational operator) operands = operands ≡ offered_args places block b element
   AreOffered (Logic operator) operands = operands ≡ offered_args places block b element
   AreOffered (Convert stored) operands = operands ≡ offered_args places block b element
-  AreOffered (Delay delay initial reset) operands = operands ≡ places.offered block 1 element ∷ enables_of places block b.enable
+  AreOffered (Delay delay initial reset) operands =
+      operands ≡ places.offered block 1 element ∷ enables_of places block b.enable
   AreOffered (Mux sizes) operands = IsPartOffered diagram places block b element operands
-  AreOffered (Demux sizes) operands = operands ≡ places.offered block 1 (sum (map ((attributes_of diagram).width_at block) (numbers_from 1 (port - 1))) + element) ∷ []
-  AreOffered (RateTransition period initial) operands = operands ≡ places.offered block 1 element ∷ []
+  AreOffered (Demux sizes) operands =
+      operands ≡ places.offered block 1
+      (sum (map ((attributes_of diagram).width_at block) (numbers_from 1 (port - 1))) + element)
+      ∷ []
+  AreOffered (RateTransition period initial) operands =
+      operands ≡ places.offered block 1 element ∷ []
   AreOffered (Pass width) operands = operands ≡ offered_args places block b element
-  AreOffered EnableTest operands = operands ≡ map (places.offered block 1) (numbers_from 0 (width_into diagram (attributes_of diagram) block 1))
-  AreOffered (EnOut reset initial) operands = operands ≡ places.offered block 1 element ∷ enables_of places block b.enable
+  AreOffered EnableTest operands =
+      operands ≡ map (places.offered block 1)
+      (numbers_from 0 (width_into diagram (attributes_of diagram) block 1))
+  AreOffered (EnOut reset initial) operands =
+      operands ≡ places.offered block 1 element ∷ enables_of places block b.enable
   AreOffered Terminator operands = ⊤
 
 -- the types of these
 abbrev pub operand_types : Diagram → Attributes → ℕ → Block → ℕ → Kind → List FxType
-operand_types diagram attributes block b port (Inport number width) = attributes.type_at block port ∷ []
-operand_types diagram attributes block b port (Outport number) = types_into diagram attributes block b.inputs
+operand_types diagram attributes block b port (Inport number width) =
+    attributes.type_at block port ∷ []
+operand_types diagram attributes block b port (Outport number) =
+    types_into diagram attributes block b.inputs
 operand_types diagram attributes block b port (Constant value) = []
 operand_types diagram attributes block b port Ground = []
-operand_types diagram attributes block b port (Sum negative) = types_into diagram attributes block b.inputs
-operand_types diagram attributes block b port (Gain value param) = types_into diagram attributes block b.inputs
+operand_types diagram attributes block b port (Sum negative) =
+    types_into diagram attributes block b.inputs
+operand_types diagram attributes block b port (Gain value param) =
+    types_into diagram attributes block b.inputs
 operand_types diagram attributes block b port Product = types_into diagram attributes block b.inputs
-operand_types diagram attributes block b port (Switch criterion threshold) = types_into diagram attributes block b.inputs
-operand_types diagram attributes block b port (Relational operator) = types_into diagram attributes block b.inputs
-operand_types diagram attributes block b port (Logic operator) = types_into diagram attributes block b.inputs
-operand_types diagram attributes block b port (Convert stored) = types_into diagram attributes block b.inputs
-operand_types diagram attributes block b port (Delay delay initial reset) = attributes.type_at block port ∷ enable_types attributes b.enable
+operand_types diagram attributes block b port (Switch criterion threshold) =
+    types_into diagram attributes block b.inputs
+operand_types diagram attributes block b port (Relational operator) =
+    types_into diagram attributes block b.inputs
+operand_types diagram attributes block b port (Logic operator) =
+    types_into diagram attributes block b.inputs
+operand_types diagram attributes block b port (Convert stored) =
+    types_into diagram attributes block b.inputs
+operand_types diagram attributes block b port (Delay delay initial reset) =
+    attributes.type_at block port ∷ enable_types attributes b.enable
 operand_types diagram attributes block b port (Mux sizes) = attributes.type_at block port ∷ []
 operand_types diagram attributes block b port (Demux sizes) = attributes.type_at block port ∷ []
-operand_types diagram attributes block b port (RateTransition period initial) = attributes.type_at block port ∷ []
-operand_types diagram attributes block b port (Pass width) = types_into diagram attributes block b.inputs
-operand_types diagram attributes block b port EnableTest = map (λ place. type_into diagram attributes block 1) (numbers_from 0 (width_into diagram attributes block 1))
-operand_types diagram attributes block b port (EnOut reset initial) = attributes.type_at block port ∷ enable_types attributes b.enable
+operand_types diagram attributes block b port (RateTransition period initial) =
+    attributes.type_at block port ∷ []
+operand_types diagram attributes block b port (Pass width) =
+    types_into diagram attributes block b.inputs
+operand_types diagram attributes block b port EnableTest =
+    map (λ place. type_into diagram attributes block 1)
+    (numbers_from 0 (width_into diagram attributes block 1))
+operand_types diagram attributes block b port (EnOut reset initial) =
+    attributes.type_at block port ∷ enable_types attributes b.enable
 operand_types diagram attributes block b port Terminator = []
 
 -- what registers have first: the initial value of a kind that has one
@@ -111,19 +135,23 @@ HasFirst diagram block element (Switch criterion threshold) first = ⊤
 HasFirst diagram block element (Relational operator) first = ⊤
 HasFirst diagram block element (Logic operator) first = ⊤
 HasFirst diagram block element (Convert stored) first = ⊤
-HasFirst diagram block element (Delay delay initial reset) first = StoresEntry initial element ((attributes_of diagram).type_at block 1) first
+HasFirst diagram block element (Delay delay initial reset) first =
+    StoresEntry initial element ((attributes_of diagram).type_at block 1) first
 HasFirst diagram block element (Mux sizes) first = ⊤
 HasFirst diagram block element (Demux sizes) first = ⊤
-HasFirst diagram block element (RateTransition period initial) first = StoresEntry initial element ((attributes_of diagram).type_at block 1) first
+HasFirst diagram block element (RateTransition period initial) first =
+    StoresEntry initial element ((attributes_of diagram).type_at block 1) first
 HasFirst diagram block element (Pass width) first = ⊤
 HasFirst diagram block element EnableTest first = ⊤
-HasFirst diagram block element (EnOut reset initial) first = StoresEntry initial element ((attributes_of diagram).type_at block 1) first
+HasFirst diagram block element (EnOut reset initial) first =
+    StoresEntry initial element ((attributes_of diagram).type_at block 1) first
 HasFirst diagram block element Terminator first = ⊤
 
 -- ---- what is put in
 
 -- the frames of a block
-pub record IsFrameOf (diagram : Diagram) (timing : Timing) (block : ℕ) (frame : Frame) : Type 0 where
+pub record IsFrameOf (diagram : Diagram) (timing : Timing) (block : ℕ)
+    (frame : Frame) : Type 0 where
   pub period_is : (attributes_of diagram).period_at block ≡ Some frame.period
   pub latency_is : frame.latency ≡ timing.latency block
 
@@ -131,23 +159,29 @@ pub record IsFrameOf (diagram : Diagram) (timing : Timing) (block : ℕ) (frame 
 abbrev pub IsEntryPart : Diagram → Timing → ℕ → NetKind → Type 0
 IsEntryPart diagram timing block (Comb op args) = ⊤
 IsEntryPart diagram timing block (Reg frame slot first from) = IsFrameOf diagram timing block frame
-IsEntryPart diagram timing block (EnReg frame enable reset first from) = IsFrameOf diagram timing block frame
+IsEntryPart diagram timing block (EnReg frame enable reset first from) =
+    IsFrameOf diagram timing block frame
 IsEntryPart diagram timing block (Bridge frame live from) = ⊥
 IsEntryPart diagram timing block (Unit left right) = ⊥
 IsEntryPart diagram timing block (Counter frame) = IsFrameOf diagram timing block frame
 
 -- the registers of an element beside lines and pipeline
 abbrev pub kept_each : Diagram → ℕ → Block → ℕ
-kept_each diagram block b = (if keeps_own b.enable (period_into diagram (attributes_of diagram) block 1) then (row_of b.kind).timing.delay else 0) + kept_by_role (row_of b.kind).place.role
+kept_each diagram block b =
+    (if keeps_own b.enable (period_into diagram (attributes_of diagram) block 1)
+    then (row_of b.kind).timing.delay else 0) + kept_by_role (row_of b.kind).place.role
 
 -- the number of a net that stands so many behind others
 abbrev pub number_behind : ℕ → Option ℕ → Option ℕ
 number_behind first None = None
 number_behind first (Some place) = Some (first + place)
 
--- the multiplication that an element of a kind has of its own, behind the constants of its list, where it is shared by none
+-- the multiplication that an element of a kind has of its own, behind the constants of its list,
+-- where it is shared by none
 abbrev pub multiply_at : ℕ → Kind → Option ℕ
-multiply_at first kind = if (row_of kind).hardware.multiplies then Some (first + length (row_of kind).signal.lists) else None
+multiply_at first kind =
+    if (row_of kind).hardware.multiplies then Some (first + length (row_of kind).signal.lists)
+    else None
 
 -- whether a kind has registers of its own that show its entry: a Delay that isn't one of its line
 abbrev pub keeps_entry : Option ℕ → Option ℕ → Kind → Bool
@@ -194,19 +228,26 @@ pub record IsOwnMultiply (before after : Circuit) (found : Option ℕ) : Type 0 
   pub no_other : (k : ℕ) → length before.nets ≤ k → IsComb after k Multiply → found ≡ Some k
 
 -- places name the nets of an element, and where it has a state the registers of that
-pub record IsEntryAt (places : Places) (block : ℕ) (b : Block) (port element : ℕ) (entry : Entry) : Type 0 where
+pub record IsEntryAt (places : Places) (block : ℕ) (b : Block) (port element : ℕ)
+    (entry : Entry) : Type 0 where
   pub net : places.entry block port element ≡ entry.net
-  pub begins : asks_ever (row_of b.kind).timing.asks ≡ true → places.state block element 0 ≡ places.offered block 1 element
-  pub state : asks_ever (row_of b.kind).timing.asks ≡ true → (k : ℕ) → places.state block element (suc k) ≡ entry.state + k
+  pub begins : asks_ever (row_of b.kind).timing.asks ≡ true
+      → places.state block element 0 ≡ places.offered block 1 element
+  pub state : asks_ever (row_of b.kind).timing.asks ≡ true → (k : ℕ)
+      → places.state block element (suc k) ≡ entry.state + k
 
-module _ (diagram : Diagram) (timing : Timing) (before after : Circuit) (block : ℕ) (b : Block) (port element : ℕ) (operands : List ℕ) (entry : Entry) where
+module _ (diagram : Diagram) (timing : Timing) (before after : Circuit) (block : ℕ) (b : Block)
+    (port element : ℕ) (operands : List ℕ) (entry : Entry) where
   -- what is put in is the element, by any places that name it so
   abbrev pub IsMadeBy : Type 0
   IsMadeBy =
-      (closed hubs : ℕ) (places : Places) → hubs ≤ length before.nets → before.cycles ≡ timing.cycles
-      → AreOffered diagram places block b port element b.kind operands → IsEntryAt places block b port element entry
+      (closed hubs : ℕ) (places : Places) → hubs ≤ length before.nets
+      → before.cycles ≡ timing.cycles
+      → AreOffered diagram places block b port element b.kind operands
+      → IsEntryAt places block b port element entry
       → HasFirst diagram block element b.kind (places.first block element)
-      → ((row_of b.kind).hardware.multiplies ≡ true → timing.slot block element ≡ None) → IsElementMade diagram timing places closed hubs after block b port element
+      → ((row_of b.kind).hardware.multiplies ≡ true → timing.slot block element ≡ None)
+      → IsElementMade diagram timing places closed hubs after block b port element
 
   -- an element was put in
   pub record PutsEntry : Type 0 where
@@ -215,20 +256,26 @@ module _ (diagram : Diagram) (timing : Timing) (before after : Circuit) (block :
     pub few : count ≤ kept_each diagram block b
     pub multiply : entry.multiply ≡ multiply_at (length before.nets) b.kind
     pub multiplies : IsOwnMultiply before after entry.multiply
-    pub word : HasWord after.nets entry.net (width_of ((attributes_of diagram).type_at block port)) (is_signed ((attributes_of diagram).type_at block port))
+    pub word : HasWord after.nets entry.net (width_of ((attributes_of diagram).type_at block port))
+        (is_signed ((attributes_of diagram).type_at block port))
     pub stands : Contains operands entry.net ⊎ (length before.nets ≤ entry.net)
-    pub held : keeps_entry b.enable (period_into diagram (attributes_of diagram) block 1) b.kind ≡ true → IsHeldAt before after entry.net
+    pub held : keeps_entry b.enable (period_into diagram (attributes_of diagram) block 1) b.kind
+        ≡ true → IsHeldAt before after entry.net
     pub made : IsMadeBy
 
 -- ---- a shared element
 
 -- places name the product of a shared multiplier, by the kind of its block
-module _ (diagram : Diagram) (timing : Timing) (places : Places) (closed hubs : ℕ) (now : Circuit) (block element : ℕ) where
+module _ (diagram : Diagram) (timing : Timing) (places : Places) (closed hubs : ℕ) (now : Circuit)
+    (block element : ℕ) where
   -- in its slot the multiplier had these operands
   abbrev pub IsProductOf : ℕ → (Rows → Wave) → Type 0
   IsProductOf slot right =
       (period : ℕ) → (attributes_of diagram).period_at block ≡ Some period
-      → InLater closed hubs now (λ n rows. IsProductAt n (span_at timing period block) slot (rows (places.offered block 1 element)) (right rows) (rows (places.product block element)))
+      → InLater closed hubs now
+      (λ n rows. IsProductAt n (span_at timing period block) slot
+      (rows (places.offered block 1 element)) (right rows)
+      (rows (places.product block element)))
 
   abbrev pub HasProductAs : ℕ → Kind → Type 0
   HasProductAs slot (Inport number width) = ⊥
@@ -236,7 +283,10 @@ module _ (diagram : Diagram) (timing : Timing) (places : Places) (closed hubs : 
   HasProductAs slot (Constant value) = ⊥
   HasProductAs slot Ground = ⊥
   HasProductAs slot (Sum negative) = ⊥
-  HasProductAs slot (Gain value param) = (coefficient : ℤ) × StoresEntry value element ((attributes_of diagram).param_at block) coefficient × IsProductOf slot (λ rows. steady coefficient)
+  HasProductAs slot (Gain value param) =
+      (coefficient : ℤ)
+      × StoresEntry value element ((attributes_of diagram).param_at block) coefficient
+      × IsProductOf slot (λ rows. steady coefficient)
   HasProductAs slot Product = IsProductOf slot (λ rows. rows (places.offered block 2 element))
   HasProductAs slot (Switch criterion threshold) = ⊥
   HasProductAs slot (Relational operator) = ⊥
@@ -252,18 +302,24 @@ module _ (diagram : Diagram) (timing : Timing) (places : Places) (closed hubs : 
   HasProductAs slot Terminator = ⊥
 
 -- the net has the product of a block's operands, in the type that holds all of these
-pub record IsFullProductAt (diagram : Diagram) (net : Circuit) (place : ℕ) (b : Block) (type : FxType) (product : ℕ) : Type 0 where
+pub record IsFullProductAt (diagram : Diagram) (net : Circuit) (place : ℕ) (b : Block)
+    (type : FxType) (product : ℕ) : Type 0 where
   pub block : slice_get diagram.blocks place ≡ Some b
-  pub full : IsFullProduct (type_into diagram (attributes_of diagram) place 1) (right_of diagram (attributes_of diagram) place (Some b)) type
+  pub full : IsFullProduct (type_into diagram (attributes_of diagram) place 1)
+      (right_of diagram (attributes_of diagram) place (Some b)) type
   pub word : HasWord net.nets product (width_of type) (is_signed type)
 
 -- an element was put in that converts such a product
-pub record PutsShared (diagram : Diagram) (timing : Timing) (before after : Circuit) (block : ℕ) (b : Block) (port element product : ℕ) (entry : Entry) : Type 0 where
+pub record PutsShared (diagram : Diagram) (timing : Timing) (before after : Circuit) (block : ℕ)
+    (b : Block) (port element product : ℕ) (entry : Entry) : Type 0 where
   pub grows : Grows before after (product ∷ []) (IsEntryPart diagram timing block) 0
   pub multiply : entry.multiply ≡ None
   pub multiplies : IsOwnMultiply before after None
-  pub word : HasWord after.nets entry.net (width_of ((attributes_of diagram).type_at block port)) (is_signed ((attributes_of diagram).type_at block port))
+  pub word : HasWord after.nets entry.net (width_of ((attributes_of diagram).type_at block port))
+      (is_signed ((attributes_of diagram).type_at block port))
   pub stands : Contains (product ∷ []) entry.net ⊎ (length before.nets ≤ entry.net)
-  pub made : (closed hubs : ℕ) (places : Places) (slot : ℕ) → hubs ≤ length before.nets → timing.slot block element ≡ Some slot
+  pub made : (closed hubs : ℕ) (places : Places) (slot : ℕ) → hubs ≤ length before.nets
+      → timing.slot block element ≡ Some slot
       → places.entry block port element ≡ entry.net → places.product block element ≡ product
-      → HasProductAs diagram timing places closed hubs before block element slot b.kind → IsElementMade diagram timing places closed hubs after block b port element
+      → HasProductAs diagram timing places closed hubs before block element slot b.kind
+      → IsElementMade diagram timing places closed hubs after block b port element

@@ -10,13 +10,16 @@ use Rattle.hw_sched.specs.Chained.{is_same_first}
 use Rattle.hw_build.specs.declared.wants.Feed.{Feed}
 
 abbrev pub is_same_feed : Feed → Feed → Bool
-is_same_feed one other = (one.hub == other.hub) && (is_same_frame one.frame other.frame && is_same_first one.first other.first)
+is_same_feed one other =
+    (one.hub == other.hub)
+    && (is_same_frame one.frame other.frame && is_same_first one.first other.first)
 
 -- the order in which an index has its feeds
 abbrev pub compare_feeds : Feed → Feed → Ordering
 compare_feeds =
     then_cmp (on (λ (feed : Feed). feed.hub) nat_cmp)
-    (then_cmp (on (λ (feed : Feed). feed.frame) compare_frames) (on (λ (feed : Feed). feed.first) (option_cmp int_cmp)))
+    (then_cmp (on (λ (feed : Feed). feed.frame) compare_frames)
+    (on (λ (feed : Feed). feed.first) (option_cmp int_cmp)))
 
 -- the number of a feed among the entries of an index
 abbrev pub number_at_feed : List (Feed × ℕ) → Feed → Option ℕ

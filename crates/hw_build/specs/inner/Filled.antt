@@ -28,7 +28,8 @@ pub record AreHubPlaces (diagram : Diagram) (firsts : List (List ℕ)) (places :
   pub input : (k : ℕ) (e : RootElement) → slice_get (root_inputs diagram (attributes_of diagram)) k ≡ Some e → places.input e.number e.element ≡ k
   pub after : (block : ℕ) (b : Block) (port element : ℕ) → IsShown diagram (attributes_of diagram) block b port element → places.after block port element ≡ hub_at firsts block port element
 
--- the pipelines of every netlist that has these nets and names, and whose outputs are among what readers name
+-- the pipelines of every netlist that has these nets and names, and whose outputs are among what
+-- readers name
 pub record ArePipes (diagram : Diagram) (plan : Resolved) (places : Places) (now : Circuit) : Type 0 where
   pub each : (later : Circuit) → later.nets ≡ now.nets → later.labels ≡ now.labels
       → ((port : NetPort) → Contains later.outputs port → port.net < hubs_in_all diagram) → ArePipelined diagram plan later places

@@ -7,7 +7,8 @@ use Rattle.hw_build.specs.Pipelined.{stage_name}
 -- what a name says of a block, of its element, and of a stage if it is of one
 abbrev pub place_name : ℕ → ℕ → Option ℕ → List ℕ
 place_name block element None = decimal block ++ (codes "_" ++ decimal element)
-place_name block element (Some stage) = decimal block ++ (codes "_" ++ (decimal element ++ (codes "_" ++ decimal stage)))
+place_name block element (Some stage) =
+    decimal block ++ (codes "_" ++ (decimal element ++ (codes "_" ++ decimal stage)))
 
 -- the multiplication of an element, or a register of its pipeline by its number from 1
 pub record Mark : Type 0 where

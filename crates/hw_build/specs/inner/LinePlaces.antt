@@ -11,7 +11,9 @@ use Rattle.hw_build.specs.inner.Operands.{offered_at, enabled_by, first_at}
 
 -- the place of a root input's element in the order of columns
 abbrev pub input_place : Diagram → ℕ → ℕ → ℕ
-input_place diagram number element = position_or_len (λ e. (e.number == number) && (e.element == element)) (root_inputs diagram (attributes_of diagram))
+input_place diagram number element =
+    position_or_len (λ e. (e.number == number) && (e.element == element))
+    (root_inputs diagram (attributes_of diagram))
 
 -- the places that are settled then, without those of elements
 abbrev pub line_places : Diagram → List (List ℕ) → Operands → Places

@@ -1,4 +1,5 @@
--- The netlist while the elements of blocks are put in, for all places that the nets so far allow (own).
+-- The netlist while the elements of blocks are put in, for all places that the nets so far allow
+-- (own).
 use Rattle.std.specs.Prelude.{◌≡◌, ℕ, zero, suc, ◌+◌, ◌<◌, ◌≤◌, ◌==◌, ◌&&◌, ◌⊎◌, not, List, length, Contains, [], slice_get, slice_index_or, Some, false, true}
 use Rattle.fx_type.specs.FxType.{is_signed, width_of}
 use Rattle.fx_type.specs.Laws.{StoredIsOne}
@@ -113,24 +114,30 @@ module _ (setting : Setting) where
   abbrev pub Fits : Places → Type 0
   Fits places = IsFitting diagram_of setting.firsts.now setting.operands.now (product_net setting.products.now) places
 
--- the netlist at which elements begin: by all places that fit it is under way, and the nets that readers name wait on the levels of their blocks
+-- the netlist at which elements begin: by all places that fit it is under way, and the nets that
+-- readers name wait on the levels of their blocks
 pub record IsBegunBy (setting : Setting) (places : Places) (now : Circuit) : Type 0 where
   pub level : ℕ → ℕ
-  pub way : IsUnderWay (diagram_of setting) (timing_for setting.design) places (place_in setting.design.checked.now.order) (roots_of setting) (hubs_in_all (diagram_of setting)) now level 0
+  pub way : IsUnderWay (diagram_of setting) (timing_for setting.design) places
+      (place_in setting.design.checked.now.order) (roots_of setting)
+      (hubs_in_all (diagram_of setting)) now level 0
   pub levels : (k : ℕ) → k < hubs_in_all (diagram_of setting) → level k ≡ start_level (diagram_of setting) (place_in setting.design.checked.now.order) k
   -- what an end with registers is offered reads nothing in its own clock
   pub late : (block : ℕ) (b : Block) (port element : ℕ) (edge : Edge) (source lag : ℕ) → slice_get (diagram_of setting).blocks block ≡ Some b
       → 1 ≤ shown_ports b.kind b.outputs → 1 ≤ port → port ≤ b.inputs → driver_of (diagram_of setting) block port ≡ Some edge
       → element < line_count (diagram_of setting) block b port edge → (attributes_of (diagram_of setting)).period_at edge.from ≡ Some source
       → lag_into (diagram_of setting) (attributes_of (diagram_of setting)) block b (Port port) source ≡ Some lag → level (places.offered block port element) ≡ 0
-  pub products : HaveProducts (diagram_of setting) setting.design.plan.now (times_for setting.design) places (roots_of setting) (hubs_in_all (diagram_of setting)) now
+  pub products : HaveProducts (diagram_of setting) setting.design.plan.now
+      (times_for setting.design) places (roots_of setting) (hubs_in_all (diagram_of setting)) now
   pub low : ProductsAreLow (diagram_of setting) setting.design.plan.now (times_for setting.design) places level
   pub units : HaveUnits (diagram_of setting) setting.design.plan.now (times_for setting.design) places (roots_of setting) (hubs_in_all (diagram_of setting)) now
 
 pub record IsBegun (setting : Setting) (now : Circuit) : Type 0 where
   pub cycles : now.cycles ≡ setting.design.plan.now.cycles
   pub few : length now.inputs ≤ roots_of setting
-  pub fresh : (block : ℕ) (b : Block) (port element : ℕ) → IsShown (diagram_of setting) (attributes_of (diagram_of setting)) block b port element → is_input_role (row_of b.kind).place.role ≡ false
+  pub fresh : (block : ℕ) (b : Block) (port element : ℕ)
+      → IsShown (diagram_of setting) (attributes_of (diagram_of setting)) block b port element
+      → is_input_role (row_of b.kind).place.role ≡ false
       → slice_get now.nets (hub_at setting.firsts.now block port element) ≡ Some (hub_of ((attributes_of (diagram_of setting)).type_at block 1))
   pub there : ReadThere now.nets
   pub readied : IsReadied (diagram_of setting) setting.design.plan.now (times_for setting.design) now
@@ -141,10 +148,14 @@ module _ (setting : Setting) where
   -- by these places, the netlist goes on
   abbrev pub IsGoingBy : Places → Circuit → ℕ → Circuit → (ℕ → ℕ) → Type 0
   IsGoingBy places start closed now level =
-      IsGoing (diagram_of setting) (timing_for setting.design) places (place_in setting.design.checked.now.order) (roots_of setting) start closed (hubs_in_all (diagram_of setting)) now level
+      IsGoing (diagram_of setting) (timing_for setting.design) places
+      (place_in setting.design.checked.now.order) (roots_of setting) start closed
+      (hubs_in_all (diagram_of setting)) now level
 
   abbrev pub HaveProductsBy : Places → ℕ → Circuit → Type 0
-  HaveProductsBy places closed now = HaveProducts (diagram_of setting) setting.design.plan.now (times_for setting.design) places closed (hubs_in_all (diagram_of setting)) now
+  HaveProductsBy places closed now =
+      HaveProducts (diagram_of setting) setting.design.plan.now
+      (times_for setting.design) places closed (hubs_in_all (diagram_of setting)) now
 
   -- it does by all that fit
   pub record AreGoing (now : Circuit) (spots : Spots) : Type 0 where
@@ -154,7 +165,9 @@ module _ (setting : Setting) where
     pub begun : IsBegun setting start
     pub tally : AreTallied (diagram_of setting) setting.design.plan.now (timing_for setting.design) setting.firsts.now start now spots
     pub marks : AreMarked (diagram_of setting) setting.design.plan.now (times_for setting.design) setting.firsts.now start now (length spots.entries)
-    pub each : (places : Places) → Fits setting places → AreSpotted (diagram_of setting) setting.firsts.now spots places → (level : ℕ → ℕ) × IsGoingBy places start (length spots.entries) now level
+    pub each : (places : Places) → Fits setting places
+        → AreSpotted (diagram_of setting) setting.firsts.now spots places → (level : ℕ → ℕ)
+        × IsGoingBy places start (length spots.entries) now level
 
   -- up to a net that readers name, by the places of the elements before
   pub record Reaches (now : Circuit) (closed : ℕ) : Type 0 where
@@ -163,7 +176,8 @@ module _ (setting : Setting) where
     pub at : length spots.entries ≡ closed
 
   -- an element was put in: its net stands below the one that readers name
-  pub record IsEnteredBy (places : Places) (start : Circuit) (closed : ℕ) (after : Circuit) (block : ℕ) (b : Block) (port element : ℕ) (entry : Entry) : Type 0 where
+  pub record IsEnteredBy (places : Places) (start : Circuit) (closed : ℕ) (after : Circuit)
+      (block : ℕ) (b : Block) (port element : ℕ) (entry : Entry) : Type 0 where
     pub next : ℕ → ℕ
     pub going : IsGoingBy places start closed after next
     pub low : next entry.net ≤ own_level (place_in setting.design.checked.now.order block)
@@ -178,12 +192,16 @@ module _ (setting : Setting) where
     pub few : register_count after.nets ≤ register_count before.nets + kept_each (diagram_of setting) block b
     pub own : length (others after) ≡ length (others before) + products_by (diagram_of setting) setting.design.plan.now block
     pub shared : multipliers after ≡ multipliers before
-    pub new_product : (k : ℕ) → entry.multiply ≡ Some k → (length before.nets ≤ k) × (k < length after.nets) × (products_by (diagram_of setting) setting.design.plan.now block ≡ 1)
+    pub new_product : (k : ℕ) → entry.multiply ≡ Some k → (length before.nets ≤ k)
+        × (k < length after.nets)
+        × (products_by (diagram_of setting) setting.design.plan.now block ≡ 1)
     pub product : products_by (diagram_of setting) setting.design.plan.now block ≡ 1 → IsOwnProduct after entry.multiply
     pub own_number : (m : ℕ) → entry.multiply ≡ Some m → ((row_of b.kind).hardware.multiplies ≡ true) × (length before.nets ≤ m) × (m < length after.nets)
     pub own_frames : (k : ℕ) (frame : Frame) → length before.nets ≤ k → IsCounterAt after.nets k frame
         → IsBlockFrame (diagram_of setting) setting.design.plan.now (times_for setting.design) block frame
-    pub word : HasWord after.nets entry.net (width_of ((attributes_of (diagram_of setting)).type_at block 1)) (is_signed ((attributes_of (diagram_of setting)).type_at block 1))
+    pub word : HasWord after.nets entry.net
+        (width_of ((attributes_of (diagram_of setting)).type_at block 1))
+        (is_signed ((attributes_of (diagram_of setting)).type_at block 1))
     pub each : (places : Places) (start : Circuit) (closed : ℕ) (level : ℕ → ℕ) → Fits setting places → IsEntryAt places block b port element entry
         → HaveProductsBy places (roots_of setting) start → IsGoingBy places start closed before level
         → IsEnteredBy places start closed after block b port element entry

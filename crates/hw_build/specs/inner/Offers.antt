@@ -24,26 +24,41 @@ abbrev pub IsBlockAt : BlockAt → Type 0
 IsBlockAt at = slice_get (diagram_of at.setting).blocks at.block ≡ Some at.one.now
 
 abbrev pub Offer : Setting → ℕ → Block → ℕ → ℕ → List ℕ → Type 0
-Offer setting block b port element operands = (places : Places) → Fits setting places → AreOffered (diagram_of setting) places block b port element b.kind operands
+Offer setting block b port element operands =
+    (places : Places) → Fits setting places
+    → AreOffered (diagram_of setting) places block b port element b.kind operands
 
 abbrev pub OffersTo : Element → List ℕ → Type 0
-OffersTo to operands = Offer to.setting to.place.block to.one.now to.place.port to.place.element operands
+OffersTo to operands =
+    Offer to.setting to.place.block to.one.now to.place.port to.place.element operands
 
--- of a Mux the nets that are offered to the elements of its first input ports, and to so many of the next one
-pub record ArePartsTo (setting : Setting) (block : ℕ) (b : Block) (ports left : ℕ) (parts : List ℕ) : Type 0 where
-  pub size : length parts ≡ sum (map (width_into (diagram_of setting) (attributes_of (diagram_of setting)) block) (numbers_from 1 ports)) + left
-  pub each : (element : ℕ) → element < length parts → Offer setting block b 1 element (slice_index_or parts element 0 ∷ [])
+-- of a Mux the nets that are offered to the elements of its first input ports, and to so many of
+-- the next one
+pub record ArePartsTo (setting : Setting) (block : ℕ) (b : Block) (ports left : ℕ)
+    (parts : List ℕ) : Type 0 where
+  pub size : length parts
+      ≡ sum (map (width_into (diagram_of setting) (attributes_of (diagram_of setting)) block)
+      (numbers_from 1 ports)) + left
+  pub each : (element : ℕ) → element < length parts
+      → Offer setting block b 1 element (slice_index_or parts element 0 ∷ [])
 
 -- how many elements stand before those of each of the first ports
-pub record AreBegins (diagram : Diagram) (block : ℕ) (b : Block) (ports : ℕ) (begins : List ℕ) : Type 0 where
+pub record AreBegins (diagram : Diagram) (block : ℕ) (b : Block) (ports : ℕ)
+    (begins : List ℕ) : Type 0 where
   pub size : length begins ≡ ports
-  pub each : (k : ℕ) → k < ports → slice_index_or begins k 0 ≡ sum (map (shown_width diagram (attributes_of diagram) b.kind block) (numbers_from 1 k))
+  pub each : (k : ℕ) → k < ports
+      → slice_index_or begins k 0
+      ≡ sum (map (shown_width diagram (attributes_of diagram) b.kind block) (numbers_from 1 k))
 
 -- what all elements of a block read
-pub record AreReadBy (setting : Setting) (block : ℕ) (b : Block) (inputs : BlockInputs) : Type 0 where
-  pub types_are : inputs.types.items ≡ types_into (diagram_of setting) (attributes_of (diagram_of setting)) block b.inputs
-  pub parts_are : (sizes : List ℕ) → b.kind ≡ Mux sizes → ArePartsTo setting block b b.inputs 0 inputs.parts
-  pub begins_are : (sizes : List ℕ) → b.kind ≡ Demux sizes → AreBegins (diagram_of setting) block b (shown_ports b.kind b.outputs) inputs.begins
+pub record AreReadBy (setting : Setting) (block : ℕ) (b : Block)
+    (inputs : BlockInputs) : Type 0 where
+  pub types_are : inputs.types.items
+      ≡ types_into (diagram_of setting) (attributes_of (diagram_of setting)) block b.inputs
+  pub parts_are : (sizes : List ℕ) → b.kind ≡ Mux sizes
+      → ArePartsTo setting block b b.inputs 0 inputs.parts
+  pub begins_are : (sizes : List ℕ) → b.kind ≡ Demux sizes
+      → AreBegins (diagram_of setting) block b (shown_ports b.kind b.outputs) inputs.begins
 
 -- nothing is read yet
 pub record AreBare (inputs : BlockInputs) : Type 0 where
@@ -53,7 +68,9 @@ pub record AreBare (inputs : BlockInputs) : Type 0 where
 
 -- the table shows the element
 abbrev pub IsShownAt : Element → Type 0
-IsShownAt to = IsShown (diagram_of to.setting) (attributes_of (diagram_of to.setting)) to.place.block to.one.now to.place.port to.place.element
+IsShownAt to =
+    IsShown (diagram_of to.setting)
+    (attributes_of (diagram_of to.setting)) to.place.block to.one.now to.place.port to.place.element
 
 -- it is one of a block that is no root input and reads this
 pub record IsAtHand (to : Element) (inputs : BlockInputs) : Type 0 where

@@ -16,7 +16,8 @@ use Rattle.hw_build.specs.inner.HubPlaces.{hub_at}
 
 -- a line ends at a block before this one, or at a port of this one before this port
 abbrev pub is_line_before : ℕ → ℕ → Edge → Bool
-is_line_before block port edge = nat_lt edge.to block || ((edge.to == block) && nat_lt edge.to_port port)
+is_line_before block port edge =
+    nat_lt edge.to block || ((edge.to == block) && nat_lt edge.to_port port)
 
 -- the place of the first of a list that isn't so
 abbrev pub first_not : {A : Type 0} → (A → Bool) → List A → ℕ
@@ -36,7 +37,8 @@ net_in nets (Some span) element = slice_index_or nets (span.first + min element 
 
 -- what an input port of a block offers to an element
 abbrev pub offered_at : Diagram → Operands → ℕ → ℕ → ℕ → ℕ
-offered_at diagram operands block port element = net_in operands.nets (slice_get operands.lines (line_number diagram block port)) element
+offered_at diagram operands block port element =
+    net_in operands.nets (slice_get operands.lines (line_number diagram block port)) element
 
 -- what enables a block
 abbrev pub enabled_by : Operands → ℕ → ℕ
@@ -51,17 +53,26 @@ or_zero (Some v) = v
 -- of a block, for an element, past the last that of the last: what its list has, stored in its type
 abbrev pub first_of_block : Diagram → ℕ → ℕ → Option Block → ℤ
 first_of_block diagram block element None = pos 0
-first_of_block diagram block element (Some b) = or_zero (initial_at (attributes_of diagram) block b (min element ((attributes_of diagram).width_at block 1 - 1)))
+first_of_block diagram block element (Some b) =
+    or_zero (initial_at (attributes_of diagram) block b
+    (min element ((attributes_of diagram).width_at block 1 - 1)))
 
 abbrev pub first_at : Diagram → ℕ → ℕ → ℤ
-first_at diagram block element = first_of_block diagram block element (slice_get diagram.blocks block)
+first_at diagram block element =
+    first_of_block diagram block element (slice_get diagram.blocks block)
 
 -- ---- places
 
 -- the places of a netlist whose hubs and whose ends have these nets
-pub record AreLinePlaces (diagram : Diagram) (firsts : List (List ℕ)) (operands : Operands) (places : Places) : Type 0 where
-  pub input : (k : ℕ) (e : RootElement) → slice_get (root_inputs diagram (attributes_of diagram)) k ≡ Some e → places.input e.number e.element ≡ k
-  pub after : (block : ℕ) (b : Block) (port element : ℕ) → IsShown diagram (attributes_of diagram) block b port element → places.after block port element ≡ hub_at firsts block port element
-  pub offered : (block port element : ℕ) → places.offered block port element ≡ offered_at diagram operands block port element
+pub record AreLinePlaces (diagram : Diagram) (firsts : List (List ℕ)) (operands : Operands)
+    (places : Places) : Type 0 where
+  pub input : (k : ℕ) (e : RootElement)
+      → slice_get (root_inputs diagram (attributes_of diagram)) k ≡ Some e
+      → places.input e.number e.element ≡ k
+  pub after : (block : ℕ) (b : Block) (port element : ℕ)
+      → IsShown diagram (attributes_of diagram) block b port element
+      → places.after block port element ≡ hub_at firsts block port element
+  pub offered : (block port element : ℕ)
+      → places.offered block port element ≡ offered_at diagram operands block port element
   pub enable : (block : ℕ) → places.enable block ≡ enabled_by operands block
   pub first : (block element : ℕ) → places.first block element ≡ first_at diagram block element

@@ -14,24 +14,39 @@ use Rattle.hw_sched.specs.Scheduled.{IsScheduled}
 use Rattle.hw_share.specs.declared.operation.Operation.{Operation}
 use Rattle.hw_share.specs.Operations.{CanShare}
 
--- an operation has the frame of its block, its slot and its multiplier, and nets of its operands' types, whose product has a type
-pub record IsMade (diagram : Diagram) (plan : Resolved) (timing : Timing) (net : Circuit) (number : ℕ) (o : Shared) (one : Operation) : Type 0 where
-  pub frame : one.frame ≡ record { period = (kind_of diagram (attributes_of diagram) timing o).period; latency = (kind_of diagram (attributes_of diagram) timing o).lat }
+-- an operation has the frame of its block, its slot and its multiplier, and nets of its operands'
+-- types, whose product has a type
+pub record IsMade (diagram : Diagram) (plan : Resolved) (timing : Timing) (net : Circuit)
+    (number : ℕ) (o : Shared) (one : Operation) : Type 0 where
+  pub frame : one.frame
+      ≡ record {
+        period = (kind_of diagram (attributes_of diagram) timing o).period;
+        latency = (kind_of diagram (attributes_of diagram) timing o).lat;
+      }
   pub slot : one.slot ≡ slot_of diagram (attributes_of diagram) plan timing number o
   pub unit : one.unit ≡ unit_of diagram (attributes_of diagram) plan timing number o
-  pub left : HasWord net.nets one.left (width_of (kind_of diagram (attributes_of diagram) timing o).left) (is_signed (kind_of diagram (attributes_of diagram) timing o).left)
-  pub right : HasWord net.nets one.right (width_of (kind_of diagram (attributes_of diagram) timing o).right) (is_signed (kind_of diagram (attributes_of diagram) timing o).right)
+  pub left : HasWord net.nets one.left
+      (width_of (kind_of diagram (attributes_of diagram) timing o).left)
+      (is_signed (kind_of diagram (attributes_of diagram) timing o).left)
+  pub right : HasWord net.nets one.right
+      (width_of (kind_of diagram (attributes_of diagram) timing o).right)
+      (is_signed (kind_of diagram (attributes_of diagram) timing o).right)
   pub left_type : IsType (kind_of diagram (attributes_of diagram) timing o).left
   pub right_type : IsType (kind_of diagram (attributes_of diagram) timing o).right
   pub full : FxType
-  pub is_full : IsFullProduct (kind_of diagram (attributes_of diagram) timing o).left (kind_of diagram (attributes_of diagram) timing o).right full
+  pub is_full : IsFullProduct (kind_of diagram (attributes_of diagram) timing o).left
+      (kind_of diagram (attributes_of diagram) timing o).right full
 
-pub record AreMade (diagram : Diagram) (plan : Resolved) (timing : Timing) (net : Circuit) (operations : List Operation) : Type 0 where
+pub record AreMade (diagram : Diagram) (plan : Resolved) (timing : Timing) (net : Circuit)
+    (operations : List Operation) : Type 0 where
   pub size : length operations ≡ length (shared_operations diagram (attributes_of diagram) plan)
-  pub each : (number : ℕ) (o : Shared) (one : Operation) → IsSharedAt diagram (attributes_of diagram) plan number o
+  pub each : (number : ℕ) (o : Shared) (one : Operation)
+      → IsSharedAt diagram (attributes_of diagram) plan number o
       → slice_get operations number ≡ Some one → IsMade diagram plan timing net number o one
 
 abbrev pub OperationsCanShare : Type 0
 OperationsCanShare =
-    (diagram : Diagram) (plan : Resolved) (timing : Timing) (net : Circuit) (operations : List Operation) → IsScheduled diagram plan timing
-    → net.cycles ≡ plan.cycles → AreMade diagram plan timing net operations → CanShare net operations
+    (diagram : Diagram) (plan : Resolved) (timing : Timing) (net : Circuit)
+    (operations : List Operation) → IsScheduled diagram plan timing
+    → net.cycles ≡ plan.cycles → AreMade diagram plan timing net operations
+    → CanShare net operations

@@ -30,7 +30,8 @@ pub record IsPortFor (e : RootElement) (number latency : ℕ) (port : NetPort) :
   pub period : port.period ≡ samples e.period
   pub latency_is : port.latency ≡ latency
 
--- the ports of the first of these elements, by the width of their signals, the net of each and the latency of their blocks
+-- the ports of the first of these elements, by the width of their signals, the net of each and the
+-- latency of their blocks
 pub record ArePortsFor (diagram : Diagram) (elements : List RootElement) (width_of : ℕ → ℕ) (number_of : ℕ → RootElement → ℕ) (latency_of : ℕ → ℕ)
     (old new : Names) (ports : List NetPort) (count : ℕ) : Type 0 where
   pub size : length ports ≡ count

@@ -28,7 +28,8 @@ enables_by None = []
 enables_by (Some by) = by.enable ∷ []
 
 -- registers of this frame can be put in behind the net, with this number first
-pub record CanPutSeries (before : Circuit) (word : Word) (frame : Frame) (by : Option Enabled) (count : ℕ) (begins : ℤ) (behind : ℕ) : Type 0 where
+pub record CanPutSeries (before : Circuit) (word : Word) (frame : Frame) (by : Option Enabled)
+    (count : ℕ) (begins : ℤ) (behind : ℕ) : Type 0 where
   pub cycles : 0 < before.cycles
   pub period : 0 < frame.period
   pub some : 1 ≤ count
@@ -46,17 +47,26 @@ IsOfFrame own (Bridge frame live from) = ⊥
 IsOfFrame own (Unit left right) = ⊥
 IsOfFrame own (Counter frame) = frame ≡ own
 
--- so many registers of a form stand from this number on, each of which takes the one before it, the first a net that was there
-pub record AreSeries (make : ℕ → NetKind) (before after : Circuit) (named : List ℕ) (frame : Frame) (word : Word) (from begin count : ℕ) : Type 0 where
+-- so many registers of a form stand from this number on, each of which takes the one before it, the
+-- first a net that was there
+pub record AreSeries (make : ℕ → NetKind) (before after : Circuit) (named : List ℕ) (frame : Frame)
+    (word : Word) (from begin count : ℕ) : Type 0 where
   pub grows : Grows before after named (IsOfFrame frame) count
-  pub each : (k : ℕ) → k < count → slice_get after.nets (begin + k) ≡ Some (record { signed = word.signed; width = word.width; kind = make (taken_by from begin k) })
+  pub each : (k : ℕ) → k < count
+      → slice_get after.nets (begin + k)
+      ≡ Some (record {
+        signed = word.signed;
+        width = word.width;
+        kind = make (taken_by from begin k);
+      })
   pub size : length after.nets ≡ begin + count
   pub new : length before.nets ≤ begin
   pub counted : IsSome (counter_of after.nets frame)
   pub last : HasWord after.nets (taken_by from begin count) word.width word.signed
 
 -- they were put in, and these are the numbers of the first and the last
-pub record PutsSeries (make : ℕ → NetKind) (before after : Circuit) (named : List ℕ) (frame : Frame) (word : Word) (from count : ℕ) (series : Series) : Type 0 where
+pub record PutsSeries (make : ℕ → NetKind) (before after : Circuit) (named : List ℕ) (frame : Frame)
+    (word : Word) (from count : ℕ) (series : Series) : Type 0 where
   pub are : AreSeries make before after named frame word from series.first count
   pub last_is : series.last ≡ taken_by from series.first count
   pub word_is : series.word ≡ word

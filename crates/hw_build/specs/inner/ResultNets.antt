@@ -25,7 +25,9 @@ use Rattle.hw_build.specs.inner.HubPlaces.{before}
 
 -- how many shared operations a block has
 abbrev pub shared_width : Diagram → Resolved → ℕ → ℕ
-shared_width diagram plan block = if is_shared diagram (attributes_of diagram) plan block then (attributes_of diagram).width_at block 1 else 0
+shared_width diagram plan block =
+    if is_shared diagram (attributes_of diagram) plan block
+    then (attributes_of diagram).width_at block 1 else 0
 
 -- the number of the first of them
 abbrev pub first_operation : Diagram → Resolved → ℕ → ℕ
@@ -37,7 +39,8 @@ product_by results element None = None
 product_by results element (Some first) = slice_get results (first + element)
 
 abbrev pub product_at : Products → ℕ → ℕ → Option ℕ
-product_at products block element = product_by products.results element (slice_index_or products.firsts.items block None)
+product_at products block element =
+    product_by products.results element (slice_index_or products.firsts.items block None)
 
 abbrev pub number_or_zero : Option ℕ → ℕ
 number_or_zero None = 0
@@ -49,27 +52,36 @@ product_net products block element = number_or_zero (product_at products block e
 -- the elements of shared blocks have one each, and no others
 pub record AreProducts (diagram : Diagram) (plan : Resolved) (products : Products) : Type 0 where
   pub size : length products.firsts.items ≡ length diagram.blocks
-  pub shared : (block element : ℕ) → block < length diagram.blocks → is_shared diagram (attributes_of diagram) plan block ≡ true
-      → element < (attributes_of diagram).width_at block 1 → product_at products block element ≡ Some (product_net products block element)
-  pub other : (block element : ℕ) → block < length diagram.blocks → is_shared diagram (attributes_of diagram) plan block ≡ false → product_at products block element ≡ None
+  pub shared : (block element : ℕ) → block < length diagram.blocks
+      → is_shared diagram (attributes_of diagram) plan block ≡ true
+      → element < (attributes_of diagram).width_at block 1
+      → product_at products block element ≡ Some (product_net products block element)
+  pub other : (block element : ℕ) → block < length diagram.blocks
+      → is_shared diagram (attributes_of diagram) plan block ≡ false
+      → product_at products block element ≡ None
 
 -- a net shows an entry of a list at each clock, stored in a type
-pub record IsStored (closed hubs : ℕ) (now : Circuit) (list : List Decimal) (element : ℕ) (type : FxType) (number : ℕ) : Type 0 where
+pub record IsStored (closed hubs : ℕ) (now : Circuit) (list : List Decimal) (element : ℕ)
+    (type : FxType) (number : ℕ) : Type 0 where
   pub value : ℤ
   pub stored : StoresEntry list element type value
   pub same : InLater closed hubs now (λ n rows. AreSame n (rows number) (steady value))
 
-module _ (diagram : Diagram) (plan : Resolved) (times : Times) (places : Places) (closed hubs : ℕ) (now : Circuit) where
-  -- the net of the second operand of an element: that of a coefficient, or what the second port is offered
+module _ (diagram : Diagram) (plan : Resolved) (times : Times) (places : Places) (closed hubs : ℕ)
+    (now : Circuit) where
+  -- the net of the second operand of an element: that of a coefficient, or what the second port is
+  -- offered
   abbrev pub IsSecondNet : ℕ → ℕ → FullRule → ℕ → Type 0
   IsSecondNet block element FullRule.NoFull number = ⊥
   IsSecondNet block element (FullRule.FullSum negative) number = ⊥
-  IsSecondNet block element (FullRule.FullScaled value spec) number = IsStored closed hubs now value element ((attributes_of diagram).param_at block) number
+  IsSecondNet block element (FullRule.FullScaled value spec) number =
+      IsStored closed hubs now value element ((attributes_of diagram).param_at block) number
   IsSecondNet block element FullRule.FullProduct number = number ≡ places.offered block 2 element
   IsSecondNet block element FullRule.UnionOfTwo number = ⊥
   IsSecondNet block element FullRule.UnionOfEnds number = ⊥
 
-  -- the product of an element, from the clock behind its slot to the end of each frame, in the word of its full type
+  -- the product of an element, from the clock behind its slot to the end of each frame, in the word
+  -- of its full type
   pub record HasProduct (block : ℕ) (b : Block) (element : ℕ) : Type 0 where
     pub slot : ℕ
     pub told : (timing_by diagram plan times).slot block element ≡ Some slot
@@ -77,12 +89,16 @@ module _ (diagram : Diagram) (plan : Resolved) (times : Times) (places : Places)
     pub second : IsSecondNet block element (row_of b.kind).types.full right
     pub product : (period : ℕ) → (attributes_of diagram).period_at block ≡ Some period
         → InLater closed hubs now
-        (λ n rows. IsProductAt n (span_at (timing_by diagram plan times) period block) slot (rows (places.offered block 1 element)) (rows right) (rows (places.product block element)))
+        (λ n rows. IsProductAt n (span_at (timing_by diagram plan times) period block) slot
+        (rows (places.offered block 1 element)) (rows right)
+        (rows (places.product block element)))
     pub full : FxType
-    pub is_full : IsFullProduct (type_into diagram (attributes_of diagram) block 1) (right_of diagram (attributes_of diagram) block (Some b)) full
+    pub is_full : IsFullProduct (type_into diagram (attributes_of diagram) block 1)
+        (right_of diagram (attributes_of diagram) block (Some b)) full
     pub word : HasWord now.nets (places.product block element) (width_of full) (is_signed full)
 
   -- those of all shared operations
   pub record HaveProducts : Type 0 where
     pub each : (block : ℕ) (b : Block) (element : ℕ) → slice_get diagram.blocks block ≡ Some b
-        → is_shared diagram (attributes_of diagram) plan block ≡ true → element < (attributes_of diagram).width_at block 1 → HasProduct block b element
+        → is_shared diagram (attributes_of diagram) plan block ≡ true
+        → element < (attributes_of diagram).width_at block 1 → HasProduct block b element

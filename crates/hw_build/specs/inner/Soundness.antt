@@ -7,13 +7,16 @@ use Rattle.hw_net.specs.Circuit.{Circuit}
 use Rattle.hw_net.specs.Frames.{counter_of, frame_of}
 use Rattle.hw_net.specs.Netlist.{IsKind, reads}
 
--- a net has a word, what its kind needs where there are so many input ports, nets that it reads, and the Counter of its frame
+-- a net has a word, what its kind needs where there are so many input ports, nets that it reads,
+-- and the Counter of its frame
 pub record IsSoundNet (now : Circuit) (inputs : ℕ) (net : Net) : Type 0 where
   pub word : IsWord net.width net.signed
   pub kind : IsKind now.nets now.cycles inputs net.width net.signed net.kind
   pub there : All (λ read. read < length now.nets) (reads net.kind)
-  pub counted : (frame : Frame) → frame_of net.kind ≡ Some frame → IsSome (counter_of now.nets frame)
+  pub counted : (frame : Frame) → frame_of net.kind ≡ Some frame
+      → IsSome (counter_of now.nets frame)
 
 -- each net is, but those that wait for their arguments
 pub record AreSound (closed hubs : ℕ) (now : Circuit) (inputs : ℕ) : Type 0 where
-  pub each : (k : ℕ) (net : Net) → slice_get now.nets k ≡ Some net → ((closed ≤ k) × (k < hubs)) ⊎ IsSoundNet now inputs net
+  pub each : (k : ℕ) (net : Net) → slice_get now.nets k ≡ Some net → ((closed ≤ k) × (k < hubs))
+      ⊎ IsSoundNet now inputs net

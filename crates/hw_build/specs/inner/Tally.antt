@@ -26,18 +26,26 @@ use Rattle.hw_build.specs.inner.Spotted.{Spots}
 
 -- all nets read nets that are there
 pub record ReadThere (nets : List Net) : Type 0 where
-  pub each : (k : ℕ) (net : Net) (i read : ℕ) → slice_get nets k ≡ Some net → slice_get (reads net.kind) i ≡ Some read → read < length nets
+  pub each : (k : ℕ) (net : Net) (i read : ℕ) → slice_get nets k ≡ Some net
+      → slice_get (reads net.kind) i ≡ Some read → read < length nets
 
--- behind a wire stand the registers of a block's plan for an element, with their names, and none but the next one reads the wire and all but the last
-pub record IsPipelineAt (diagram : Diagram) (timing : Timing) (fence : ℕ) (now : Circuit) (block element period begin : ℕ) : Type 0 where
+-- behind a wire stand the registers of a block's plan for an element, with their names, and none
+-- but the next one reads the wire and all but the last
+pub record IsPipelineAt (diagram : Diagram) (timing : Timing) (fence : ℕ) (now : Circuit)
+    (block element period begin : ℕ) : Type 0 where
   pub past : fence ≤ begin
   pub size : begin + timing.stages block < length now.nets
   pub entry : ℕ
-  pub wire : slice_get now.nets begin ≡ Some (wire_of ((attributes_of diagram).type_at block 1) entry)
+  pub wire : slice_get now.nets begin
+      ≡ Some (wire_of ((attributes_of diagram).type_at block 1) entry)
   pub stage : (k : ℕ) → k < timing.stages block
-      → slice_get now.nets (begin + suc k) ≡ Some (stage_net ((attributes_of diagram).type_at block 1) (own_frame timing period block) (period * timing.cycles - 1) (begin + k))
+      → slice_get now.nets (begin + suc k)
+      ≡ Some (stage_net ((attributes_of diagram).type_at block 1) (own_frame timing period block)
+      (period * timing.cycles - 1) (begin + k))
   pub turn : AreReadInTurn now.nets begin (begin + timing.stages block)
-  pub named : (k : ℕ) → k < timing.stages block → Contains now.labels (record { net = begin + suc k; name = stage_name block element (suc k) })
+  pub named : (k : ℕ) → k < timing.stages block
+      → Contains now.labels
+      (record { net = begin + suc k; name = stage_name block element (suc k) })
 
 module _ (diagram : Diagram) (plan : Resolved) where
   -- the registers of an element of a block
@@ -47,14 +55,20 @@ module _ (diagram : Diagram) (plan : Resolved) where
 
   -- by the number of the net that readers name
   abbrev pub hub_registers : ℕ → ℕ
-  hub_registers k = if nat_lt k (length (root_inputs diagram (attributes_of diagram))) then 0 else registers_by (owner_of diagram k) (slice_get diagram.blocks (owner_of diagram k))
+  hub_registers k =
+      if nat_lt k (length (root_inputs diagram (attributes_of diagram))) then 0
+      else registers_by (owner_of diagram k) (slice_get diagram.blocks (owner_of diagram k))
 
   -- the multiplications of its own
   abbrev pub products_by : ℕ → ℕ
-  products_by block = if multiplies diagram block && not (is_shared diagram (attributes_of diagram) plan block) then 1 else 0
+  products_by block =
+      if multiplies diagram block && not (is_shared diagram (attributes_of diagram) plan block)
+      then 1 else 0
 
   abbrev pub hub_products : ℕ → ℕ
-  hub_products k = if nat_lt k (length (root_inputs diagram (attributes_of diagram))) then 0 else products_by (owner_of diagram k)
+  hub_products k =
+      if nat_lt k (length (root_inputs diagram (attributes_of diagram))) then 0
+      else products_by (owner_of diagram k)
 
 -- the number is that of a multiplication
 pub record IsOwnProduct (now : Circuit) (multiply : Option ℕ) : Type 0 where
@@ -68,7 +82,8 @@ pub record IsOwnProduct (now : Circuit) (multiply : Option ℕ) : Type 0 where
 -- the name of a multiplication of its own, if an element has one
 abbrev pub product_labels : ℕ → ℕ → Option ℕ → List NetLabel
 product_labels block element None = []
-product_labels block element (Some number) = record { net = number; name = multiplication_name block element } ∷ []
+product_labels block element (Some number) =
+    record { net = number; name = multiplication_name block element } ∷ []
 
 -- the names of an element's nets: of its multiplication, and of its registers from 1
 abbrev pub name_by : ℕ → ℕ → ℕ → List ℕ
@@ -87,22 +102,31 @@ pub record IsNameOf (firsts : List (List ℕ)) (closed : ℕ) (name : List ℕ) 
   pub early : hub_at firsts block 1 element < closed
 
 -- the labels are of nets that are there, each net and each name once
-pub record AreLabelled (firsts : List (List ℕ)) (labels : List NetLabel) (size closed : ℕ) : Type 0 where
+pub record AreLabelled (firsts : List (List ℕ)) (labels : List NetLabel)
+    (size closed : ℕ) : Type 0 where
   pub low : (label : NetLabel) → Contains labels label → label.net < size
   pub named : (label : NetLabel) → Contains labels label → IsNameOf firsts closed label.name
   pub nets_differ : AllPairs (λ one other. one.net ≢ other.net) labels
   pub names_differ : AllPairs (λ one other. one.name ≢ other.name) labels
 
 -- since the elements began, so many registers and multiplications were put in, and these pipelines
-pub record AreTallied (diagram : Diagram) (plan : Resolved) (timing : Timing) (firsts : List (List ℕ)) (start now : Circuit) (spots : Spots) : Type 0 where
+pub record AreTallied (diagram : Diagram) (plan : Resolved) (timing : Timing)
+    (firsts : List (List ℕ)) (start now : Circuit) (spots : Spots) : Type 0 where
   pub more : length start.nets ≤ length now.nets
   pub there : ReadThere now.nets
-  pub pipelines : (block : ℕ) (b : Block) (port element period : ℕ) → IsShown diagram (attributes_of diagram) block b port element
-      → hub_at firsts block port element < length spots.entries → (attributes_of diagram).period_at block ≡ Some period → 0 < timing.stages block
-      → IsPipelineAt diagram timing (length start.nets) now block element period (slice_index_or spots.stages (hub_at firsts block port element) 0)
-  pub registers : register_count now.nets ≤ register_count start.nets + before (hub_registers diagram plan) (length spots.entries)
-  pub own : length (others now) ≡ length (others start) + before (hub_products diagram plan) (length spots.entries)
+  pub pipelines : (block : ℕ) (b : Block) (port element period : ℕ)
+      → IsShown diagram (attributes_of diagram) block b port element
+      → hub_at firsts block port element < length spots.entries
+      → (attributes_of diagram).period_at block ≡ Some period → 0 < timing.stages block
+      → IsPipelineAt diagram timing (length start.nets) now block element period
+      (slice_index_or spots.stages (hub_at firsts block port element) 0)
+  pub registers : register_count now.nets ≤ register_count start.nets
+      + before (hub_registers diagram plan) (length spots.entries)
+  pub own : length (others now) ≡ length (others start)
+      + before (hub_products diagram plan) (length spots.entries)
   pub shared : multipliers now ≡ multipliers start
   pub labelled : AreLabelled firsts now.labels (length now.nets) (length spots.entries)
-  pub multiplied : (block : ℕ) (b : Block) (element : ℕ) → IsShown diagram (attributes_of diagram) block b 1 element
-      → hub_at firsts block 1 element < length spots.entries → products_by diagram plan block ≡ 1 → IsMultiplied now (multiplication_name block element)
+  pub multiplied : (block : ℕ) (b : Block) (element : ℕ)
+      → IsShown diagram (attributes_of diagram) block b 1 element
+      → hub_at firsts block 1 element < length spots.entries → products_by diagram plan block ≡ 1
+      → IsMultiplied now (multiplication_name block element)

@@ -19,7 +19,8 @@ use Rattle.hw_build.specs.inner.Facts.{line_count, HaveFacts}
 use Rattle.hw_build.specs.inner.Levels.{IsLevelled}
 use Rattle.hw_build.specs.inner.Soundness.{AreSound}
 
--- the levels of the hub of a block, of its lines and of its other nets, by the place of the block in the order of a checked diagram
+-- the levels of the hub of a block, of its lines and of its other nets, by the place of the block
+-- in the order of a checked diagram
 abbrev pub own_level : ℕ → ℕ
 own_level place = 3 * place + 1
 
@@ -29,32 +30,50 @@ hub_level place = 3 * place + 2
 abbrev pub line_level : ℕ → ℕ
 line_level place = 3 * place + 3
 
-module _ (diagram : Diagram) (places : Places) (place_of : ℕ → ℕ) (hubs : ℕ) (now : Circuit) (level : ℕ → ℕ) where
+module _ (diagram : Diagram) (places : Places) (place_of : ℕ → ℕ) (hubs : ℕ) (now : Circuit)
+    (level : ℕ → ℕ) where
   -- the hubs are the first nets, in the words of their elements
   pub record HaveHubs : Type 0 where
     pub there : hubs ≤ length now.nets
-    pub below : (block : ℕ) (b : Block) (port element : ℕ) → IsShown diagram (attributes_of diagram) block b port element → places.after block port element < hubs
-    pub words : (block : ℕ) (b : Block) (port element : ℕ) → IsShown diagram (attributes_of diagram) block b port element
-        → HasWord now.nets (places.after block port element) (width_of ((attributes_of diagram).type_at block port)) (is_signed ((attributes_of diagram).type_at block port))
-    pub levels : (block : ℕ) (b : Block) (port element : ℕ) → IsShown diagram (attributes_of diagram) block b port element → level (places.after block port element) ≤ hub_level (place_of block)
+    pub below : (block : ℕ) (b : Block) (port element : ℕ)
+        → IsShown diagram (attributes_of diagram) block b port element
+        → places.after block port element < hubs
+    pub words : (block : ℕ) (b : Block) (port element : ℕ)
+        → IsShown diagram (attributes_of diagram) block b port element
+        → HasWord now.nets (places.after block port element)
+        (width_of ((attributes_of diagram).type_at block port))
+        (is_signed ((attributes_of diagram).type_at block port))
+    pub levels : (block : ℕ) (b : Block) (port element : ℕ)
+        → IsShown diagram (attributes_of diagram) block b port element
+        → level (places.after block port element) ≤ hub_level (place_of block)
 
-  -- what ends of blocks are offered has the words of their sources, and stands above these at the most as their lines do
+  -- what ends of blocks are offered has the words of their sources, and stands above these at the
+  -- most as their lines do
   pub record HaveOperands : Type 0 where
-    pub there : (block : ℕ) (b : Block) (port element : ℕ) (edge : Edge) → slice_get diagram.blocks block ≡ Some b → 1 ≤ shown_ports b.kind b.outputs
+    pub there : (block : ℕ) (b : Block) (port element : ℕ) (edge : Edge)
+        → slice_get diagram.blocks block ≡ Some b → 1 ≤ shown_ports b.kind b.outputs
         → 1 ≤ port → port ≤ b.inputs → driver_of diagram block port ≡ Some edge
         → element < line_count diagram block b port edge
-        → HasWord now.nets (places.offered block port element) (width_of ((attributes_of diagram).type_at edge.from edge.from_port))
+        → HasWord now.nets (places.offered block port element)
+        (width_of ((attributes_of diagram).type_at edge.from edge.from_port))
         (is_signed ((attributes_of diagram).type_at edge.from edge.from_port))
-    pub levels : (block : ℕ) (b : Block) (port element : ℕ) (edge : Edge) → slice_get diagram.blocks block ≡ Some b → 1 ≤ shown_ports b.kind b.outputs
+    pub levels : (block : ℕ) (b : Block) (port element : ℕ) (edge : Edge)
+        → slice_get diagram.blocks block ≡ Some b → 1 ≤ shown_ports b.kind b.outputs
         → 1 ≤ port → port ≤ b.inputs → driver_of diagram block port ≡ Some edge
-        → element < line_count diagram block b port edge → level (places.offered block port element) ≤ line_level (place_of edge.from)
-    pub enables : (block : ℕ) (b : Block) (control : ℕ) → slice_get diagram.blocks block ≡ Some b → Feeds diagram block b Enable control
-        → HasWord now.nets (places.enable block) (width_of ((attributes_of diagram).type_at control 1)) (is_signed ((attributes_of diagram).type_at control 1))
-    pub enable_levels : (block : ℕ) (b : Block) (control : ℕ) → slice_get diagram.blocks block ≡ Some b → Feeds diagram block b Enable control
+        → element < line_count diagram block b port edge
+        → level (places.offered block port element) ≤ line_level (place_of edge.from)
+    pub enables : (block : ℕ) (b : Block) (control : ℕ) → slice_get diagram.blocks block ≡ Some b
+        → Feeds diagram block b Enable control
+        → HasWord now.nets (places.enable block)
+        (width_of ((attributes_of diagram).type_at control 1))
+        (is_signed ((attributes_of diagram).type_at control 1))
+    pub enable_levels : (block : ℕ) (b : Block) (control : ℕ)
+        → slice_get diagram.blocks block ≡ Some b → Feeds diagram block b Enable control
         → level (places.enable block) ≤ line_level (place_of control)
 
 -- the first `count` blocks have their elements, and the hubs below `closed` their arguments
-pub record IsUnderWay (diagram : Diagram) (timing : Timing) (places : Places) (place_of : ℕ → ℕ) (closed hubs : ℕ) (now : Circuit) (level : ℕ → ℕ) (count : ℕ) : Type 0 where
+pub record IsUnderWay (diagram : Diagram) (timing : Timing) (places : Places) (place_of : ℕ → ℕ)
+    (closed hubs : ℕ) (now : Circuit) (level : ℕ → ℕ) (count : ℕ) : Type 0 where
   pub facts : HaveFacts diagram timing places closed hubs now count
   pub hubs_are : HaveHubs diagram places place_of hubs now level
   pub operands : HaveOperands diagram places place_of hubs now level

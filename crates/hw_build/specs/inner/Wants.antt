@@ -1,5 +1,5 @@
--- What ends of blocks want of sources that are shown later, and which nets meet it (own).
--- Wants of one feed, which is a hub with its frames and with what its registers have first, share a chain.
+-- What ends of blocks want of sources that are shown later, and which nets meet it (own). Wants of
+-- one feed, which is a hub with its frames and with what its registers have first, share a chain.
 use Rattle.std.specs.Prelude.{◌≡◌, ℕ, zero, suc, ◌+◌, ◌<◌, ◌≤◌, ◌⊎◌, ◌≢◌, ◌++◌, ◌∷◌, if◌then◌else◌, take, ℤ, pos, true, Bool, All, List, [], length, Option, None, Some, is_some, slice_get, map, ⊤}
 use Rattle.hw_net.specs.Circuit.{Circuit}
 use Rattle.hw_net.specs.declared.netlist.Frame.{Frame}
@@ -56,18 +56,24 @@ pub record HasFeed (classes : List Class) (feed : Feed) (number : ℕ) : Type 0 
 
 -- the class of a feed, which is put behind the others if need be
 pub record IsClassFor (old new : List Class) (feed : Feed) (number : ℕ) : Type 0 where
-  pub grown : (new ≡ old) ⊎ ((one : Class) × (new ≡ old ++ one ∷ []) × (one.uses.items ≡ []) × (number ≡ length old) × ((c : ℕ) (other : Class) → slice_get old c ≡ Some other → other.feed ≢ feed))
+  pub grown : (new ≡ old)
+      ⊎ ((one : Class) × (new ≡ old ++ one ∷ []) × (one.uses.items ≡ []) × (number ≡ length old)
+      × ((c : ℕ) (other : Class) → slice_get old c ≡ Some other → other.feed ≢ feed))
   pub has : HasFeed new feed number
 
 -- an index has the class of each feed
 pub record AreIndexed (classes : List Class) (index : List (Feed × ℕ)) : Type 0 where
-  pub found : (feed : Feed) (number : ℕ) → number_at_feed index feed ≡ Some number → HasFeed classes feed number
-  pub none : (feed : Feed) → number_at_feed index feed ≡ None → (c : ℕ) (one : Class) → slice_get classes c ≡ Some one → one.feed ≢ feed
+  pub found : (feed : Feed) (number : ℕ) → number_at_feed index feed ≡ Some number
+      → HasFeed classes feed number
+  pub none : (feed : Feed) → number_at_feed index feed ≡ None → (c : ℕ) (one : Class)
+      → slice_get classes c ≡ Some one → one.feed ≢ feed
 
 -- the uses of a feed, in the order of their wants
 abbrev pub uses_of_feed : Feed → List Want → List Use
 uses_of_feed feed [] = []
-uses_of_feed feed (want ∷ wants) = if is_same_feed feed want.feed then want.to ∷ uses_of_feed feed wants else uses_of_feed feed wants
+uses_of_feed feed (want ∷ wants) =
+    if is_same_feed feed want.feed then want.to ∷ uses_of_feed feed wants
+    else uses_of_feed feed wants
 
 -- a class is that of a want, and has all of its feed
 pub record IsFolded (wants : List Want) (one : Class) : Type 0 where
@@ -79,9 +85,11 @@ pub record IsFolded (wants : List Want) (one : Class) : Type 0 where
 
 -- wants of one feed have one class
 pub record AreFolded (wants : List Want) (classes : List Class) : Type 0 where
-  pub differ : (c d : ℕ) (one other : Class) → c < d → slice_get classes c ≡ Some one → slice_get classes d ≡ Some other → one.feed ≢ other.feed
+  pub differ : (c d : ℕ) (one other : Class) → c < d → slice_get classes c ≡ Some one
+      → slice_get classes d ≡ Some other → one.feed ≢ other.feed
   pub each : (c : ℕ) (one : Class) → slice_get classes c ≡ Some one → IsFolded wants one
-  pub covered : (k : ℕ) (want : Want) → slice_get wants k ≡ Some want → (number : ℕ) × HasFeed classes want.feed number
+  pub covered : (k : ℕ) (want : Want) → slice_get wants k ≡ Some want → (number : ℕ)
+      × HasFeed classes want.feed number
 
 -- a want has its place in a class
 pub record IsSeat (classes : List Class) (want : Want) (seat : Seat) : Type 0 where
@@ -93,7 +101,8 @@ pub record IsSeat (classes : List Class) (want : Want) (seat : Seat) : Type 0 wh
 -- classes keep their feeds, and their uses the places
 pub record KeepsUses (old new : Class) : Type 0 where
   pub same : new.feed ≡ old.feed
-  pub uses : (p : ℕ) (one : Use) → slice_get old.uses.items p ≡ Some one → slice_get new.uses.items p ≡ Some one
+  pub uses : (p : ℕ) (one : Use) → slice_get old.uses.items p ≡ Some one
+      → slice_get new.uses.items p ≡ Some one
 
 pub record KeepsClass (new : List Class) (c : ℕ) (old : Class) : Type 0 where
   pub one : Class
@@ -111,9 +120,11 @@ pub record IsSeated (old new : List Class) (want : Want) (seat : Seat) : Type 0 
   pub folded : (wants : List Want) → AreFolded wants old → AreFolded (wants ++ want ∷ []) new
 
 -- the first wants have
-pub record AreSeated (wants : List Want) (classes : List Class) (seats : List Seat) (count : ℕ) : Type 0 where
+pub record AreSeated (wants : List Want) (classes : List Class) (seats : List Seat)
+    (count : ℕ) : Type 0 where
   pub size : length seats ≡ count
-  pub each : (k : ℕ) (want : Want) (seat : Seat) → slice_get wants k ≡ Some want → slice_get seats k ≡ Some seat → IsSeat classes want seat
+  pub each : (k : ℕ) (want : Want) (seat : Seat) → slice_get wants k ≡ Some want
+      → slice_get seats k ≡ Some seat → IsSeat classes want seat
   pub sound : (net : Circuit) → AreWants net wants → AreClasses net classes
   pub folded : AreFolded (take count wants) classes
 
@@ -127,8 +138,10 @@ pub record IsBegun (closed hubs ports : ℕ) (now : Circuit) (level : ℕ → �
   pub levelled : IsLevelled now.nets level
   pub differ : CountersDiffer now.nets
 
--- the net of this number meets a want: a chain that was put in once answered it, it has the word of its hub and stands at the most one level above it, a register on level 0
-pub record IsMetBy (closed hubs : ℕ) (now : Circuit) (level : ℕ → ℕ) (feed : Feed) (one : Use) (number : ℕ) : Type 0 where
+-- the net of this number meets a want: a chain that was put in once answered it, it has the word of
+-- its hub and stands at the most one level above it, a register on level 0
+pub record IsMetBy (closed hubs : ℕ) (now : Circuit) (level : ℕ → ℕ) (feed : Feed) (one : Use)
+    (number : ℕ) : Type 0 where
   pub was : Circuit
   pub next : Circuit
   pub small : hubs ≤ length was.nets
@@ -136,25 +149,31 @@ pub record IsMetBy (closed hubs : ℕ) (now : Circuit) (level : ℕ → ℕ) (fe
   pub cycles : was.cycles ≡ now.cycles
   pub goes : GoesOn closed hubs next now
   pub answer : IsAnswer was next (source_by feed) (reader_of (source_by feed) one) number
-  pub word : (width : ℕ) (signed : Bool) → HasWord now.nets feed.hub width signed → HasWord now.nets number width signed
+  pub word : (width : ℕ) (signed : Bool) → HasWord now.nets feed.hub width signed
+      → HasWord now.nets number width signed
   pub source_inside : feed.hub < length now.nets
   pub inside : number < length now.nets
   pub low : level number ≤ level feed.hub + 1
   pub late : is_some feed.first ≡ true → level number ≡ 0
 
 -- the netlist goes on from another, on levels that stay
-pub record GoesOnBegun (closed hubs ports : ℕ) (before : Circuit) (level : ℕ → ℕ) (now : Circuit) (next : ℕ → ℕ) : Type 0 where
+pub record GoesOnBegun (closed hubs ports : ℕ) (before : Circuit) (level : ℕ → ℕ) (now : Circuit)
+    (next : ℕ → ℕ) : Type 0 where
   pub begun : IsBegun closed hubs ports now next
   pub same : (k : ℕ) → k < length before.nets → next k ≡ level k
 
 -- the nets of a class meet it
-pub record IsClassMet (closed hubs : ℕ) (now : Circuit) (level : ℕ → ℕ) (one : Class) (numbers : List ℕ) : Type 0 where
-  pub each : (p : ℕ) (asked : Use) (number : ℕ) → slice_get one.uses.items p ≡ Some asked → slice_get numbers p ≡ Some number → IsMetBy closed hubs now level one.feed asked number
+pub record IsClassMet (closed hubs : ℕ) (now : Circuit) (level : ℕ → ℕ) (one : Class)
+    (numbers : List ℕ) : Type 0 where
+  pub each : (p : ℕ) (asked : Use) (number : ℕ) → slice_get one.uses.items p ≡ Some asked
+      → slice_get numbers p ≡ Some number → IsMetBy closed hubs now level one.feed asked number
 
-pub record AreClassesMet (closed hubs ports : ℕ) (before : Circuit) (level : ℕ → ℕ) (now : Circuit) (classes : List Class) (answers : List (List ℕ)) : Type 0 where
+pub record AreClassesMet (closed hubs ports : ℕ) (before : Circuit) (level : ℕ → ℕ) (now : Circuit)
+    (classes : List Class) (answers : List (List ℕ)) : Type 0 where
   pub next : ℕ → ℕ
   pub goes : GoesOnBegun closed hubs ports before level now next
-  pub each : (c : ℕ) (one : Class) (numbers : List ℕ) → slice_get classes c ≡ Some one → slice_get answers c ≡ Some numbers → IsClassMet closed hubs now next one numbers
+  pub each : (c : ℕ) (one : Class) (numbers : List ℕ) → slice_get classes c ≡ Some one
+      → slice_get answers c ≡ Some numbers → IsClassMet closed hubs now next one numbers
 
 -- what a chain puts in: no multiplication, and no register that is enabled
 abbrev pub IsLinePart : NetKind → Type 0
@@ -167,37 +186,47 @@ IsLinePart (Counter frame) = ⊤
 
 -- that is all that stands behind a netlist
 pub record AreLineParts (before now : Circuit) : Type 0 where
-  pub each : (k : ℕ) (net : Net) → length before.nets ≤ k → slice_get now.nets k ≡ Some net → IsLinePart net.kind
+  pub each : (k : ℕ) (net : Net) → length before.nets ≤ k → slice_get now.nets k ≡ Some net
+      → IsLinePart net.kind
 
 -- each Counter that was put in counts a frame of a class
 pub record AreCounted (before now : Circuit) (classes : List Class) : Type 0 where
-  pub each : (k : ℕ) (net : Net) (frame : Frame) → length before.nets ≤ k → slice_get now.nets k ≡ Some net → net.kind ≡ Counter frame
-      → (c : ℕ) × (one : Class) × (slice_get classes c ≡ Some one) × IsCountedIn (source_by one.feed) one.uses.items frame
+  pub each : (k : ℕ) (net : Net) (frame : Frame) → length before.nets ≤ k
+      → slice_get now.nets k ≡ Some net → net.kind ≡ Counter frame
+      → (c : ℕ) × (one : Class) × (slice_get classes c ≡ Some one)
+      × IsCountedIn (source_by one.feed) one.uses.items frame
 
 -- the registers of the chain of a class, and of the first classes, at the most
 abbrev pub class_registers : Option Class → ℕ
 class_registers None = 0
-class_registers (Some one) = most_frames one.feed.frame.period one.uses.items + different (map (reader_of (source_by one.feed)) one.uses.items)
+class_registers (Some one) =
+    most_frames one.feed.frame.period one.uses.items
+    + different (map (reader_of (source_by one.feed)) one.uses.items)
 
 abbrev pub registers_below : List Class → ℕ → ℕ
 registers_below classes zero = 0
 registers_below classes (suc n) = registers_below classes n + class_registers (slice_get classes n)
 
 -- the first classes have their nets
-pub record AreAnswered (before now : Circuit) (classes : List Class) (answers : List (List ℕ)) (count : ℕ) : Type 0 where
+pub record AreAnswered (before now : Circuit) (classes : List Class) (answers : List (List ℕ))
+    (count : ℕ) : Type 0 where
   pub size : length answers ≡ count
   pub extends : Extends before now
-  pub counts : (c : ℕ) (one : Class) (numbers : List ℕ) → slice_get classes c ≡ Some one → slice_get answers c ≡ Some numbers → length numbers ≡ length one.uses.items
+  pub counts : (c : ℕ) (one : Class) (numbers : List ℕ) → slice_get classes c ≡ Some one
+      → slice_get answers c ≡ Some numbers → length numbers ≡ length one.uses.items
   pub parts : AreLineParts before now
   pub counted : AreCounted before now classes
   pub few : register_count now.nets ≤ register_count before.nets + registers_below classes count
-  pub met : (closed hubs ports : ℕ) (level : ℕ → ℕ) → IsBegun closed hubs ports before level → AreClassesMet closed hubs ports before level now classes answers
+  pub met : (closed hubs ports : ℕ) (level : ℕ → ℕ) → IsBegun closed hubs ports before level
+      → AreClassesMet closed hubs ports before level now classes answers
 
 -- the wants have theirs
-pub record AreWantsMet (closed hubs ports : ℕ) (before : Circuit) (level : ℕ → ℕ) (now : Circuit) (wants : List Want) (numbers : List ℕ) : Type 0 where
+pub record AreWantsMet (closed hubs ports : ℕ) (before : Circuit) (level : ℕ → ℕ) (now : Circuit)
+    (wants : List Want) (numbers : List ℕ) : Type 0 where
   pub next : ℕ → ℕ
   pub goes : GoesOnBegun closed hubs ports before level now next
-  pub each : (k : ℕ) (want : Want) (number : ℕ) → slice_get wants k ≡ Some want → slice_get numbers k ≡ Some number → IsMetBy closed hubs now next want.feed want.to number
+  pub each : (k : ℕ) (want : Want) (number : ℕ) → slice_get wants k ≡ Some want
+      → slice_get numbers k ≡ Some number → IsMetBy closed hubs now next want.feed want.to number
 
 pub record AreMet (before now : Circuit) (wants : List Want) (numbers : List ℕ) : Type 0 where
   pub size : length numbers ≡ length wants
@@ -206,14 +235,19 @@ pub record AreMet (before now : Circuit) (wants : List Want) (numbers : List ℕ
   pub classes : List Class
   pub folded : AreFolded wants classes
   pub counted : AreCounted before now classes
-  pub few : register_count now.nets ≤ register_count before.nets + registers_below classes (length classes)
-  pub met : (closed hubs ports : ℕ) (level : ℕ → ℕ) → IsBegun closed hubs ports before level → AreWantsMet closed hubs ports before level now wants numbers
+  pub few : register_count now.nets ≤ register_count before.nets
+      + registers_below classes (length classes)
+  pub met : (closed hubs ports : ℕ) (level : ℕ → ℕ) → IsBegun closed hubs ports before level
+      → AreWantsMet closed hubs ports before level now wants numbers
 
 -- the nets of the first wants are those at their places
-pub record AreTaken (seats : List Seat) (answers : List (List ℕ)) (numbers : List ℕ) (count : ℕ) : Type 0 where
+pub record AreTaken (seats : List Seat) (answers : List (List ℕ)) (numbers : List ℕ)
+    (count : ℕ) : Type 0 where
   pub size : length numbers ≡ count
-  pub each : (k : ℕ) (seat : Seat) (number : ℕ) → slice_get seats k ≡ Some seat → slice_get numbers k ≡ Some number
-      → (own : List ℕ) × (slice_get answers seat.class ≡ Some own) × (slice_get own seat.place ≡ Some number)
+  pub each : (k : ℕ) (seat : Seat) (number : ℕ) → slice_get seats k ≡ Some seat
+      → slice_get numbers k ≡ Some number
+      → (own : List ℕ) × (slice_get answers seat.class ≡ Some own)
+      × (slice_get own seat.place ≡ Some number)
 
 -- a chain was put in for a class
 pub record IsClassAnswered (before after : Circuit) (one : Class) (numbers : List ℕ) : Type 0 where

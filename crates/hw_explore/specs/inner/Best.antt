@@ -10,9 +10,12 @@ pub record IsBestAt (rows : List Finding) (upto : ℕ) (best : Best) : Type 0 wh
   pub finding : Finding
   pub there : slice_get rows best.place ≡ Some finding
   pub ranked : IsRanked finding best.rank
-  pub least : (k : ℕ) (other : Finding) (better : Rank) → k < upto → slice_get rows k ≡ Some other → IsRanked other better → ¬ IsBetter better best.rank
+  pub least : (k : ℕ) (other : Finding) (better : Rank) → k < upto → slice_get rows k ≡ Some other
+      → IsRanked other better → ¬ IsBetter better best.rank
 
 -- that, or none of the first findings is of a good plan
 abbrev pub IsBest : List Finding → ℕ → Option Best → Type 0
-IsBest rows upto None = (k : ℕ) (finding : Finding) (rank : Rank) → k < upto → slice_get rows k ≡ Some finding → ¬ IsRanked finding rank
+IsBest rows upto None =
+    (k : ℕ) (finding : Finding) (rank : Rank) → k < upto → slice_get rows k ≡ Some finding
+    → ¬ IsRanked finding rank
 IsBest rows upto (Some best) = IsBestAt rows upto best

@@ -12,7 +12,8 @@ abbrev pub IsTimed : Diagram → Resolved → Timed → Type 0
 IsTimed diagram plan (Kept latencies) = AreLatencies diagram plan latencies
 IsTimed diagram plan (Gaining blocks total) = IsCycleTold diagram plan blocks total
 
--- they are those by a plan of each way to share multiplications: none, those of periods above 1, all
+-- they are those by a plan of each way to share multiplications: none, those of periods above 1,
+-- all
 pub record AreTimed (diagram : Diagram) (timed : BySharing) : Type 0 where
   pub none : IsTimed diagram (plain_plan diagram 1 0) timed.none
   pub slower : IsTimed diagram (plain_plan diagram 1 1) timed.slower

@@ -17,27 +17,33 @@ pub record IsAnyMarked (marks : List Bool) (row : List ℕ) : Type 0 where
 
 -- none of the first ones is
 pub record AreUnmarked (marks : List Bool) (row : List ℕ) (count : ℕ) : Type 0 where
-  pub unmarked : (place source : ℕ) → place < count → slice_get row place ≡ Some source → is_marked marks source ≡ false
+  pub unmarked : (place source : ℕ) → place < count → slice_get row place ≡ Some source
+      → is_marked marks source ≡ false
 
 -- the marks are right of the first blocks of an order
-pub record AreFedTo (diagram : Diagram) (attributes : Attributes) (plan : Resolved) (order : List ℕ) (count : ℕ) (fed : List Bool) : Type 0 where
+pub record AreFedTo (diagram : Diagram) (attributes : Attributes) (plan : Resolved) (order : List ℕ)
+    (count : ℕ) (fed : List Bool) : Type 0 where
   pub size : length fed ≡ length diagram.blocks
   pub sound : (place : ℕ) → is_marked fed place ≡ true → IsFed diagram attributes plan place
-  pub whole : (k place : ℕ) → k < count → slice_get order k ≡ Some place → IsFed diagram attributes plan place → is_marked fed place ≡ true
+  pub whole : (k place : ℕ) → k < count → slice_get order k ≡ Some place
+      → IsFed diagram attributes plan place → is_marked fed place ≡ true
 
 -- each is below a count
 pub record AreBelow (row : List ℕ) (count : ℕ) : Type 0 where
   pub below : (place source : ℕ) → slice_get row place ≡ Some source → source < count
 
 -- the mark of a block that reads those of a row
-pub record IsMark (diagram : Diagram) (plan : Resolved) (marks : List Bool) (row : List ℕ) (place : ℕ) (mark : Bool) : Type 0 where
-  pub yes : mark ≡ true → (is_shared diagram (attributes_of diagram) plan place ≡ true) ⊎ IsAnyMarked marks row
+pub record IsMark (diagram : Diagram) (plan : Resolved) (marks : List Bool) (row : List ℕ)
+    (place : ℕ) (mark : Bool) : Type 0 where
+  pub yes : mark ≡ true → (is_shared diagram (attributes_of diagram) plan place ≡ true)
+      ⊎ IsAnyMarked marks row
   pub own : mark ≡ false → is_shared diagram (attributes_of diagram) plan place ≡ false
   pub none : mark ≡ false → AreUnmarked marks row (length row)
 
 -- the same of a diagram
 abbrev pub AreFedUpTo : Diagram → Resolved → List ℕ → ℕ → List Bool → Type 0
-AreFedUpTo diagram plan order count fed = AreFedTo diagram (attributes_of diagram) plan order count fed
+AreFedUpTo diagram plan order count fed =
+    AreFedTo diagram (attributes_of diagram) plan order count fed
 
 -- a block stands at this place of an order
 pub record IsNext (diagram : Diagram) (order : List ℕ) (i place : ℕ) : Type 0 where

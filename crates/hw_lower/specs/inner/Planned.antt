@@ -162,8 +162,10 @@ pub record IsMade (old new : List Step) (word : Word) (P : Numbers → Type 0)
   pub has_word : made.word ≡ word
   pub gives : Gives new P
 
--- the operand is one of the plan that has grown: what the operation gives of the three, cut to the word
-abbrev pub IsGiven : List Step → List Step → NetOp → Operand → Operand → Operand → Word → Operand → Type 0
+-- the operand is one of the plan that has grown: what the operation gives of the three, cut to the
+-- word
+abbrev pub IsGiven : List Step → List Step → NetOp → Operand → Operand → Operand → Word → Operand
+    → Type 0
 IsGiven old new op first second third word made =
     IsMade old new word (λ numbers.
     IsWrapped (given_by op no_inputs (three numbers first second third)) word.width word.signed
@@ -208,8 +210,8 @@ IsRounded mode old new from by made =
     IsMade old new from.word (λ numbers.
     Rounds mode (numbers from.place) (2 ^ by) (numbers made.place)) made
 
--- the operand is one of the plan that has grown: the given value, or the greatest number of its word
--- where the given one by a power of two is above that
+-- the operand is one of the plan that has grown: the given value, or the greatest number of its
+-- word where the given one by a power of two is above that
 abbrev pub HoldsBelow : List Step → List Step → Operand → ℕ → Operand → Operand → Type 0
 HoldsBelow old new from up value made =
     IsMade old new value.word (λ numbers.
@@ -242,7 +244,8 @@ pub record CanRaise (plan : List Step) (from : Operand) (by : ℕ) (carry : Oper
   pub some : 1 ≤ by
 
 -- the bits are there by which a step without some of its bits is rounded
-pub record CanPassTie (plan : List Step) (from : Operand) (by : ℕ) (half tie : Operand) : Type 0 where
+pub record CanPassTie (plan : List Step) (from : Operand) (by : ℕ)
+    (half tie : Operand) : Type 0 where
   pub at : IsAt plan from
   pub first : IsAt plan half
   pub half_bit : half.word ≡ bit_word

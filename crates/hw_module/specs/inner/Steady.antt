@@ -9,12 +9,13 @@ use Rattle.vl_ast.specs.Value.{bits_of}
 use Rattle.vl_ast.specs.Driven.{IsEnabled}
 use Rattle.vl_ast.specs.Windows.{Window, row_at}
 
-pub record IsSteadyRun (m : Module) (diagram : Diagram) (samples : ℕ) (window : Window) (stimulus : Stimulus) (table : Table) (rows : Rows) : Type 0 where
+pub record IsSteadyRun (m : Module) (diagram : Diagram) (samples : ℕ) (window : Window)
+    (stimulus : Stimulus) (table : Table) (rows : Rows) : Type 0 where
   pub run : IsDrivenRun m diagram samples window stimulus table rows
   pub enabled : IsEnabled window run.inputs
 
--- in each row from one place to before another that stands among the rows, the name has the bits of the number
--- in its width
+-- in each row from one place to before another that stands among the rows, the name has the bits of
+-- the number in its width
 abbrev pub ShowsThroughout : Window → Rows → List ℕ → ℕ → ℤ → ℕ → ℕ → Type 0
 ShowsThroughout window rows name width number from until =
     (place : ℕ) → from ≤ place → place < until → row_at window place < window.rows

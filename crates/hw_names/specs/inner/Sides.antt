@@ -24,7 +24,8 @@ width_on Outputs diagram block = width_into diagram (attributes_of diagram) bloc
 
 -- the elements in order
 abbrev pub elements_on : Side → Diagram → List RootElement
-elements_on side diagram = root_elements (number_on side) (width_on side diagram) diagram (attributes_of diagram)
+elements_on side diagram =
+    root_elements (number_on side) (width_on side diagram) diagram (attributes_of diagram)
 
 -- the names that they want
 abbrev pub wanted_on : Side → Diagram → List (List ℕ)
@@ -35,12 +36,17 @@ abbrev pub name_wanted : List ℕ → ℕ → ℕ → List ℕ
 name_wanted path width element = port_name (element_name (undoubled false path) width element)
 
 -- a name more, for what wants this one
-pub record AddsName (wanted : List ℕ) (old new : Names) (earlier later : List (List ℕ)) : Type 0 where
+pub record AddsName (wanted : List ℕ) (old new : Names)
+    (earlier later : List (List ℕ)) : Type 0 where
   pub name : List ℕ
   pub is : later ≡ earlier ++ name ∷ []
-  pub given : (list : List (List ℕ)) → AreTaken old list → IsGiven list wanted name × AreTaken new (name ∷ list)
+  pub given : (list : List (List ℕ)) → AreTaken old list → IsGiven list wanted name
+      × AreTaken new (name ∷ list)
 
 -- the first so many of them are given names behind those that were given before
-pub record AddsNames (diagram : Diagram) (side : Side) (old new : Names) (earlier later : List (List ℕ)) (count : ℕ) : Type 0 where
-  pub added : (list wanted : List (List ℕ)) → AreTaken old (taken_by list earlier) → Given list wanted earlier
-      → Given list (wanted ++ take count (wanted_on side diagram)) later × AreTaken new (taken_by list later)
+pub record AddsNames (diagram : Diagram) (side : Side) (old new : Names)
+    (earlier later : List (List ℕ)) (count : ℕ) : Type 0 where
+  pub added : (list wanted : List (List ℕ)) → AreTaken old (taken_by list earlier)
+      → Given list wanted earlier
+      → Given list (wanted ++ take count (wanted_on side diagram)) later
+      × AreTaken new (taken_by list later)

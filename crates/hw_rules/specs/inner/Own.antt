@@ -8,7 +8,8 @@ use Rattle.hw_latency.specs.Shared.{multiplies, is_shared}
 -- each of its elements, or none
 abbrev pub own_at : Diagram → Resolved → ℕ → ℕ
 own_at diagram plan place =
-    if multiplies diagram place && not (is_shared diagram (attributes_of diagram) plan place) then (attributes_of diagram).width_at place 1 else 0
+    if multiplies diagram place && not (is_shared diagram (attributes_of diagram) plan place)
+    then (attributes_of diagram).width_at place 1 else 0
 
 -- so many as one of the first numbers says and one more, and no number is more
 pub record IsCount (units : List ℕ) (upto count : ℕ) : Type 0 where

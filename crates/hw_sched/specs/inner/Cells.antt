@@ -16,7 +16,9 @@ use Rattle.hw_sched.specs.inner.Keys.{key_of, number_at}
 
 -- the number of a kind in a list, if it stands there
 abbrev pub number_in : List OperationKind → OperationKind → Option ℕ
-number_in kinds kind = if nat_lt 0 (count_by (is_same_kind kind) kinds) then Some (length (before_kind kind kinds)) else None
+number_in kinds kind =
+    if nat_lt 0 (count_by (is_same_kind kind) kinds) then Some (length (before_kind kind kinds))
+    else None
 
 -- the numbers of kinds are those in a list
 pub record AreKinds (kinds : List OperationKind) (numbers : KindNumbers) : Type 0 where
@@ -24,7 +26,8 @@ pub record AreKinds (kinds : List OperationKind) (numbers : KindNumbers) : Type 
   pub count : numbers.count ≡ length kinds
 
 -- what operations are numbered by: a plan of the diagram, and a latency and a depth of each block
-pub record AreKnown (diagram : Diagram) (by : Resolved) (late : Latencies) (deep : List ℕ) : Type 0 where
+pub record AreKnown (diagram : Diagram) (by : Resolved) (late : Latencies)
+    (deep : List ℕ) : Type 0 where
   pub plan : IsPlanOf diagram by
   pub lat : length late.lat ≡ length diagram.blocks
   pub depths : length deep ≡ length diagram.blocks
@@ -37,16 +40,23 @@ pub record IsSort (diagram : Diagram) (timing : Timing) (place : ℕ) (sort : So
 
 -- the shared operations of a block
 abbrev pub shared_at : Diagram → Resolved → ℕ → List Operation
-shared_at diagram plan place = if is_shared diagram (attributes_of diagram) plan place then operations_of (attributes_of diagram) place else []
+shared_at diagram plan place =
+    if is_shared diagram (attributes_of diagram) plan place
+    then operations_of (attributes_of diagram) place else []
 
 -- the shared operations but for these are numbered
-pub record AreCellsBut (diagram : Diagram) (plan : Resolved) (timing : Timing) (rest : List Operation) (cells : Cells) : Type 0 where
+pub record AreCellsBut (diagram : Diagram) (plan : Resolved) (timing : Timing)
+    (rest : List Operation) (cells : Cells) : Type 0 where
   pub kinds : List OperationKind
   pub numbers : AreKinds kinds cells.numbers
-  pub left : kinds_of diagram (attributes_of diagram) timing kinds rest ≡ all_kinds diagram (attributes_of diagram) plan timing
-  pub listed : cells.operations.items ++ map (cell_of diagram (attributes_of diagram) plan timing) rest ≡ cells_of diagram (attributes_of diagram) plan timing
+  pub left : kinds_of diagram (attributes_of diagram) timing kinds rest
+      ≡ all_kinds diagram (attributes_of diagram) plan timing
+  pub listed : cells.operations.items
+      ++ map (cell_of diagram (attributes_of diagram) plan timing) rest
+      ≡ cells_of diagram (attributes_of diagram) plan timing
 
 -- all are, and so many kinds they have
-pub record AreCells (diagram : Diagram) (plan : Resolved) (timing : Timing) (cells : Cells) : Type 0 where
+pub record AreCells (diagram : Diagram) (plan : Resolved) (timing : Timing)
+    (cells : Cells) : Type 0 where
   pub listed : cells.operations.items ≡ cells_of diagram (attributes_of diagram) plan timing
   pub kinds : cells.numbers.count ≡ length (all_kinds diagram (attributes_of diagram) plan timing)

@@ -55,13 +55,16 @@ abbrev pub own_depth : Bool → ℕ → ℕ
 own_depth shared best = if shared then suc best else best
 
 -- the depth of a block by those of the blocks that it reads
-pub record IsNextDepth (diagram : Diagram) (plan : Resolved) (depths : List ℕ) (place depth : ℕ) : Type 0 where
+pub record IsNextDepth (diagram : Diagram) (plan : Resolved) (depths : List ℕ)
+    (place depth : ℕ) : Type 0 where
   pub best : ℕ
   pub greatest : IsGreatest (IsReadBy diagram place) depths best
   pub is : depth ≡ own_depth (is_shared diagram (attributes_of diagram) plan place) best
 
 -- the depths of the first blocks of an order are known
-pub record AreDepthsTo (diagram : Diagram) (plan : Resolved) (order : List ℕ) (count : ℕ) (depths : List ℕ) : Type 0 where
+pub record AreDepthsTo (diagram : Diagram) (plan : Resolved) (order : List ℕ) (count : ℕ)
+    (depths : List ℕ) : Type 0 where
   pub size : length depths ≡ length diagram.blocks
-  pub are : (k place : ℕ) → k < count → slice_get order k ≡ Some place → IsDepth diagram (attributes_of diagram) plan place (depth_at depths place)
+  pub are : (k place : ℕ) → k < count → slice_get order k ≡ Some place
+      → IsDepth diagram (attributes_of diagram) plan place (depth_at depths place)
   pub small : (place : ℕ) → depth_at depths place ≤ count

@@ -21,7 +21,13 @@ word_of Logical = None
 
 -- a kind by these parts
 abbrev pub key_of : OperationKind → KindKey
-key_of kind = record { period = kind.period; lat = kind.lat; left = word_of kind.left; right = word_of kind.right }
+key_of kind =
+    record {
+      period = kind.period;
+      lat = kind.lat;
+      left = word_of kind.left;
+      right = word_of kind.right;
+    }
 
 -- the order in which an index has its kinds
 abbrev pub compare_words : Word → Word → Ordering

@@ -12,12 +12,16 @@ use Rattle.hw_sched.specs.Budget.{KeepsBudget}
 use Rattle.hw_sched.specs.Answer.{AreStarts, AreUnits}
 
 -- the first slots of the levels of each block's period
-pub record AreBases (diagram : Diagram) (plan : Resolved) (timing : Timing) (bases : Bases) : Type 0 where
+pub record AreBases (diagram : Diagram) (plan : Resolved) (timing : Timing)
+    (bases : Bases) : Type 0 where
   pub are : (place level : ℕ)
-      → base_at bases (samples ((attributes_of diagram).period_at place)) level ≡ base_slot diagram (attributes_of diagram) plan timing (samples ((attributes_of diagram).period_at place)) level
+      → base_at bases (samples ((attributes_of diagram).period_at place)) level
+      ≡ base_slot diagram (attributes_of diagram) plan timing
+      (samples ((attributes_of diagram).period_at place)) level
 
 -- the rule of budget is kept, and this is how
-pub record IsServed (diagram : Diagram) (plan : Resolved) (timing : Timing) (made : Made) : Type 0 where
+pub record IsServed (diagram : Diagram) (plan : Resolved) (timing : Timing)
+    (made : Made) : Type 0 where
   pub budget : KeepsBudget diagram plan timing
   pub starts : AreStarts diagram plan timing made.starts
   pub units : AreUnits diagram plan timing made.units

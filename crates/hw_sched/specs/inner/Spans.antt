@@ -17,29 +17,41 @@ pub record AreCounted (diagram : Diagram) (count : ℕ) : Type 0 where
 
 -- the longest of the shorter periods from which lines lead into a period by transitions
 abbrev pub longest_of : Diagram → List Edge → ℕ → ℕ
-longest_of diagram edges period = greatest (map (λ edge. shorter_into (attributes_of diagram) period edge (slice_get diagram.blocks edge.to)) edges)
+longest_of diagram edges period =
+    greatest (map
+    (λ edge. shorter_into (attributes_of diagram) period edge
+    (slice_get diagram.blocks edge.to)) edges)
 
 -- a list has these of the first lines
 pub record AreLongestTo (diagram : Diagram) (count : ℕ) (longest : List ℕ) : Type 0 where
   pub counted : AreCounted diagram (length longest)
-  pub are : (period : ℕ) → period < length longest → slice_index longest period ≡ longest_of diagram (take count diagram.edges) period
+  pub are : (period : ℕ) → period < length longest
+      → slice_index longest period ≡ longest_of diagram (take count diagram.edges) period
 
 -- and of all
 pub record AreLongest (diagram : Diagram) (longest : List ℕ) : Type 0 where
   pub counted : AreCounted diagram (length longest)
-  pub are : (period : ℕ) → period < length longest → slice_index longest period ≡ longest_of diagram diagram.edges period
+  pub are : (period : ℕ) → period < length longest
+      → slice_index longest period ≡ longest_of diagram diagram.edges period
   pub short : (period : ℕ) → slice_index longest period ≤ most_times
 
 -- the slots of a period
 abbrev pub span_of : Diagram → Resolved → ℕ → Span
-span_of diagram plan period = record { start = start_of diagram (attributes_of diagram) plan period; have = have_of plan period }
+span_of diagram plan period =
+    record {
+      start = start_of diagram (attributes_of diagram) plan period;
+      have = have_of plan period;
+    }
 
 -- a list has those of the first periods
-pub record AreSpansTo (diagram : Diagram) (plan : Resolved) (count : ℕ) (spans : List Span) : Type 0 where
+pub record AreSpansTo (diagram : Diagram) (plan : Resolved) (count : ℕ)
+    (spans : List Span) : Type 0 where
   pub size : length spans ≡ count
-  pub are : (period : ℕ) → period < count → slice_get spans period ≡ Some (span_of diagram plan period)
+  pub are : (period : ℕ) → period < count
+      → slice_get spans period ≡ Some (span_of diagram plan period)
 
 -- and of all
 pub record AreSpans (diagram : Diagram) (plan : Resolved) (spans : List Span) : Type 0 where
   pub counted : AreCounted diagram (length spans)
-  pub are : (period : ℕ) → period < length spans → slice_get spans period ≡ Some (span_of diagram plan period)
+  pub are : (period : ℕ) → period < length spans
+      → slice_get spans period ≡ Some (span_of diagram plan period)

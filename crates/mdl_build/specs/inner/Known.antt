@@ -21,7 +21,9 @@ use Rattle.mdl_build.specs.inner.Names.{AreBlocks}
 
 -- the model has its root, is shallow, and has no more blocks than it may
 abbrev pub keeps_sizes : List Item → Bool
-keeps_sizes items = has_root (roles_of items) && are_shallow (roles_of items) && nat_le (length (blocks_of items)) most_blocks
+keeps_sizes items =
+    has_root (roles_of items) && are_shallow (roles_of items)
+    && nat_le (length (blocks_of items)) most_blocks
 
 -- the roles and the blocks are those of the items
 pub record IsKnown (known : Known) : Type 0 where
@@ -38,29 +40,35 @@ pub record IsStructured (items : List Item) (structured : Structured) : Type 0 w
 
 -- the block at a place is an EnablePort of the System at another
 abbrev pub is_enable_in : List Item → ℕ → ℕ → Bool
-is_enable_in items system place = at false (λ holder. holder == system) (holder_of items place) && is_of items EnablePort place
+is_enable_in items system place =
+    at false (λ holder. holder == system) (holder_of items place) && is_of items EnablePort place
 
 -- of each System whether it has an EnablePort among these blocks
 pub record AreEnabled (items : List Item) (blocks : List ℕ) (enabled : List Bool) : Type 0 where
   pub long : length enabled ≡ length items
-  pub each : (system : ℕ) → system < length items → slice_index_or enabled system false ≡ list_any (is_enable_in items system) blocks
+  pub each : (system : ℕ) → system < length items
+      → slice_index_or enabled system false ≡ list_any (is_enable_in items system) blocks
 
 -- of so many blocks the numbers by place
 pub record AreNumbersTo (items : List Item) (count : ℕ) (numbers : List ℕ) : Type 0 where
   pub long : length numbers ≡ length items
-  pub each : (k place : ℕ) → k < count → slice_get (blocks_of items) k ≡ Some place → slice_index numbers place ≡ k
+  pub each : (k place : ℕ) → k < count → slice_get (blocks_of items) k ≡ Some place
+      → slice_index numbers place ≡ k
 
 -- of all blocks
 pub record AreNumbers (items : List Item) (numbers : List ℕ) : Type 0 where
   pub long : length numbers ≡ length items
-  pub each : (place : ℕ) → place < length items → is_block (role_of items place) ≡ true → slice_index numbers place ≡ number_at items place
+  pub each : (place : ℕ) → place < length items → is_block (role_of items place) ≡ true
+      → slice_index numbers place ≡ number_at items place
 
 -- the block at a place has a first parameter that isn't read, which is told
-pub record IsWrongAt (items : List Item) (block_type : BlockType) (place : ℕ) (fault : RuleFault) : Type 0 where
+pub record IsWrongAt (items : List Item) (block_type : BlockType) (place : ℕ)
+    (fault : RuleFault) : Type 0 where
   pub name : List ℕ
   pub wrong : IsFirstWrong items block_type place (parameters_of block_type) name
   pub fault_is : fault ≡ fault_of Rule.Parameter (path_of items place) (Word name)
 
 -- the first broken rule of items that keep the rule of structure
 abbrev pub BreaksNext : List Item → RuleFault → Type 0
-BreaksNext items fault = (library_fault items ≡ Some fault) ⊎ ((library_fault items ≡ None) × IsWrongFirst items fault)
+BreaksNext items fault =
+    (library_fault items ≡ Some fault) ⊎ ((library_fault items ≡ None) × IsWrongFirst items fault)

@@ -10,7 +10,8 @@ holders_of items = map (holder_of items) (places_of items)
 
 -- the first place behind an item of this depth that holds one that isn't deeper
 abbrev pub end_behind : List Item → ℕ → ℕ → ℕ
-end_behind items depth place = place + prefix_len (λ item. nat_lt depth item.depth) (drop place items)
+end_behind items depth place =
+    place + prefix_len (λ item. nat_lt depth item.depth) (drop place items)
 
 -- the end of what the item at a place holds
 abbrev pub end_of : List Item → ℕ → ℕ

@@ -14,15 +14,18 @@ source_if items place (Some line) = if line == place then source_of items place 
 
 -- of each item before a place the source, where it is a line
 abbrev pub sources_before : List Item → ℕ → List (Option Source)
-sources_before items place = map (λ other. source_if items other (branch_of (role_of items other))) (range_with_len 0 place)
+sources_before items place =
+    map (λ other. source_if items other (branch_of (role_of items other))) (range_with_len 0 place)
 
 -- the branches before a place are well formed
 abbrev pub are_joined_before : List Item → ℕ → Bool
-are_joined_before items place = list_all (λ other. keeps_line items other (role_of items other)) (range_with_len 0 place)
+are_joined_before items place =
+    list_all (λ other. keeps_line items other (role_of items other)) (range_with_len 0 place)
 
 -- the lines to ends before a place
 abbrev pub lines_before : List Item → ℕ → List NestedLine
-lines_before items place = filter_map (λ other. line_at items other (role_of items other)) (range_with_len 0 place)
+lines_before items place =
+    filter_map (λ other. line_at items other (role_of items other)) (range_with_len 0 place)
 
 -- the line, if there is one
 abbrev pub line_list : Option NestedLine → List NestedLine

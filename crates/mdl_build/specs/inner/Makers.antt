@@ -18,9 +18,11 @@ pub record IsMaker (maker : Maker) : Type 0 where
   pub known : IsKnown maker.known.now
   pub enabled : AreEnabled (items_of maker) (blocks_of (items_of maker)) maker.enabled.items
   pub numbers : AreNumbers (items_of maker) maker.numbers.items
-  pub defaults : map (λ texts. contents_of texts.items) maker.defaults.items ≡ map (fallbacks_of (items_of maker)) block_types
+  pub defaults : map (λ texts. contents_of texts.items) maker.defaults.items
+      ≡ map (fallbacks_of (items_of maker)) block_types
 
 -- so many blocks are made
 pub record AreMade (items : List Item) (count : ℕ) (blocks : List NestedBlock) : Type 0 where
   pub long : length blocks ≡ count
-  pub each : (k place : ℕ) → k < count → slice_get (blocks_of items) k ≡ Some place → (block : NestedBlock) × (slice_get blocks k ≡ Some block) × IsBlockAt items place block
+  pub each : (k place : ℕ) → k < count → slice_get (blocks_of items) k ≡ Some place
+      → (block : NestedBlock) × (slice_get blocks k ≡ Some block) × IsBlockAt items place block

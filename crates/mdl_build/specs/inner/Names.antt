@@ -19,7 +19,8 @@ matches system name (Some key) = (key.system == system) && bytes_eq key.name.now
 
 -- the key of the block at a place
 abbrev pub IsKeyAt : List Item → ℕ → Option Key → Type 0
-IsKeyAt items place key = (system : ℕ) (name : List ℕ) → is_named_in items system name place ≡ matches system name key
+IsKeyAt items place key =
+    (system : ℕ) (name : List ℕ) → is_named_in items system name place ≡ matches system name key
 
 -- two keys are equal
 abbrev pub key_eq : Key → Key → Bool
@@ -27,15 +28,21 @@ key_eq key other = (key.system == other.system) && bytes_eq key.name.now other.n
 
 -- the order in which a map has its keys
 abbrev pub compare_keys : Key → Key → Ordering
-compare_keys = then_cmp (on (λ (key : Key). key.system) nat_cmp) (on (λ (key : Key). key.name) (λ one other. slice_cmp nat_cmp one.now other.now))
+compare_keys =
+    then_cmp (on (λ (key : Key). key.system) nat_cmp)
+    (on (λ (key : Key). key.name) (λ one other. slice_cmp nat_cmp one.now other.now))
 
 -- of each name the number of the first block that has it
 abbrev pub AreNumbered : List Item → Blocks → Type 0
-AreNumbered items blocks = (key : Key) → get compare_keys blocks.numbers key ≡ position (is_named_in items key.system key.name.now) blocks.places.items
+AreNumbered items blocks =
+    (key : Key)
+    → get compare_keys blocks.numbers key
+    ≡ position (is_named_in items key.system key.name.now) blocks.places.items
 
 -- the blocks before a place
 abbrev pub blocks_before : List Item → ℕ → List ℕ
-blocks_before items place = filter (λ other. is_block (role_of items other)) (range_with_len 0 place)
+blocks_before items place =
+    filter (λ other. is_block (role_of items other)) (range_with_len 0 place)
 
 -- the blocks of the tree, and the numbers of their names
 pub record AreBlocks (items : List Item) (blocks : Blocks) : Type 0 where

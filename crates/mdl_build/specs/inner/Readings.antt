@@ -12,16 +12,24 @@ use Rattle.mdl_build.specs.Library.{ParameterRow, row_of, parameters_of}
 use Rattle.mdl_build.specs.Rules.{IsFirstWrong}
 use Rattle.mdl_build.specs.Settings.{ReadsAs}
 
--- a parameter with this text is read as a setting; `single` says that the block is a gate of one input
+-- a parameter with this text is read as a setting; `single` says that the block is a gate of one
+-- input
 abbrev pub IsReadAs : Bool → Parameter → List ℕ → Setting → Type 0
-IsReadAs single parameter text = ReadsAs single (row_of parameter).reader (row_of parameter).default text
+IsReadAs single parameter text =
+    ReadsAs single (row_of parameter).reader (row_of parameter).default text
 
 -- all are read so, or one is the first that isn't read
 abbrev pub IsReading : List Item → BlockType → ℕ → Reading → Type 0
 IsReading items block_type place (Read settings) = HasSettings items block_type place settings
-IsReading items block_type place (Wrong name) = IsFirstWrong items block_type place (parameters_of block_type) name.now
+IsReading items block_type place (Wrong name) =
+    IsFirstWrong items block_type place (parameters_of block_type) name.now
 
 -- so many parameters are read, and these are the settings so far
-pub record AreReadTo (items : List Item) (block_type : BlockType) (place number : ℕ) (settings : Settings) : Type 0 where
-  pub rest : (after : Settings) → AreRead items block_type place (drop number (parameters_of block_type)) settings after → HasSettings items block_type place after
-  pub readable : (k : ℕ) (other : ParameterRow) → k < number → slice_get (parameters_of block_type) k ≡ Some other → IsReadable items block_type place other
+pub record AreReadTo (items : List Item) (block_type : BlockType) (place number : ℕ)
+    (settings : Settings) : Type 0 where
+  pub rest : (after : Settings)
+      → AreRead items block_type place (drop number (parameters_of block_type)) settings after
+      → HasSettings items block_type place after
+  pub readable : (k : ℕ) (other : ParameterRow) → k < number
+      → slice_get (parameters_of block_type) k ≡ Some other
+      → IsReadable items block_type place other

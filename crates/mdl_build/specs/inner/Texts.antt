@@ -13,7 +13,8 @@ contents_of texts = map (λ text. text.now) texts
 
 -- the value of a parameter where the section of its type's defaults is known
 abbrev pub fallback_in : List Item → Option ℕ → ParameterRow → List ℕ
-fallback_in items section parameter = unwrap_or (value_in items section parameter.name) parameter.default
+fallback_in items section parameter =
+    unwrap_or (value_in items section parameter.name) parameter.default
 
 abbrev pub fallbacks_in : List Item → Option ℕ → List ParameterRow → List (List ℕ)
 fallbacks_in items section parameters = map (fallback_in items section) parameters

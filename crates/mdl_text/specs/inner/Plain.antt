@@ -1,4 +1,5 @@
--- The plain reading of a text, a line after another. What it gives is what the text stands for (own). Crates above may cite this file.
+-- The plain reading of a text, a line after another. What it gives is what the text stands for
+-- (own). Crates above may cite this file.
 use Prim.Native.Char.{code}
 use Rattle.std.specs.Prelude.{ℕ, ◌+◌, ◌-◌, ◌≤◌, ◌==◌, ◌&&◌, Bool, List, [], ◌∷◌, ◌++◌, codes, Option, None, Some, option_and_then, length, take, drop, nat_lt, if◌then◌else◌}
 use Rattle.std.specs.List.{list_all, prefix_len}
@@ -29,8 +30,12 @@ trimmed (byte ∷ bytes) = if list_all is_blank (byte ∷ bytes) then [] else by
 
 -- a byte of quoted strings, read in a place, after what was said so far
 unfoldable pub string_step : Place → List ℕ → ℕ → Option (Place × List ℕ)
-string_step Outside said byte = if byte == code "\"" then Some (Inside, said) else (if is_blank byte then Some (Outside, said) else None)
-string_step Inside said byte = if byte == code "\"" then Some (Outside, said) else (if byte == code "\\" then Some (Escaped, said) else Some (Inside, said ++ byte ∷ []))
+string_step Outside said byte =
+    if byte == code "\"" then Some (Inside, said)
+    else (if is_blank byte then Some (Outside, said) else None)
+string_step Inside said byte =
+    if byte == code "\"" then Some (Outside, said)
+    else (if byte == code "\\" then Some (Escaped, said) else Some (Inside, said ++ byte ∷ []))
 string_step Escaped said byte = Some (Inside, said ++ escaped byte)
 
 -- what is said at the end of a line, which ends no string
@@ -42,7 +47,8 @@ ended Escaped said = None
 -- the strings of a line, after what was said so far
 abbrev pub strings : Place → List ℕ → List ℕ → Option (List ℕ)
 strings place said [] = ended place said
-strings place said (byte ∷ bytes) = option_and_then (λ next. strings next.0 next.1 bytes) (string_step place said byte)
+strings place said (byte ∷ bytes) =
+    option_and_then (λ next. strings next.0 next.1 bytes) (string_step place said byte)
 
 -- the strings of a line from its first byte on
 abbrev pub strings_from : List ℕ → List ℕ → Option (List ℕ)
@@ -57,9 +63,13 @@ abbrev pub spot_step_in : Place → ℕ → ℕ → Option Spot
 spot_step_in Outside nesting byte =
     if byte == code "\"" then Some (spot_at Inside nesting)
     else (if byte == code "[" then Some (spot_at Outside (nesting + 1))
-    else (if byte == code "]" then (if nesting == 0 then None else Some (spot_at Outside (nesting - 1)))
+    else (if byte == code "]"
+    then (if nesting == 0 then None else Some (spot_at Outside (nesting - 1)))
     else Some (spot_at Outside nesting)))
-spot_step_in Inside nesting byte = if byte == code "\"" then Some (spot_at Outside nesting) else (if byte == code "\\" then Some (spot_at Escaped nesting) else Some (spot_at Inside nesting))
+spot_step_in Inside nesting byte =
+    if byte == code "\"" then Some (spot_at Outside nesting)
+    else (if byte == code
+    "\\" then Some (spot_at Escaped nesting) else Some (spot_at Inside nesting))
 spot_step_in Escaped nesting byte = Some (spot_at Inside nesting)
 
 -- `spot_step_in` of a spot
@@ -84,7 +94,8 @@ or_else_closed taken go (Some spot) = go spot
 -- how a list goes on over the rest of a line, of which so many bytes were taken
 abbrev pub list_end : Spot → ℕ → List ℕ → ListEnd
 list_end spot taken [] = line_end spot
-list_end spot taken (byte ∷ bytes) = or_else_closed (taken + 1) (λ next. list_end next (taken + 1) bytes) (spot_step spot byte)
+list_end spot taken (byte ∷ bytes) =
+    or_else_closed (taken + 1) (λ next. list_end next (taken + 1) bytes) (spot_step spot byte)
 
 -- at most so many bytes are taken, and at most so many brackets are open beside the first
 abbrev pub IsWithin : ℕ → ℕ → ListEnd → Type 0
@@ -98,7 +109,11 @@ list_from nesting line = list_end (spot_at Outside nesting) 0 line
 
 -- the items with one more
 abbrev pub added : Draft → List ℕ → Value → Draft
-added draft name value = record { items = draft.items ++ record { depth = draft.depth; name = name; value = value } ∷ []; depth = draft.depth }
+added draft name value =
+    record {
+      items = draft.items ++ record { depth = draft.depth; name = name; value = value } ∷ [];
+      depth = draft.depth;
+    }
 
 -- a reader with nothing pending
 abbrev pub free : Draft → Reader
@@ -149,8 +164,13 @@ closed draft after =
 -- a list goes on as its end on this line tells
 abbrev pub listed_by : Draft → List ℕ → List ℕ → List ℕ → ListEnd → Option Reader
 listed_by draft name said line (Closed taken) =
-    if list_all is_blank (drop taken line) then Some (free (added draft name (Brackets (said ++ take taken line)))) else None
-listed_by draft name said line (Open nesting) = Some (record { draft = draft; pending = OpenList name (said ++ line ++ code "\n" ∷ []) nesting })
+    if list_all is_blank (drop taken line)
+    then Some (free (added draft name (Brackets (said ++ take taken line)))) else None
+listed_by draft name said line (Open nesting) =
+    Some (record {
+      draft = draft;
+      pending = OpenList name (said ++ line ++ code "\n" ∷ []) nesting;
+    })
 listed_by draft name said line Broken = None
 
 -- a list goes on over the line
@@ -177,7 +197,8 @@ after_name draft name rest (byte ∷ bytes) =
 unfoldable pub named : Draft → List ℕ → Option Reader
 named draft text =
     let count = prefix_len is_name_byte text in
-    if count == 0 then None else after_name draft (take count text) (drop count text) (unblanked (drop count text))
+    if count == 0 then None
+    else after_name draft (take count text) (drop count text) (unblanked (drop count text))
 
 -- `fresh` from the first byte that is no blank
 abbrev pub fresh_text : Draft → List ℕ → Option Reader
@@ -200,7 +221,8 @@ begins_with_quote (byte ∷ bytes) = byte == code "\""
 abbrev pub step_in : Draft → Pending → List ℕ → Option Reader
 step_in draft Nothing line = fresh draft line
 step_in draft (Strings name said) line =
-    if begins_with_quote (unblanked line) then reader_strings draft name (strings_from said (unblanked line))
+    if begins_with_quote (unblanked line)
+    then reader_strings draft name (strings_from said (unblanked line))
     else fresh (added draft name (Quoted said)) line
 step_in draft (OpenList name said nesting) line = listed draft name said nesting line
 

@@ -20,7 +20,13 @@ use Rattle.st_wrap.specs.inner.Names.{inner_name, held_name, late_name, begin_na
 -- a port with its name and by how many samples it is held back
 abbrev pub column_of : ℕ → Port × List ℕ → Column
 column_of late named =
-    record { inner = named.0.name; name = named.1; signed = named.0.signed; width = named.0.width; late = late }
+    record {
+      inner = named.0.name;
+      name = named.1;
+      signed = named.0.signed;
+      width = named.0.width;
+      late = late;
+    }
 
 -- an input isn't held back
 abbrev pub input_column : Port × List ℕ → Column
@@ -32,7 +38,8 @@ output_column cycles latest named = column_of (latest - samples_late cycles name
 
 -- a port is an input that carries numbers, or else such an output
 abbrev pub is_column : Bool → Bool → Port → Bool
-is_column input stalls port = if input then is_number_input stalls port else is_number_output stalls port
+is_column input stalls port =
+    if input then is_number_input stalls port else is_number_output stalls port
 
 -- the port of a column
 abbrev pub column_port : Column → DataPort
@@ -40,7 +47,8 @@ column_port column = row_port column.name column.width column.signed
 
 -- it is an input or an output
 abbrev pub port_of : Bool → Column → Port
-port_of input column = if input then input_port (column_port column) else output_port (column_port column)
+port_of input column =
+    if input then input_port (column_port column) else output_port (column_port column)
 
 -- so many bits without sign
 abbrev pub plain : ℕ → ℕ → Sized
@@ -57,12 +65,15 @@ held_declared column = Reg column.signed column.width (held_name column.name) �
 -- the core's input is the port's in a sample's first clock, and then what was held of it
 abbrev pub held_driven : Column → List ModItem
 held_driven column =
-    Assign (inner_name column.inner) (Choose (Name begin_name) (Name column.name) (Name (held_name column.name)))
-    ∷ Always (held_name column.name) (plain column.width 0) (Some (moving begin_name)) (Name column.name) ∷ []
+    Assign (inner_name column.inner)
+    (Choose (Name begin_name) (Name column.name) (Name (held_name column.name)))
+    ∷ Always (held_name column.name) (plain column.width 0) (Some (moving begin_name))
+    (Name column.name) ∷ []
 
 -- an output of so many samples ago
 abbrev pub stage_name : Column → ℕ → List ℕ
-stage_name column samples = if samples == 0 then inner_name column.inner else late_name column.name samples
+stage_name column samples =
+    if samples == 0 then inner_name column.inner else late_name column.name samples
 
 -- the register of a place in an output's chain
 abbrev pub stage_declared : Column → ℕ → ModItem
@@ -71,7 +82,8 @@ stage_declared column place = Reg column.signed column.width (late_name column.n
 -- it takes the one before at a sample's last clock
 abbrev pub stage_driven : Column → ℕ → ModItem
 stage_driven column place =
-    Always (late_name column.name (place + 1)) (plain column.width 0) (Some (moving end_name)) (Name (stage_name column place))
+    Always (late_name column.name (place + 1)) (plain column.width 0) (Some (moving end_name))
+    (Name (stage_name column place))
 
 abbrev pub late_declared : Column → List ModItem
 late_declared column = map (stage_declared column) (range_with_len 0 column.late)

@@ -43,7 +43,8 @@ number width bits = Literal (plain width bits)
 abbrev pub control_declared : Counters → List ModItem
 control_declared counters =
     Wire false 1 begin_name ∷ Wire false 1 end_name ∷ Wire false 1 due_name ∷ Wire false 1 fed_name
-    ∷ Wire false 1 open_name ∷ Reg false counters.phase.width phase_name ∷ Reg false counters.wait.width wait_name ∷ []
+    ∷ Wire false 1 open_name ∷ Reg false counters.phase.width phase_name
+    ∷ Reg false counters.wait.width wait_name ∷ []
 
 -- the first clock of a sample, and the last
 abbrev pub is_last : Counter → Expr
@@ -55,12 +56,14 @@ is_due_now = Binary Both (Name end_name) (is_zero wait_name)
 -- the next clock of a sample, or the first of the next
 abbrev pub next_phase : Counter → Expr
 next_phase phase =
-    Choose (Name end_name) (number phase.width 0) (Binary Add (Name phase_name) (number phase.width 1))
+    Choose (Name end_name) (number phase.width 0)
+    (Binary Add (Name phase_name) (number phase.width 1))
 
 -- a sample less to wait for
 abbrev pub next_wait : Counter → Expr
 next_wait wait =
-    Choose (Name wait_name) (Binary Subtract (Name wait_name) (number wait.width 1)) (number wait.width 0)
+    Choose (Name wait_name) (Binary Subtract (Name wait_name) (number wait.width 1))
+    (number wait.width 0)
 
 -- the signals of a row
 abbrev pub signals_driven : Counter → List ModItem
@@ -81,11 +84,14 @@ handshake_driven =
     ∷ []
 
 abbrev pub phase_item : Counter → ModItem
-phase_item phase = Always phase_name (plain phase.width 0) (Some (Name enable_name)) (next_phase phase)
+phase_item phase =
+    Always phase_name (plain phase.width 0) (Some (Name enable_name)) (next_phase phase)
 
 abbrev pub wait_item : Counter → ModItem
-wait_item wait = Always wait_name (plain wait.width wait.most) (Some (moving end_name)) (next_wait wait)
+wait_item wait =
+    Always wait_name (plain wait.width wait.most) (Some (moving end_name)) (next_wait wait)
 
 abbrev pub control_driven : Counters → List ModItem
 control_driven counters =
-    signals_driven counters.phase ++ (handshake_driven ++ phase_item counters.phase ∷ wait_item counters.wait ∷ [])
+    signals_driven counters.phase
+    ++ (handshake_driven ++ phase_item counters.phase ∷ wait_item counters.wait ∷ [])

@@ -58,7 +58,8 @@ renamed_item (Always name first condition value) =
 
 -- the wire of a port of the core; `clk` and `reset` are the wrapper's own
 abbrev pub wires_for : Port → List ModItem
-wires_for port = if is_shared port.name then [] else Wire port.signed port.width (inner_name port.name) ∷ []
+wires_for port =
+    if is_shared port.name then [] else Wire port.signed port.width (inner_name port.name) ∷ []
 
 -- the wires of all ports of the core
 abbrev pub wires_of : Module → List ModItem

@@ -16,7 +16,9 @@ use Rattle.st_wrap.specs.inner.Renamed.{core_items, wires_of}
 -- what is declared beside the core's own
 abbrev pub declared_items : Module → Counters → List Column → List Column → List ModItem
 declared_items core counters inputs outputs =
-    wires_of core ++ (control_declared counters ++ (flat_map held_declared inputs ++ flat_map late_declared outputs))
+    wires_of core
+    ++ (control_declared counters
+    ++ (flat_map held_declared inputs ++ flat_map late_declared outputs))
 
 -- what drives it
 abbrev pub driven_items : Counters → List Column → List Column → List ModItem
@@ -25,13 +27,15 @@ driven_items counters inputs outputs =
 
 abbrev pub items_of : Module → Counters → List Column → List Column → List ModItem
 items_of core counters inputs outputs =
-    declared_items core counters inputs outputs ++ (core_items core ++ driven_items counters inputs outputs)
+    declared_items core counters inputs outputs
+    ++ (core_items core ++ driven_items counters inputs outputs)
 
 abbrev pub ports_of : List Column → List Column → List Port
 ports_of inputs outputs =
     bit_input (codes "clk") ∷ bit_input (codes "reset") ∷ input_port (flag (codes "in_valid"))
     ∷ (map (λ column. input_port (column_port column)) inputs
-    ++ input_port (flag (codes "out_ready")) ∷ output_port (flag (codes "in_ready")) ∷ output_port (flag (codes "out_valid"))
+    ++ input_port (flag (codes "out_ready")) ∷ output_port (flag (codes "in_ready"))
+    ∷ output_port (flag (codes "out_valid"))
     ∷ map (λ column. output_port (column_port column)) outputs)
 
 -- the columns by their names
@@ -39,7 +43,8 @@ abbrev pub inputs_of : Module → List (List ℕ) → List Column
 inputs_of core names = map input_column (named_inputs core names)
 
 abbrev pub outputs_of : Module → List (List ℕ) → List Column
-outputs_of core names = map (output_column (clocks_of core) (latest_in core)) (named_outputs core names)
+outputs_of core names =
+    map (output_column (clocks_of core) (latest_in core)) (named_outputs core names)
 
 abbrev pub made_of : Module → Counters → List Column → List Column → Module
 made_of core counters inputs outputs = record {

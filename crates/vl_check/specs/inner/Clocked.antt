@@ -11,4 +11,6 @@ abbrev pub first_of_both : Bool → List ℕ
 first_of_both before = if before then codes "clk" else codes "reset"
 
 abbrev pub name_at_fault : Bool → Bool → List ℕ → Option (List ℕ)
-name_at_fault clk reset first = if clk && reset then Some first else (if clk then Some (codes "clk") else (if reset then Some (codes "reset") else None))
+name_at_fault clk reset first =
+    if clk && reset then Some first
+    else (if clk then Some (codes "clk") else (if reset then Some (codes "reset") else None))

@@ -10,7 +10,8 @@ use Rattle.vl_check.specs.inner.Marks.{AreFirst, AreNumbered}
 use Rattle.vl_check.specs.inner.Mentioned.{shown}
 
 -- the names of a module's text with their declarations, and the number of the name at each place
-pub record IsKnown (m : Module) (text : List Mention) (names : Scope) (places : List ℕ) : Type 0 where
+pub record IsKnown (m : Module) (text : List Mention) (names : Scope)
+    (places : List ℕ) : Type 0 where
   pub whole : shown text ≡ mentions m
   pub scope : IsScopeOf m names
   pub numbers : AreNumbered text places (length names.declared.items)

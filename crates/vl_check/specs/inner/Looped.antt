@@ -12,7 +12,8 @@ name_of scope number = slice_index_or (names_in scope) number []
 
 pub record AreMarked (numbers : List ℕ) (count : ℕ) (marks : List Bool) : Type 0 where
   pub long : length marks ≡ count
-  pub marked : (i : ℕ) → i < length numbers → slice_index_or marks (slice_index numbers i) false ≡ true
+  pub marked : (i : ℕ) → i < length numbers
+      → slice_index_or marks (slice_index numbers i) false ≡ true
   pub only : (k : ℕ) → slice_index_or marks k false ≡ true → Contains numbers k
 
 abbrev pub if_marked : List Bool → ℕ → Option ℕ
@@ -27,7 +28,8 @@ abbrev pub marked_at : Scope → List Bool → Mention → Option ℕ
 marked_at scope marks (Declares declared) = marked_number scope marks declared.name
 marked_at scope marks (Drives clocked name) = marked_number scope marks name
 marked_at scope marks (Reads name) = marked_number scope marks name
-marked_at scope marks Clocks = option_or (marked_number scope marks (codes "clk")) (marked_number scope marks (codes "reset"))
+marked_at scope marks Clocks =
+    option_or (marked_number scope marks (codes "clk")) (marked_number scope marks (codes "reset"))
 
 -- the first answer
 abbrev pub first_some : {X : Type 0} → (X → Option ℕ) → List X → Option ℕ
@@ -37,14 +39,20 @@ first_some f (x ∷ xs) = option_or (f x) (first_some f xs)
 -- each number is that of a name that stands in the text
 pub record AreNamed (m : Module) (scope : Scope) (cycle : List ℕ) : Type 0 where
   pub within : (i : ℕ) → i < length cycle → slice_index cycle i < length (names_in scope)
-  pub stands : (i : ℕ) → i < length cycle → (x : Mention) × Contains (mentions m) x × (mentioned x ≡ name_of scope (slice_index cycle i))
+  pub stands : (i : ℕ) → i < length cycle → (x : Mention) × Contains (mentions m) x
+      × (mentioned x ≡ name_of scope (slice_index cycle i))
 
 -- the name there stands first in the text
 pub record IsBeginning (m : Module) (scope : Scope) (cycle : List ℕ) (at : ℕ) : Type 0 where
   pub within : at < length cycle
-  pub first : (i : ℕ) → i < length cycle → place_of m (name_of scope (slice_index cycle at)) ≤ place_of m (name_of scope (slice_index cycle i))
+  pub first : (i : ℕ) → i < length cycle
+      → place_of m (name_of scope (slice_index cycle at)) ≤ place_of m
+      (name_of scope (slice_index cycle i))
 
 -- the names of the cycle from a place on
-pub record IsTurned (names : List (List ℕ)) (cycle : List ℕ) (at : ℕ) (turned : List (List ℕ)) : Type 0 where
+pub record IsTurned (names : List (List ℕ)) (cycle : List ℕ) (at : ℕ)
+    (turned : List (List ℕ)) : Type 0 where
   pub long : length turned ≡ length cycle
-  pub each : (i : ℕ) (d : List ℕ) → i < length cycle → slice_index_or turned i d ≡ slice_index_or names (slice_index cycle ((at + i) % length cycle)) []
+  pub each : (i : ℕ) (d : List ℕ) → i < length cycle
+      → slice_index_or turned i d
+      ≡ slice_index_or names (slice_index cycle ((at + i) % length cycle)) []

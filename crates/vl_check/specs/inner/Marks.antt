@@ -12,8 +12,12 @@ use Rattle.vl_check.specs.inner.Mentioned.{declared_of, shown}
 pub record AreNumbers (names : List (List ℕ)) (numbers : List ℕ) (count : ℕ) : Type 0 where
   pub long : length numbers ≡ length names
   pub below : (i : ℕ) → i < length names → slice_index numbers i < count
-  pub one : (i j : ℕ) (d : List ℕ) → i < length names → j < length names → slice_index_or names i d ≡ slice_index_or names j d → slice_index numbers i ≡ slice_index numbers j
-  pub apart : (i j : ℕ) (d : List ℕ) → i < length names → j < length names → slice_index_or names i d ≢ slice_index_or names j d → slice_index numbers i ≢ slice_index numbers j
+  pub one : (i j : ℕ) (d : List ℕ) → i < length names → j < length names
+      → slice_index_or names i d ≡ slice_index_or names j d
+      → slice_index numbers i ≡ slice_index numbers j
+  pub apart : (i j : ℕ) (d : List ℕ) → i < length names → j < length names
+      → slice_index_or names i d ≢ slice_index_or names j d
+      → slice_index numbers i ≢ slice_index numbers j
 
 -- the same of the name at each place of a text
 pub record AreNumbered (text : List MentionHere) (numbers : List ℕ) (count : ℕ) : Type 0 where
@@ -34,13 +38,19 @@ drives (Reads name) = false
 drives Clocks = false
 
 -- each name is marked where a test of it holds at some place of the part
-pub record Marks (test : List ℕ → Mention → Bool) (names : List (List ℕ)) (numbers : List ℕ) (marks : List Bool) (part : List Mention) : Type 0 where
-  pub at : (i : ℕ) (d : List ℕ) (m : Bool) → i < length names → slice_index_or marks (slice_index numbers i) m ≡ list_any (test (slice_index_or names i d)) part
+pub record Marks (test : List ℕ → Mention → Bool) (names : List (List ℕ)) (numbers : List ℕ)
+    (marks : List Bool) (part : List Mention) : Type 0 where
+  pub at : (i : ℕ) (d : List ℕ) (m : Bool) → i < length names
+      → slice_index_or marks (slice_index numbers i) m
+      ≡ list_any (test (slice_index_or names i d)) part
 
 -- each name has its first declaration in the part
-pub record AreFirst (names : List (List ℕ)) (numbers : List ℕ) (first : List (Option DeclaredHere)) (part : List Mention) : Type 0 where
+pub record AreFirst (names : List (List ℕ)) (numbers : List ℕ) (first : List (Option DeclaredHere))
+    (part : List Mention) : Type 0 where
   pub at : (i : ℕ) (d : List ℕ) (f : Option DeclaredHere) → i < length names
-      → option_map declared_of (slice_index_or first (slice_index numbers i) f) ≡ find (λ (x : Declared). bytes_eq x.name (slice_index_or names i d)) (flat_map declared_by part)
+      → option_map declared_of (slice_index_or first (slice_index numbers i) f)
+      ≡ find (λ (x : Declared). bytes_eq x.name (slice_index_or names i d))
+      (flat_map declared_by part)
 
 abbrev pub undriven_where : Bool → Bool → Mention → Bool
 undriven_where declared driven (Declares of) = needs_driver of.kind && not driven
@@ -50,13 +60,16 @@ undriven_where declared driven Clocks = false
 
 abbrev pub double_where : Bool → Bool → Option Declared → Mention → Bool
 double_where declared driven declaration (Declares of) = declared
-double_where declared driven declaration (Drives clocked name) = driven || not (may_drive_it clocked declaration)
+double_where declared driven declaration (Drives clocked name) =
+    driven || not (may_drive_it clocked declaration)
 double_where declared driven declaration (Reads name) = false
 double_where declared driven declaration Clocks = false
 
 -- the first declarations after one more place
 abbrev pub first_after : List (Option DeclaredHere) → ℕ → MentionHere → List (Option DeclaredHere)
-first_after first number (DeclaresHere declared) = if is_none (slice_index_or first number None) then slice_set first number (Some declared) else first
+first_after first number (DeclaresHere declared) =
+    if is_none (slice_index_or first number None) then slice_set first number (Some declared)
+    else first
 first_after first number (DrivesHere clocked name) = first
 first_after first number (ReadsHere name) = first
 first_after first number ClocksHere = first

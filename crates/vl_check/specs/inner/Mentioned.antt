@@ -17,10 +17,16 @@ kind_of RegisterHere = Register
 
 -- a net that an item declares
 abbrev pub net_declared : Kind → List ℕ → ℕ → Bool → Declared
-net_declared kind name width signed = record { name = name; kind = kind; net = record { width = width; signed = signed } }
+net_declared kind name width signed =
+    record { name = name; kind = kind; net = record { width = width; signed = signed } }
 
 abbrev pub declared_of : DeclaredHere → Declared
-declared_of d = record { name = d.name.now; kind = kind_of d.kind; net = record { width = d.width; signed = d.signed } }
+declared_of d =
+    record {
+      name = d.name.now;
+      kind = kind_of d.kind;
+      net = record { width = d.width; signed = d.signed };
+    }
 
 abbrev pub mention_of : MentionHere → Mention
 mention_of (DeclaresHere d) = Declares (declared_of d)
@@ -37,4 +43,5 @@ texts names = map (λ (name : Bor (List ℕ)). name.now) names
 
 -- these places are put behind those that were there, unless memory was wanting
 pub record Puts (before after : Mentions) (more : List Mention) : Type 0 where
-  pub whole : after.wanting ≡ false → (before.wanting ≡ false) × (shown after.all.items ≡ shown before.all.items ++ more)
+  pub whole : after.wanting ≡ false → (before.wanting ≡ false)
+      × (shown after.all.items ≡ shown before.all.items ++ more)

@@ -22,11 +22,19 @@ renamed f (One op part) = One op (f part)
 renamed f (Two op left right) = Two op (f left) (f right)
 renamed f (Beside left right places) = Beside (f left) (f right) places
 renamed f (Choose test chosen other) = Choose (f test) (f chosen) (f other)
-renamed f (Next register) = Next (record { reset = f register.reset; first = register.first; test = f register.test; value = f register.value; kept = f register.kept })
+renamed f (Next register) =
+    Next (record {
+      reset = f register.reset;
+      first = register.first;
+      test = f register.test;
+      value = f register.value;
+      kept = f register.kept;
+    })
 
 -- a place is fixed, or that of an operation below this level
 abbrev pub IsAbove : ℕ → List ℕ → ℕ → ℕ → Type 0
-IsAbove base levels level place = (j : ℕ) → place ≡ base + j → (j < length levels) × (slice_index levels j < level)
+IsAbove base levels level place =
+    (j : ℕ) → place ≡ base + j → (j < length levels) × (slice_index levels j < level)
 
 -- each level is at most its place
 pub record AreLow (levels : List ℕ) : Type 0 where
@@ -44,7 +52,8 @@ pub record AreEntered (base : ℕ) (ops : List Op) (levels entries : List ℕ) :
   pub long : length entries ≡ length ops
   pub low : AreLow levels
   pub each : (k : ℕ) → k < length ops → IsEntry (slice_index levels k) k (slice_index entries k)
-  pub rises : (k : ℕ) (d : Op) → k < length ops → each_of (IsAbove base levels (slice_index levels k)) (slice_index_or ops k d)
+  pub rises : (k : ℕ) (d : Op) → k < length ops
+      → each_of (IsAbove base levels (slice_index levels k)) (slice_index_or ops k d)
 
 pub record AreEntries (base : ℕ) (ops : List Op) (entries : List ℕ) : Type 0 where
   pub levels : List ℕ
@@ -57,7 +66,9 @@ number_of entry = entry % 2 ^ 29
 -- where the numbers of the first so many entries stand
 pub record ArePlaces (base : ℕ) (entries : List ℕ) (count : ℕ) (places : List ℕ) : Type 0 where
   pub long : length places ≡ length entries
-  pub at : (i : ℕ) → i < count → (p : ℕ) × (p < count) × (slice_index places (number_of (slice_index entries i)) ≡ base + p) × (number_of (slice_index entries p) ≡ number_of (slice_index entries i))
+  pub at : (i : ℕ) → i < count → (p : ℕ) × (p < count)
+      × (slice_index places (number_of (slice_index entries i)) ≡ base + p)
+      × (number_of (slice_index entries p) ≡ number_of (slice_index entries i))
 
 -- the place of what stood at a place
 abbrev pub moved : ℕ → List ℕ → ℕ → ℕ
@@ -68,15 +79,19 @@ moved_capture f capture = record { from = f capture.from; to = f capture.to }
 
 -- the operation of an entry over the new places
 abbrev pub op_at : ℕ → List ℕ → List Op → ℕ → Op
-op_at base places ops entry = renamed (moved base places) (slice_index_or ops (number_of entry) (Constant 0))
+op_at base places ops entry =
+    renamed (moved base places) (slice_index_or ops (number_of entry) (Constant 0))
 
 -- the same operations in another order, and the places of names and captures in it
-pub record IsArranged (base : ℕ) (ops : List Op) (slots : List ℕ) (captures : List Capture) (arranged : Arranged) : Type 0 where
+pub record IsArranged (base : ℕ) (ops : List Op) (slots : List ℕ) (captures : List Capture)
+    (arranged : Arranged) : Type 0 where
   pub move : ℕ → ℕ
   pub fixed : (k : ℕ) → k < base → move k ≡ k
-  pub within : (k : ℕ) → base ≤ k → k < base + length ops → (base ≤ move k) × (move k < base + length ops)
+  pub within : (k : ℕ) → base ≤ k → k < base + length ops → (base ≤ move k)
+      × (move k < base + length ops)
   pub long : length arranged.ops ≡ length ops
   pub ordered : IsOrdered base arranged.ops
-  pub settled : (values : ℕ → ℕ) → IsSettled base arranged.ops values → IsSettled base ops (λ place. values (move place))
+  pub settled : (values : ℕ → ℕ) → IsSettled base arranged.ops values
+      → IsSettled base ops (λ place. values (move place))
   pub slots_are : arranged.slots.items ≡ map move slots
   pub captures_are : arranged.captures.items ≡ map (moved_capture move) captures

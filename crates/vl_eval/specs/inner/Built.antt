@@ -1,5 +1,5 @@
--- The operation of each operator, over the places of its operands. `mask` has the bits of the context, and `half` is the
--- weight of the sign bit of the operands' context where they are signed.
+-- The operation of each operator, over the places of its operands. `mask` has the bits of the
+-- context, and `half` is the weight of the sign bit of the operands' context where they are signed.
 use Rattle.std.specs.Prelude.{ℕ, ◌-◌, ◌^◌, min, nat_lt, Bool, if◌then◌else◌}
 use Rattle.vl_ast.specs.declared.expressions.UnOp.{UnOp}
 use Rattle.vl_ast.specs.declared.expressions.UnOp.TheVariants.{Negate as NegateOf, Invert as InvertOf, IsZero as IsZeroOf}
@@ -34,9 +34,13 @@ binary_op BothOf left right mask half = Two Both left right
 binary_op EitherOf left right mask half = Two Either left right
 
 abbrev pub down : ℕ → ℕ → ℕ → Op
-down part amount width = if nat_lt amount width then One (Select amount (2 ^ width - 1)) part else Constant 0
+down part amount width =
+    if nat_lt amount width then One (Select amount (2 ^ width - 1)) part else Constant 0
 
 abbrev pub shift_op : ShiftOp → ℕ → ℕ → ℕ → Bool → Op
-shift_op Left part amount width signed = if nat_lt amount width then One (Up amount (2 ^ width - 1)) part else Constant 0
+shift_op Left part amount width signed =
+    if nat_lt amount width then One (Up amount (2 ^ width - 1)) part else Constant 0
 shift_op Right part amount width signed = down part amount width
-shift_op RightSigned part amount width signed = if signed then One (SignedDown (min amount (width - 1)) (2 ^ (width - 1)) (2 ^ width - 1)) part else down part amount width
+shift_op RightSigned part amount width signed =
+    if signed then One (SignedDown (min amount (width - 1)) (2 ^ (width - 1)) (2 ^ width - 1)) part
+    else down part amount width

@@ -11,14 +11,18 @@ IsFree captures place = (c : Capture) → Contains captures c → c.to ≢ place
 -- each place that a capture goes to has what one of them takes, and the others stay
 pub record IsTaken (captures : List Capture) (before after : List ℕ) : Type 0 where
   pub long : length after ≡ length before
-  pub each : (place : ℕ) → (IsFree captures place × (slice_index after place ≡ slice_index before place))
-      ⊎ ((c : Capture) × Contains captures c × (c.to ≡ place) × (slice_index after place ≡ slice_index before c.from))
+  pub each : (place : ℕ)
+      → (IsFree captures place × (slice_index after place ≡ slice_index before place))
+      ⊎ ((c : Capture) × Contains captures c × (c.to ≡ place)
+      × (slice_index after place ≡ slice_index before c.from))
 
 -- each of these places has its bits, and the others stay
 pub record IsPut (places bits before after : List ℕ) : Type 0 where
   pub long : length after ≡ length before
-  pub each : (k : ℕ) → k < length places → slice_index after (slice_index places k) ≡ slice_index bits k
-  pub others : (place : ℕ) → ((k : ℕ) → k < length places → slice_index places k ≢ place) → slice_index after place ≡ slice_index before place
+  pub each : (k : ℕ) → k < length places
+      → slice_index after (slice_index places k) ≡ slice_index bits k
+  pub others : (place : ℕ) → ((k : ℕ) → k < length places → slice_index places k ≢ place)
+      → slice_index after place ≡ slice_index before place
 
 -- every fixed place has 0, and each operation its value
 pub record IsFirst (base : ℕ) (ops : List Op) (values : List ℕ) : Type 0 where

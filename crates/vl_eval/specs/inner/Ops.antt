@@ -32,7 +32,8 @@ two_value Xor left right = bit_xor left right
 two_value Equal left right = truth (left == right)
 two_value NotEqual left right = truth (not (left == right))
 two_value (Less half) left right = truth (nat_lt (bit_xor left half) (bit_xor right half))
-two_value (LessEqual half) left right = truth (not (nat_lt (bit_xor right half) (bit_xor left half)))
+two_value (LessEqual half) left right =
+    truth (not (nat_lt (bit_xor right half) (bit_xor left half)))
 two_value Both left right = truth (not (left == 0) && not (right == 0))
 two_value Either left right = truth (not (left == 0) || not (right == 0))
 
@@ -42,7 +43,9 @@ op_value (One op part) at = one_value op (at part)
 op_value (Two op left right) at = two_value op (at left) (at right)
 op_value (Beside left right places) at = (at left * 2 ^ places % 2 ^ 128 + at right) % 2 ^ 128
 op_value (Choose test chosen other) at = if at test == 0 then at other else at chosen
-op_value (Next register) at = if at register.reset == 1 then register.first else (if at register.test == 0 then at register.kept else at register.value)
+op_value (Next register) at =
+    if at register.reset == 1 then register.first
+    else (if at register.test == 0 then at register.kept else at register.value)
 
 -- whether an operation shifts by less than a word
 abbrev pub shifts_within : OneOp → Type 0
@@ -61,7 +64,8 @@ reads_below (One op part) end = (part < end) × shifts_within op
 reads_below (Two op left right) end = (left < end) × (right < end)
 reads_below (Beside left right places) end = (left < end) × (right < end) × (places < 128)
 reads_below (Choose test chosen other) end = (test < end) × (chosen < end) × (other < end)
-reads_below (Next register) end = (register.reset < end) × (register.test < end) × (register.value < end) × (register.kept < end)
+reads_below (Next register) end =
+    (register.reset < end) × (register.test < end) × (register.value < end) × (register.kept < end)
 
 -- each operation reads what stands before its own place
 pub record IsOrdered (base : ℕ) (ops : List Op) : Type 0 where
@@ -69,8 +73,11 @@ pub record IsOrdered (base : ℕ) (ops : List Op) : Type 0 where
 
 -- each operation's place has its value
 pub record IsSettled (base : ℕ) (ops : List Op) (values : ℕ → ℕ) : Type 0 where
-  pub at : (k : ℕ) (d : Op) → k < length ops → values (base + k) ≡ op_value (slice_index_or ops k d) values
+  pub at : (k : ℕ) (d : Op) → k < length ops
+      → values (base + k) ≡ op_value (slice_index_or ops k d) values
 
 -- the first so many places of operations have their values
 pub record AreSettled (base count : ℕ) (ops : List Op) (values : List ℕ) : Type 0 where
-  pub at : (k : ℕ) (d : Op) → k < count → slice_index values (base + k) ≡ op_value (slice_index_or ops k d) (λ i. slice_index values i)
+  pub at : (k : ℕ) (d : Op) → k < count
+      → slice_index values (base + k)
+      ≡ op_value (slice_index_or ops k d) (λ i. slice_index values i)

@@ -18,9 +18,12 @@ abbrev pub row_of : (List ℕ → ℕ) → (ℕ → ℕ) → List ℕ → ℕ
 row_of slot_of values name = values (slot_of name)
 
 -- the place has the value of the expression in the context, once the operations are settled
-pub record Shows (base : ℕ) (nets : List ℕ → Net) (slot_of : List ℕ → ℕ) (ops : List Op) (slot width : ℕ) (signed : Bool) (e : Expr) : Type 0 where
+pub record Shows (base : ℕ) (nets : List ℕ → Net) (slot_of : List ℕ → ℕ) (ops : List Op)
+    (slot width : ℕ) (signed : Bool) (e : Expr) : Type 0 where
   pub below : slot < base + length ops
-  pub is : (values : ℕ → ℕ) → IsSettled base ops values → NamesFit nets (row_of slot_of values) (names_read e) → values slot ≡ value_in nets (row_of slot_of values) width signed e
+  pub is : (values : ℕ → ℕ) → IsSettled base ops values
+      → NamesFit nets (row_of slot_of values) (names_read e)
+      → values slot ≡ value_in nets (row_of slot_of values) width signed e
 
 -- operations were added, each of which reads what stands before it
 pub record Grows (base : ℕ) (before after : List Op) : Type 0 where
@@ -36,9 +39,11 @@ pub record Pushed (base : ℕ) (before after : List Op) (slot : ℕ) (op : Op) :
 -- a word, extended by its sign bit where the context is longer
 abbrev pub IsExtended : ℕ → List Op → List Op → ℕ → ℕ → ℕ → ℕ → Type 0
 IsExtended base before after slot part from to =
-    ((from ≡ to) × (slot ≡ part) × (after ≡ before)) ⊎ Pushed base before after slot (One (Extended (2 ^ (from - 1)) (2 ^ to - 2 ^ from)) part)
+    ((from ≡ to) × (slot ≡ part) × (after ≡ before))
+    ⊎ Pushed base before after slot (One (Extended (2 ^ (from - 1)) (2 ^ to - 2 ^ from)) part)
 
 -- an operand on the right of another; where that has no bits, the operand itself
 abbrev pub IsBeside : ℕ → List Op → List Op → ℕ → ℕ → ℕ → ℕ → ℕ → Type 0
 IsBeside base before after slot left left_length right right_length =
-    ((left_length ≡ 0) × (slot ≡ right) × (after ≡ before)) ⊎ ((0 < left_length) × Pushed base before after slot (Beside left right right_length))
+    ((left_length ≡ 0) × (slot ≡ right) × (after ≡ before))
+    ⊎ ((0 < left_length) × Pushed base before after slot (Beside left right right_length))

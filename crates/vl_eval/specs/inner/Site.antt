@@ -22,24 +22,27 @@ abbrev pub slot_in : Scope → List ℕ → List ℕ → ℕ
 slot_in scope slots name = slot_at slots (number_in scope name)
 
 -- operations were added, and the place shows the expression
-pub record Built (base : ℕ) (scope : Scope) (slots : List ℕ) (before after : List Op) (slot width : ℕ) (signed : Bool) (e : Expr) : Type 0 where
+pub record Built (base : ℕ) (scope : Scope) (slots : List ℕ) (before after : List Op)
+    (slot width : ℕ) (signed : Bool) (e : Expr) : Type 0 where
   pub grows : Grows base before after
   pub shows : Shows base (nets_in scope) (slot_in scope slots) after slot width signed e
 
 -- operations were added, and the place shows the expression in the context that it makes by itself
-pub record BuiltAlone (base : ℕ) (scope : Scope) (slots : List ℕ) (before after : List Op) (alone : Alone) (e : Expr) : Type 0 where
+pub record BuiltAlone (base : ℕ) (scope : Scope) (slots : List ℕ) (before after : List Op)
+    (alone : Alone) (e : Expr) : Type 0 where
   pub length : alone.shape.length ≡ own_length (nets_in scope) e
   pub sign : alone.shape.signed ≡ is_signed (nets_in scope) e
   pub few : alone.shape.length ≤ 128
   pub built : Built base scope slots before after alone.slot alone.shape.length alone.shape.signed e
 
 -- the names have places that stand before the next operation, and 1 to 128 bits
-pub record ArePlaced (base : ℕ) (scope : Scope) (slots : List ℕ) (ops : List Op) (names : List (List ℕ)) : Type 0 where
+pub record ArePlaced (base : ℕ) (scope : Scope) (slots : List ℕ) (ops : List Op)
+    (names : List (List ℕ)) : Type 0 where
   pub below : (name : List ℕ) → Contains names name → slot_in scope slots name < base + length ops
   pub few : (name : List ℕ) → Contains names name → (nets_in scope name).width ≤ 128
 
--- what building an expression in a context asks for: the law of a value by its layer, a sound expression, room for it, and
--- names with places
+-- what building an expression in a context asks for: the law of a value by its layer, a sound
+-- expression, room for it, and names with places
 pub record CanBuild (site : Site) (ops : List Op) (width : ℕ) (e : Expr) : Type 0 where
   pub by_layer : ByLayer
   pub sound : is_sound (nets_in site.scope.now) e ≡ true
@@ -49,7 +52,8 @@ pub record CanBuild (site : Site) (ops : List Op) (width : ℕ) (e : Expr) : Typ
 
 -- and what it gives
 abbrev pub IsBuilt : Site → List Op → List Op → Shape → Expr → ℕ → Type 0
-IsBuilt site before after context e slot = Built site.base site.scope.now site.slots.now before after slot context.length context.signed e
+IsBuilt site before after context e slot =
+    Built site.base site.scope.now site.slots.now before after slot context.length context.signed e
 
 -- the same in the context that the expression makes by itself
 pub record CanBuildAlone (site : Site) (ops : List Op) (e : Expr) : Type 0 where
@@ -58,4 +62,5 @@ pub record CanBuildAlone (site : Site) (ops : List Op) (e : Expr) : Type 0 where
   pub placed : ArePlaced site.base site.scope.now site.slots.now ops (names_read e)
 
 abbrev pub IsBuiltAlone : Site → List Op → List Op → Expr → Alone → Type 0
-IsBuiltAlone site before after e alone = BuiltAlone site.base site.scope.now site.slots.now before after alone e
+IsBuiltAlone site before after e alone =
+    BuiltAlone site.base site.scope.now site.slots.now before after alone e

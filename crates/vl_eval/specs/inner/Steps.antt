@@ -31,7 +31,14 @@ op_in wide (UpStep part places mask) = One (Up places mask) part
 op_in wide (SignedDownStep places part half mask) = One (SignedDown places half mask) part
 op_in wide (ChooseStep test chosen other) = Choose test chosen other
 op_in wide (BesideStep pair places) = Beside pair.left pair.right places
-op_in wide (NextStep register) = Next (record { reset = register.reset; first = register.first; test = register.test; value = register.value; kept = register.kept })
+op_in wide (NextStep register) =
+    Next (record {
+      reset = register.reset;
+      first = register.first;
+      test = register.test;
+      value = register.value;
+      kept = register.kept;
+    })
 op_in wide (Whole number) = slice_index_or wide number (Constant 0)
 
 -- the number of a step is one of so many

@@ -1,5 +1,5 @@
--- The plain division of bytes into lexemes: words and marks, each the longest there is (IEEE 1364-2005, 3.1 to 3.7,
--- as a plain division).
+-- The plain division of bytes into lexemes: words and marks, each the longest there is (IEEE
+-- 1364-2005, 3.1 to 3.7, as a plain division).
 use Prim.Native.Char.{code}
 use Rattle.std.specs.Prelude.{ℕ, not, ◌+◌, ◌*◌, ◌^◌, ◌==◌, nat_le, nat_lt, Bool, true, false, ◌&&◌, ◌||◌, if◌then◌else◌, List, [], ◌∷◌, ◌++◌, length, bytes_eq, codes, Option, Some, None, option_map, option_and_then}
 use Rattle.std.specs.List.{prefix_len}
@@ -16,14 +16,18 @@ use Rattle.vl_read.specs.declared.scan.Kind.TheVariants.{Name, Count, Constant, 
 
 -- a letter, a digit, `_`, `$` or `'`
 abbrev pub is_word_byte : ℕ → Bool
-is_word_byte byte = is_ascii_alphanumeric byte || byte == code "_" || byte == code "$" || byte == code "'"
+is_word_byte byte =
+    is_ascii_alphanumeric byte || byte == code "_" || byte == code "$" || byte == code "'"
 
 -- one of ( ) [ ] { } , ; : = @ ? + - * & | ^ ~ ! < >
 abbrev pub is_mark_byte : ℕ → Bool
 is_mark_byte byte =
-    byte == code "(" || byte == code ")" || byte == code "[" || byte == code "]" || byte == code "{" || byte == code "}" || byte == code "," || byte == code ";"
-    || byte == code ":" || byte == code "=" || byte == code "@" || byte == code "?" || byte == code "+" || byte == code "-" || byte == code "*" || byte == code "&"
-    || byte == code "|" || byte == code "^" || byte == code "~" || byte == code "!" || byte == code "<" || byte == code ">"
+    byte == code "(" || byte == code ")" || byte == code "[" || byte == code "]"
+    || byte == code "{" || byte == code "}" || byte == code "," || byte == code ";"
+    || byte == code ":" || byte == code "=" || byte == code "@" || byte == code "?"
+    || byte == code "+" || byte == code "-" || byte == code "*" || byte == code "&"
+    || byte == code "|" || byte == code "^" || byte == code "~" || byte == code "!"
+    || byte == code "<" || byte == code ">"
 
 -- whether a byte is of a word, a blank, of a comment, of a mark, or none
 unfoldable pub class_of : ℕ → ByteClass
@@ -39,7 +43,9 @@ unfoldable pub extends : List ℕ → ℕ → Bool
 extends mark byte =
     if byte == code "*" then bytes_eq mark (codes "(")
     else (if byte == code ")" then bytes_eq mark (codes "*")
-    else (if byte == code "=" then bytes_eq mark (codes "<") || bytes_eq mark (codes ">") || bytes_eq mark (codes "=") || bytes_eq mark (codes "!")
+    else (if byte == code "="
+    then bytes_eq mark (codes "<") || bytes_eq mark (codes ">") || bytes_eq mark (codes "=")
+    || bytes_eq mark (codes "!")
     else (if byte == code "<" then bytes_eq mark (codes "<")
     else (if byte == code ">" then bytes_eq mark (codes ">") || bytes_eq mark (codes ">>")
     else (if byte == code "&" then bytes_eq mark (codes "&")
@@ -79,7 +85,8 @@ begin lexemes OfNone byte = None
 -- a byte outside of comments
 abbrev pub outside : Mode → List ℕ → ByteClass → ℕ → Option Move
 outside mode lexeme class byte =
-    if continues mode class lexeme byte then moved [] mode (lexeme ++ byte ∷ []) else begin (ended mode lexeme) class byte
+    if continues mode class lexeme byte then moved [] mode (lexeme ++ byte ∷ [])
+    else begin (ended mode lexeme) class byte
 
 -- what a byte gives in each mode
 abbrev pub move : Mode → List ℕ → ℕ → Option Move
@@ -87,11 +94,15 @@ move Between lexeme byte = outside Between lexeme (class_of byte) byte
 move Word lexeme byte = outside Word lexeme (class_of byte) byte
 move Mark lexeme byte = outside Mark lexeme (class_of byte) byte
 move Slash lexeme byte =
-    if byte == code "/" then moved [] LineComment [] else (if byte == code "*" then moved [] BlockComment [] else None)
-move LineComment lexeme byte = if byte == code "\n" then moved [] Between [] else moved [] LineComment []
-move BlockComment lexeme byte = if byte == code "*" then moved [] Star [] else moved [] BlockComment []
+    if byte == code "/" then moved [] LineComment []
+    else (if byte == code "*" then moved [] BlockComment [] else None)
+move LineComment lexeme byte =
+    if byte == code "\n" then moved [] Between [] else moved [] LineComment []
+move BlockComment lexeme byte =
+    if byte == code "*" then moved [] Star [] else moved [] BlockComment []
 move Star lexeme byte =
-    if byte == code "/" then moved [] Between [] else (if byte == code "*" then moved [] Star [] else moved [] BlockComment [])
+    if byte == code "/" then moved [] Between []
+    else (if byte == code "*" then moved [] Star [] else moved [] BlockComment [])
 
 -- the lexemes that end with the text
 abbrev pub last_lexemes : Mode → List ℕ → Option (List (List ℕ))
@@ -107,7 +118,9 @@ last_lexemes Star lexeme = None
 abbrev pub lexemes_from : Mode → List ℕ → List ℕ → Option (List (List ℕ))
 lexemes_from mode lexeme [] = last_lexemes mode lexeme
 lexemes_from mode lexeme (byte ∷ bytes) =
-    option_and_then (λ next. option_map (λ more. next.lexemes ++ more) (lexemes_from next.mode next.lexeme bytes)) (move mode lexeme byte)
+    option_and_then
+    (λ next. option_map (λ more. next.lexemes ++ more)
+    (lexemes_from next.mode next.lexeme bytes)) (move mode lexeme byte)
 
 -- a digit of the base; those above 9 are small letters or capitals
 abbrev pub is_digit : ℕ → ℕ → Bool
@@ -128,34 +141,40 @@ is_nonempty (byte ∷ bytes) = true
 
 -- one to nine decimal digits
 unfoldable pub dec_of : List ℕ → Option ℕ
-dec_of digits = if is_nonempty digits && nat_le (length digits) 9 then number_after 10 0 digits else None
+dec_of digits =
+    if is_nonempty digits && nat_le (length digits) 9 then number_after 10 0 digits else None
 
 -- what stands before the first apostrophe, and what after it
 abbrev pub around_quote : List ℕ → Option (List ℕ × List ℕ)
 around_quote [] = None
 around_quote (byte ∷ bytes) =
-    if byte == code "'" then Some ([], bytes) else option_map (λ parts. (byte ∷ parts.0, parts.1)) (around_quote bytes)
+    if byte == code "'" then Some ([], bytes)
+    else option_map (λ parts. (byte ∷ parts.0, parts.1)) (around_quote bytes)
 
 -- a based number of these parts, where its digits have a number
 abbrev pub sized_as : ℕ → Bool → Option ℕ → Option Sized
 sized_as width signed None = None
-sized_as width signed (Some number) = Some (record { width = width; signed = signed; bits = number })
+sized_as width signed (Some number) =
+    Some (record { width = width; signed = signed; bits = number })
 
 -- one to 128 digits
 abbrev pub sized_by : ℕ → Bool → ℕ → List ℕ → Option Sized
 sized_by width signed base digits =
-    if is_nonempty digits && nat_le (length digits) 128 then sized_as width signed (number_after base 0 digits) else None
+    if is_nonempty digits && nat_le (length digits) 128
+    then sized_as width signed (number_after base 0 digits) else None
 
 -- after the mark of a signed number
 abbrev pub sized_after : ℕ → Bool → List ℕ → Option Sized
 sized_after width signed [] = None
-sized_after width signed (letter ∷ digits) = option_and_then (λ base. sized_by width signed base digits) (base_of letter)
+sized_after width signed (letter ∷ digits) =
+    option_and_then (λ base. sized_by width signed base digits) (base_of letter)
 
 -- after the apostrophe
 abbrev pub sized_in : ℕ → List ℕ → Option Sized
 sized_in width [] = None
 sized_in width (byte ∷ bytes) =
-    if byte == code "s" || byte == code "S" then sized_after width true bytes else sized_after width false (byte ∷ bytes)
+    if byte == code "s" || byte == code "S" then sized_after width true bytes
+    else sized_after width false (byte ∷ bytes)
 
 -- how many bytes stand before the first apostrophe
 abbrev pub quote_place : List ℕ → ℕ
@@ -164,7 +183,8 @@ quote_place = prefix_len (λ byte. not (byte == code "'"))
 -- a number with its width and its base
 unfoldable pub sized_of : List ℕ → Option Sized
 sized_of bytes =
-    option_and_then (λ parts. option_and_then (λ width. sized_in width parts.1) (dec_of parts.0)) (around_quote bytes)
+    option_and_then (λ parts. option_and_then (λ width. sized_in width parts.1) (dec_of parts.0))
+    (around_quote bytes)
 
 -- a number, a number with a base, or a word as it stands
 abbrev pub kind_by : Option ℕ → Option Sized → Kind

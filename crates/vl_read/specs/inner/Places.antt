@@ -1,5 +1,5 @@
--- The states of the plain reading: the module so far, and where in a module the reading is with what was read for
--- that place (own).
+-- The states of the plain reading: the module so far, and where in a module the reading is with
+-- what was read for that place (own).
 use Prim.Native.Char.{code}
 use Rattle.std.specs.Prelude.{ℕ, Bool, List, Option}
 use Rattle.vl_ast.specs.declared.expressions.ShiftOp.{ShiftOp}
@@ -45,7 +45,8 @@ pub data Spot : Type 0 where
   -- after a name, `[`, a number and `:`
   Low : List ℕ → ℕ → Spot
 
--- the head of an item with a clock: its name, the value at a reset, and the condition if there is one
+-- the head of an item with a clock: its name, the value at a reset, and the condition if there is
+-- one
 pub record Clocked : Type 0 where
   pub name : List ℕ
   pub first : Sized

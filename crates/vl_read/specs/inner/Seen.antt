@@ -42,7 +42,8 @@ net_seen attrs (OfItem is_reg) = plain.OfItem is_reg
 abbrev pub goal_seen : List ℕ → Sized → Option Expr → Goal → plain.Goal
 goal_seen name first condition Assigned = plain.Assigned name
 goal_seen name first condition Condition = plain.Condition name first
-goal_seen name first condition Next = plain.Next (record { name = name; first = first; condition = condition })
+goal_seen name first condition Next =
+    plain.Next (record { name = name; first = first; condition = condition })
 
 -- a place in an expression
 abbrev pub spot_seen : List ℕ → Expr → Spot → plain.Spot
@@ -60,7 +61,8 @@ spot_seen operand value (Low high) = plain.Low operand high
 -- a place in a module
 abbrev pub place_seen : Held → Place → plain.Place
 place_seen held Start = plain.Start
-place_seen held (Attributes of_port at) = plain.Attributes of_port held.attrs (attr_spot_seen held.name at)
+place_seen held (Attributes of_port at) =
+    plain.Attributes of_port held.attrs (attr_spot_seen held.name at)
 place_seen held Title = plain.Title
 place_seen held Ports = plain.Ports
 place_seen held PortPlace = plain.Port held.attrs
@@ -78,11 +80,15 @@ place_seen held AfterFirst = plain.AfterFirst held.name held.first
 place_seen held Else = plain.Else held.name held.first
 place_seen held Branch = plain.Branch held.name held.first
 place_seen held If = plain.If held.name held.first
-place_seen held Again = plain.Again (record { name = held.name; first = held.first; condition = held.condition })
-place_seen held NextSign = plain.NextSign (record { name = held.name; first = held.first; condition = held.condition })
+place_seen held Again =
+    plain.Again (record { name = held.name; first = held.first; condition = held.condition })
+place_seen held NextSign =
+    plain.NextSign (record { name = held.name; first = held.first; condition = held.condition })
 place_seen held (Expression spot) =
-    plain.Expression (goal_seen held.name held.first held.condition held.goal) held.frames.items (spot_seen held.operand held.value spot)
-place_seen held (AfterNet is_reg signed width) = plain.Semicolon (net_item is_reg signed width held.name)
+    plain.Expression (goal_seen held.name held.first held.condition held.goal) held.frames.items
+    (spot_seen held.operand held.value spot)
+place_seen held (AfterNet is_reg signed width) =
+    plain.Semicolon (net_item is_reg signed width held.name)
 place_seen held End = plain.End (Always held.name held.first held.condition held.value)
 place_seen held Done = plain.Done
 

@@ -23,10 +23,14 @@ abbrev pub mode_after : Mode → ℕ → Option Mode
 mode_after Between byte = mode_by (class_of byte)
 mode_after Word byte = mode_by (class_of byte)
 mode_after Mark byte = mode_by (class_of byte)
-mode_after Slash byte = if byte == code "/" then Some LineComment else (if byte == code "*" then Some BlockComment else None)
+mode_after Slash byte =
+    if byte == code "/" then Some LineComment
+    else (if byte == code "*" then Some BlockComment else None)
 mode_after LineComment byte = if byte == code "\n" then Some Between else Some LineComment
 mode_after BlockComment byte = if byte == code "*" then Some Star else Some BlockComment
-mode_after Star byte = if byte == code "/" then Some Between else (if byte == code "*" then Some Star else Some BlockComment)
+mode_after Star byte =
+    if byte == code "/" then Some Between
+    else (if byte == code "*" then Some Star else Some BlockComment)
 
 -- neither in a word nor in a mark
 abbrev pub IsBeyond : Mode → Type 0
@@ -46,11 +50,14 @@ between start end bytes = take (end - start) (drop start bytes)
 
 -- whether the byte at a place goes on with the lexeme that begins at another
 abbrev pub goes_on_at : Mode → List ℕ → ℕ → ℕ → Bool
-goes_on_at mode bytes start place = continues mode (class_of (get_or bytes place 0)) (between start place bytes) (get_or bytes place 0)
+goes_on_at mode bytes start place =
+    continues mode (class_of (get_or bytes place 0)) (between start place bytes)
+    (get_or bytes place 0)
 
 -- each byte after a place and before another goes on with the lexeme that begins at the first
 abbrev pub GoOn : Mode → List ℕ → ℕ → ℕ → Type 0
-GoOn mode bytes start end = (place : ℕ) → start < place → place < end → goes_on_at mode bytes start place ≡ true
+GoOn mode bytes start end =
+    (place : ℕ) → start < place → place < end → goes_on_at mode bytes start place ≡ true
 
 -- the parser after some lexemes
 abbrev pub feed : Parser → List (List ℕ) → Option Parser

@@ -8,6 +8,7 @@ use Rattle.vl_read.specs.declared.pieces.Wrap.TheVariants.{Repeat, Cast, Unary, 
 
 abbrev pub wrapped_in : Wrap → Expr → Expr
 wrapped_in (Repeat count) part = roll-Expr (Expr-F.Repeat count part)
-wrapped_in (Cast signed) part = if signed then roll-Expr (Expr-F.AsSigned part) else roll-Expr (Expr-F.AsUnsigned part)
+wrapped_in (Cast signed) part =
+    if signed then roll-Expr (Expr-F.AsSigned part) else roll-Expr (Expr-F.AsUnsigned part)
 wrapped_in (Unary op) part = roll-Expr (Expr-F.Unary op part)
 wrapped_in (Shift op amount) part = roll-Expr (Expr-F.Shift op part amount)

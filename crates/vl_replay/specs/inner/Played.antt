@@ -25,16 +25,22 @@ pub record IsScoreOf (m : Module) (score : Score) : Type 0 where
   pub drivers : score.drivers.items ≡ drivers_from (is_stallable m) 0 (driven_ports m)
   pub samplers : score.samplers.items ≡ map (sampler_of (clocks_of m)) (output_ports m)
 
--- in a ring of so many rows the cells whose clocks are among so many have the numbers of their hits, until another
--- sample's number is put there
-pub record HaveCells (m : Module) (samples window clocks : ℕ) (rows : Rows) (cells : List ℤ) : Type 0 where
+-- in a ring of so many rows the cells whose clocks are among so many have the numbers of their
+-- hits, until another sample's number is put there
+pub record HaveCells (m : Module) (samples window clocks : ℕ) (rows : Rows)
+    (cells : List ℤ) : Type 0 where
   pub long : length cells ≡ window * length (output_ports m)
-  pub at : Each (output_ports m) (λ place port. (t : Sample) → t < samples → t * clocks_of m + lateness_of port < clocks
+  pub at : Each (output_ports m)
+      (λ place port. (t : Sample) → t < samples → t * clocks_of m + lateness_of port < clocks
       → (t + window < samples → clocks ≤ (t + window) * clocks_of m + lateness_of port)
-      → slice_index_or cells (cell_of window (length (output_ports m)) place t) (pos 0) ≡ port_number port (rows (2 + (hit_at (step_of port) t * clocks_of m + lateness_of port)) port.name))
+      → slice_index_or cells (cell_of window (length (output_ports m)) place t) (pos 0)
+      ≡ port_number port
+      (rows (2 + (hit_at (step_of port) t * clocks_of m + lateness_of port)) port.name))
 
--- a machine in row 0, with its score and room for the bits of its inputs and for a ring of so many rows
-pub record CanPlay (machine : Machine) (score : Score) (window : ℕ) (bits : List ℕ) (cells : List ℤ) : Type 0 where
+-- a machine in row 0, with its score and room for the bits of its inputs and for a ring of so many
+-- rows
+pub record CanPlay (machine : Machine) (score : Score) (window : ℕ) (bits : List ℕ)
+    (cells : List ℤ) : Type 0 where
   pub ready : IsReady machine
   pub is : IsScoreOf (source_of machine) score
   pub row : IsFirstRow (source_of machine) (λ name. 0) (λ name. 0) (row_of machine)
@@ -43,27 +49,32 @@ pub record CanPlay (machine : Machine) (score : Score) (window : ℕ) (bits : Li
   pub wide : length bits ≡ length score.drivers.items
 
 -- so many clocks are passed: the rows up to the machine's run, and their numbers stand in the cells
-pub record IsPlayed (score : Score) (window clocks : ℕ) (machine : Machine) (cells : List ℤ) : Type 0 where
+pub record IsPlayed (score : Score) (window clocks : ℕ) (machine : Machine)
+    (cells : List ℤ) : Type 0 where
   pub ready : IsReady machine
   pub score_is : IsScoreOf (source_of machine) score
   pub some : 0 < window
   pub rows : Rows
-  pub steps : AreSteps (source_of machine) (2 + clocks) (λ name. 0) (inputs_of (source_of machine) (numbers_of score.stimulus) score.stimulus.lines) rows
+  pub steps : AreSteps (source_of machine) (2 + clocks) (λ name. 0)
+      (inputs_of (source_of machine) (numbers_of score.stimulus) score.stimulus.lines) rows
   pub last : rows (1 + clocks) ≡ row_of machine
   pub have : HaveCells (source_of machine) score.stimulus.lines window clocks rows cells
 
 -- no output is sampled more samples late than it may come clocks late
 pub record AreNear (samplers : List Sampler) : Type 0 where
-  pub delay : (place : ℕ) (sampler : Sampler) → slice_get samplers place ≡ Some sampler → sampler.delay ≤ most_latency
+  pub delay : (place : ℕ) (sampler : Sampler) → slice_get samplers place ≡ Some sampler
+      → sampler.delay ≤ most_latency
 
 -- no number is sampled more samples late; with no samples there are none
 pub record IsDelay (score : Score) (delay : ℕ) : Type 0 where
   pub few : delay ≤ most_latency
-  pub most : (place : ℕ) (sampler : Sampler) → slice_get score.samplers.items place ≡ Some sampler → 0 < score.stimulus.lines → sampler.delay ≤ delay
+  pub most : (place : ℕ) (sampler : Sampler) → slice_get score.samplers.items place ≡ Some sampler
+      → 0 < score.stimulus.lines → sampler.delay ≤ delay
 
--- a ring of so many rows holds the numbers of a sample until all of them are sampled: its row is another's only once
--- that one's number is sampled, by each sampler's own delay
+-- a ring of so many rows holds the numbers of a sample until all of them are sampled: its row is
+-- another's only once that one's number is sampled, by each sampler's own delay
 pub record IsWindow (score : Score) (delay window : ℕ) : Type 0 where
   pub some : 0 < window
   pub few : window ≤ most_latency + 1
-  pub wide : (place : ℕ) (sampler : Sampler) → slice_get score.samplers.items place ≡ Some sampler → window < score.stimulus.lines → delay < window + sampler.delay
+  pub wide : (place : ℕ) (sampler : Sampler) → slice_get score.samplers.items place ≡ Some sampler
+      → window < score.stimulus.lines → delay < window + sampler.delay

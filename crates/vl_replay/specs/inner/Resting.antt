@@ -19,8 +19,11 @@ IsPast samples from (Column place period width) = samples + period ≤ from
 
 -- from a sample up to another no column shows a number, and no output is due
 pub record IsQuiet (score : Score) (from until : ℕ) : Type 0 where
-  pub drivers : (k : ℕ) (driver : Driver) → slice_get score.drivers.items k ≡ Some driver → IsPast score.stimulus.lines from driver
-  pub samplers : (place : ℕ) (sampler : Sampler) → slice_get score.samplers.items place ≡ Some sampler → sampler.delay < until → score.stimulus.lines + sampler.delay ≤ from
+  pub drivers : (k : ℕ) (driver : Driver) → slice_get score.drivers.items k ≡ Some driver
+      → IsPast score.stimulus.lines from driver
+  pub samplers : (place : ℕ) (sampler : Sampler)
+      → slice_get score.samplers.items place ≡ Some sampler → sampler.delay < until
+      → score.stimulus.lines + sampler.delay ≤ from
 
 -- so many edges with the same inputs lead from one row to another
 pub record Leads (m : Module) (inputs first : Row) (count : ℕ) (last : Row) : Type 0 where
@@ -30,7 +33,8 @@ pub record Leads (m : Module) (inputs first : Row) (count : ℕ) (last : Row) : 
   pub ends : rows count ≡ last
 
 -- so many edges lead to the machine's row, and the last of them from that of a snapshot
-pub record IsSince (m : Module) (inputs first : Row) (count since : ℕ) (machine : Machine) (snapshot : Snapshot) : Type 0 where
+pub record IsSince (m : Module) (inputs first : Row) (count since : ℕ) (machine : Machine)
+    (snapshot : Snapshot) : Type 0 where
   pub row : Row
   pub kept : IsKept machine snapshot row
   pub before : ℕ

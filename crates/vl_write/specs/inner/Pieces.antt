@@ -15,5 +15,8 @@ abbrev pub piece_text : List ModItem → ℕ → List ℕ
 piece_text items piece = flat_map item_text (piece_of items piece)
 
 -- the text stands at the end of what was there, unless memory was wanting
-abbrev pub Adds : List ℕ → Result (Vec ℕ Global) OutOfMemory → Result (Vec ℕ Global) OutOfMemory → Type 0
-Adds text before after = (begun : List ℕ) → IfOk before (λ lines. lines.items ≡ begun) → IfOk after (λ lines. lines.items ≡ begun ++ text)
+abbrev pub Adds : List ℕ → Result (Vec ℕ Global) OutOfMemory → Result (Vec ℕ Global) OutOfMemory
+    → Type 0
+Adds text before after =
+    (begun : List ℕ) → IfOk before (λ lines. lines.items ≡ begun)
+    → IfOk after (λ lines. lines.items ≡ begun ++ text)
