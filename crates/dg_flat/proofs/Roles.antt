@@ -7,7 +7,8 @@ use Rattle.dg_model.specs.declared.kind.Kind.{Kind}
 use Rattle.dg_model.specs.declared.kind.Kind.TheVariants.{Inport, Outport, Pass, EnableTest, EnOut}
 use Rattle.dg_model.specs.declared.nested.NestedBlock.{NestedBlock}
 use Rattle.dg_model.specs.declared.row.Role.{Role}
-use Rattle.dg_model.specs.Library.{row_of, IsReadable, HasPorts}
+use Rattle.dg_model.specs.Library.{row_of}
+use Rattle.dg_model.specs.Readable.{IsReadable, HasPorts}
 use Rattle.dg_model.specs.Sound.{IsInRole, IsOutRole, HasEnablePort}
 
 abbrev ByRole : Kind → Role → Type 0

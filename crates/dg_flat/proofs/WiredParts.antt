@@ -12,7 +12,8 @@ use Rattle.dg_model.specs.declared.nested.NestedBlock.{NestedBlock}
 use Rattle.dg_model.specs.declared.nested.Part.{Part}
 use Rattle.dg_model.specs.declared.nested.Part.TheVariants.{Plain, In, Out, SubSystem, Enable}
 use Rattle.dg_model.specs.declared.row.Role.{Role}
-use Rattle.dg_model.specs.Library.{row_of, IsReadable}
+use Rattle.dg_model.specs.Library.{row_of}
+use Rattle.dg_model.specs.Readable.{IsReadable}
 use Rattle.dg_model.specs.Sound.{IsSound, HasReadable}
 use Rattle.dg_model.specs.Wired.{NamesControl}
 use Rattle.dg_flat.specs.Flat.{flat_block, flat_blocks, flat_place, resets_under}

@@ -16,7 +16,8 @@ use Rattle.dg_model.specs.declared.kind.Relation.TheVariants.{Lt}
 use Rattle.dg_model.specs.declared.kind.Gate.TheVariants.{And, Not}
 use Rattle.dg_model.specs.declared.kind.Kind.{Kind}
 use Rattle.dg_model.specs.declared.kind.Kind.TheVariants.{Inport, Outport, Constant, Ground, Sum, Gain, Product, Switch, Relational, Logic, Convert, Delay, Mux, Demux, RateTransition, Pass, EnableTest, EnOut, Terminator}
-use Rattle.dg_model.specs.Library.{row_of, HasPorts, HasRounding, IsReadable}
+use Rattle.dg_model.specs.Library.{row_of}
+use Rattle.dg_model.specs.Readable.{HasPorts, HasRounding, IsReadable}
 use Rattle.dg_model.proofs.Examples.{int8, block_of, decimal_of, fraction_of}
 use Rattle.dg_model.proofs.Written.{all_of}
 

@@ -15,7 +15,8 @@ use Rattle.dg_model.specs.declared.kind.Kind.TheVariants.{Inport, Outport, Enabl
 use lib.Signed.{le_z_yes}
 use Rattle.dg_model.specs.declared.row.Role.{Role}
 use Rattle.dg_model.specs.KindRow.{IsSpec}
-use Rattle.dg_model.specs.Library.{row_of, IsReadable}
+use Rattle.dg_model.specs.Library.{row_of}
+use Rattle.dg_model.specs.Readable.{IsReadable}
 use Rattle.dg_model.specs.Wires.{enters}
 use Rattle.dg_model.specs.Wired.{IsWired, Joins, StandsBefore, NamesControl, MayStand}
 use Rattle.dg_model.proofs.Examples.{int8, block_of, edge_of, decimal_of}

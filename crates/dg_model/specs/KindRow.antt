@@ -1,12 +1,14 @@
 -- What is told of each kind of block: the columns of its row (Simulink reference, each block's
 -- page; the limits are own).
-use Rattle.std.specs.Prelude.{◌≡◌, ℕ, ◌≤◌, ◌<◌, Bool, IsFalse, List, length, ⊤}
+use Rattle.std.specs.Prelude.{◌≡◌, ℕ, ◌≤◌, ◌<◌, Bool, IsFalse, List, [], ◌∷◌, length, ⊤}
 use Rattle.fx_type.specs.declared.spec.TypeSpec.{TypeSpec}
 use Rattle.fx_type.specs.declared.spec.TypeSpec.TheVariants.{Fixed, Internal, SameFirst, Auto}
 use Rattle.fx_type.specs.declared.decimal.Decimal.{Decimal}
 use Rattle.fx_type.specs.FxType.{IsType}
 use Rattle.dg_model.specs.declared.diagram.PeriodSpec.{PeriodSpec}
 use Rattle.dg_model.specs.declared.diagram.PeriodSpec.TheVariants.{Inherit, Constant as ConstantPeriod, Every}
+use Rattle.dg_model.specs.declared.kind.Gate.{Gate}
+use Rattle.dg_model.specs.declared.kind.Gate.TheVariants.{And, Or, Nand, Nor, Xor, Nxor, Not}
 use Rattle.dg_model.specs.declared.row.Role.{Role}
 use Rattle.dg_model.specs.declared.row.Standing.{Standing}
 use Rattle.dg_model.specs.declared.row.OwnType.{OwnType}
@@ -162,3 +164,18 @@ pub record Row : Type 1 where
   pub types : TypeRow
   pub timing : TimingRow
   pub hardware : HardwareRow
+
+-- a gate has 2 to 32 inputs, and NOT one
+abbrev pub HasOperands : Gate → ℕ → Type 0
+HasOperands And inputs = IsBetween 2 32 inputs
+HasOperands Or inputs = IsBetween 2 32 inputs
+HasOperands Nand inputs = IsBetween 2 32 inputs
+HasOperands Nor inputs = IsBetween 2 32 inputs
+HasOperands Xor inputs = IsBetween 2 32 inputs
+HasOperands Nxor inputs = IsBetween 2 32 inputs
+HasOperands Not inputs = inputs ≡ 1
+
+-- a Mux has one input a size, or 1 to 1024 where no size is fixed
+abbrev pub HasParts : List ℕ → ℕ → Type 0
+HasParts [] inputs = IsBetween 1 longest_list inputs
+HasParts (size ∷ sizes) inputs = inputs ≡ length (size ∷ sizes)

@@ -21,6 +21,7 @@ pub mod PlanNames
 pub mod PlanOf
 pub mod PlanRange
 pub mod Rate
+pub mod Readable
 pub mod RootElements
 pub mod RuleTable
 pub mod Signals

@@ -1,15 +1,10 @@
 -- What each kind of block may carry and how it behaves beside its equation: one row a kind
 -- (Simulink reference, each block's page; the limits are own). A new kind has no meaning before it
 -- has a row.
-use Rattle.std.specs.Prelude.{◌≡◌, ℕ, ◌⊎◌, pos, Bool, true, false, IsFalse, MatchBool, List, [], ◌∷◌, length, All, ⊤}
+use Rattle.std.specs.Prelude.{◌⊎◌, pos, true, false, [], ◌∷◌, length, All, ⊤}
 use Rattle.fx_type.specs.declared.kind.FxType.TheVariants.{Num, Logical as LogicalType}
 use Rattle.fx_type.specs.declared.spec.TypeSpec.TheVariants.{Auto}
-use Rattle.fx_type.specs.declared.rounding.Rounding.{Rounding}
-use Rattle.fx_type.specs.declared.rounding.Rounding.TheVariants.{Floor}
-use Rattle.dg_model.specs.declared.diagram.Block.{Block}
 use Rattle.dg_model.specs.declared.diagram.PeriodSpec.TheVariants.{Inherit, Every}
-use Rattle.dg_model.specs.declared.kind.Gate.{Gate}
-use Rattle.dg_model.specs.declared.kind.Gate.TheVariants.{And, Or, Nand, Nor, Xor, Nxor, Not}
 use Rattle.dg_model.specs.declared.kind.Kind.{Kind}
 use Rattle.dg_model.specs.declared.kind.Kind.TheVariants.{Inport, Outport, Constant, Ground, Sum, Gain, Product, Switch, Relational, Logic, Convert, Delay, Mux, Demux, RateTransition, Pass, EnableTest, EnOut, Terminator}
 use Rattle.dg_model.specs.declared.row.Role.{Role}
@@ -18,23 +13,8 @@ use Rattle.dg_model.specs.declared.row.OwnType.{OwnType}
 use Rattle.dg_model.specs.declared.row.Inherited.{Inherited}
 use Rattle.dg_model.specs.declared.row.Reading.{Reading}
 use Rattle.dg_model.specs.declared.row.Asking.{Asking}
-use Rattle.dg_model.specs.KindRow.{Row, Shape, FullRule, Only, IsBetween, IsList, IsPeriod, IsSpec, MayBeFixed, IsChoice, IsFixed, MayDeclare, IsConstantPeriod}
+use Rattle.dg_model.specs.KindRow.{Row, Shape, FullRule, Only, IsBetween, HasOperands, HasParts, IsList, IsPeriod, IsSpec, MayBeFixed, IsChoice, IsFixed, MayDeclare, IsConstantPeriod}
 use Rattle.dg_model.specs.Limits.{most_blocks, widest_signal, longest_list, longest_delay}
-
--- a gate has 2 to 32 inputs, and NOT one
-abbrev pub HasOperands : Gate → ℕ → Type 0
-HasOperands And inputs = IsBetween 2 32 inputs
-HasOperands Or inputs = IsBetween 2 32 inputs
-HasOperands Nand inputs = IsBetween 2 32 inputs
-HasOperands Nor inputs = IsBetween 2 32 inputs
-HasOperands Xor inputs = IsBetween 2 32 inputs
-HasOperands Nxor inputs = IsBetween 2 32 inputs
-HasOperands Not inputs = inputs ≡ 1
-
--- a Mux has one input a size, or 1 to 1024 where no size is fixed
-abbrev pub HasParts : List ℕ → ℕ → Type 0
-HasParts [] inputs = IsBetween 1 longest_list inputs
-HasParts (size ∷ sizes) inputs = inputs ≡ length (size ∷ sizes)
 
 -- the row of each kind
 abbrev pub row_of : Kind → Row
@@ -402,22 +382,3 @@ row_of Terminator = record {
       };
   hardware = record { pipelines = false; multiplies = false };
 }
-
--- how many input and output ports a kind has
-abbrev pub HasPorts : Kind → ℕ → ℕ → Type 0
-HasPorts kind inputs outputs =
-    (row_of kind).ports.inputs inputs × (row_of kind).ports.outputs outputs
-
--- a kind that doesn't round has no rounding and no saturation
-abbrev pub HasRounding : Kind → Rounding → Bool → Type 0
-HasRounding kind rounding saturate =
-    MatchBool (row_of kind).types.rounds ⊤ ((rounding ≡ Floor) × IsFalse saturate)
-
--- a block is such as its text in a model can be
-pub record IsReadable (block : Block) : Type 0 where
-  pub ports : HasPorts block.kind block.inputs block.outputs
-  pub parameters : (row_of block.kind).parameters
-  pub types : IsSpec block.result
-  pub result : (row_of block.kind).types.may_be block.result
-  pub rounding : HasRounding block.kind block.rounding block.saturate
-  pub period : (row_of block.kind).timing.may_be block.period

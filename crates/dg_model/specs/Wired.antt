@@ -7,7 +7,8 @@ use Rattle.dg_model.specs.Limits.{most_blocks}
 use Rattle.dg_model.specs.Wires.{enters}
 use Rattle.dg_model.specs.declared.row.Role.{Role}
 use Rattle.dg_model.specs.declared.row.Standing.{Standing}
-use Rattle.dg_model.specs.Library.{row_of, IsReadable}
+use Rattle.dg_model.specs.Library.{row_of}
+use Rattle.dg_model.specs.Readable.{IsReadable}
 
 -- the edge joins an output port and an input port that are there
 pub record Joins (blocks : List Block) (edge : Edge) : Type 0 where

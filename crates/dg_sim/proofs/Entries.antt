@@ -5,7 +5,8 @@ use Rattle.fx_type.specs.declared.decimal.Decimal.{Decimal}
 use Rattle.dg_model.specs.declared.diagram.Block.{Block}
 use Rattle.dg_model.specs.declared.kind.Kind.{Kind}
 use Rattle.dg_model.specs.declared.kind.Kind.TheVariants.{Delay}
-use Rattle.dg_model.specs.Library.{row_of, HasPorts, IsReadable}
+use Rattle.dg_model.specs.Library.{row_of}
+use Rattle.dg_model.specs.Readable.{HasPorts, IsReadable}
 use Rattle.dg_model.specs.Wired.{IsWired}
 use Rattle.dg_model.specs.declared.diagram.Diagram.{Diagram}
 use Rattle.dg_model.specs.Signals.{Attributes}

@@ -11,7 +11,8 @@ use Rattle.dg_model.specs.declared.kind.Kind.TheVariants.{Constant, Gain, Switch
 use Rattle.dg_model.specs.Attributes.{attributes_of}
 use Rattle.dg_model.specs.Checked.{IsChecked}
 use Rattle.dg_model.specs.Dimension.{IsRepeated}
-use Rattle.dg_model.specs.Library.{row_of, HasPorts}
+use Rattle.dg_model.specs.Library.{row_of}
+use Rattle.dg_model.specs.Readable.{HasPorts}
 use Rattle.dg_model.specs.Solves.{IsShown, shown_ports, shown_width}
 use Rattle.dg_tables.specs.Fit.{HasLists}
 use Rattle.dg_sim.specs.inner.Turns.{HasEntry}

@@ -14,8 +14,9 @@ use Rattle.fx_type.specs.declared.decimal.Decimal.{Decimal}
 use Rattle.dg_model.specs.Attributes.{attributes_of}
 use Rattle.dg_model.specs.Checked.{IsChecked, CheckedDiagram}
 use Rattle.dg_model.specs.Instant.{reads_now, asks_now}
-use Rattle.dg_model.specs.KindRow.{Shape}
-use Rattle.dg_model.specs.Library.{row_of, HasOperands, HasPorts, IsReadable}
+use Rattle.dg_model.specs.KindRow.{Shape, HasOperands}
+use Rattle.dg_model.specs.Library.{row_of}
+use Rattle.dg_model.specs.Readable.{HasPorts, IsReadable}
 use Rattle.dg_model.specs.Signals.{Attributes}
 use Rattle.dg_model.specs.Solves.{IsShown}
 use Rattle.dg_model.specs.Wires.{width_into}

@@ -9,7 +9,7 @@ use Rattle.dg_model.specs.declared.kind.Kind.{Kind}
 use Rattle.dg_model.specs.declared.kind.Kind.TheVariants.{Inport, Outport, Constant, Ground, Sum, Gain, Product, Switch, Relational, Logic, Convert, Delay, Mux, Demux, RateTransition, Pass, EnableTest, EnOut, Terminator}
 use Rattle.dg_model.specs.declared.op.Op.{Op}
 use Rattle.dg_model.specs.Signals.{Attributes, Stimulus, Table}
-use Rattle.dg_model.specs.Library.{HasPorts}
+use Rattle.dg_model.specs.Readable.{HasPorts}
 use Rattle.dg_model.specs.Hits.{hits_before, is_enabled_at, counted_hits, is_slow_to_fast}
 use Rattle.dg_model.specs.Operation.{OpGives, stored_truth}
 use Rattle.dg_model.specs.Solves.{IsShown, shown_ports, shown_width, AgreeAt}

@@ -11,7 +11,8 @@ use Rattle.dg_model.specs.declared.diagram.Edge.{Edge}
 use Rattle.dg_model.specs.declared.kind.Kind.{Kind}
 use Rattle.dg_model.specs.declared.kind.Kind.TheVariants.{Outport, Mux, Demux, EnableTest}
 use Rattle.dg_model.specs.KindRow.{Shape}
-use Rattle.dg_model.specs.Library.{row_of, HasPorts, IsReadable}
+use Rattle.dg_model.specs.Library.{row_of}
+use Rattle.dg_model.specs.Readable.{HasPorts, IsReadable}
 use Rattle.dg_model.specs.Widths.{width_at, input_widths, are_open, share, list_length, taken, most_width, next_of, widths_of}
 use Rattle.dg_model.specs.Dimension.{IsRepeated, Agrees, KeepsDimension, KeepsDimensions}
 use Rattle.dg_model.specs.Attributes.{attributes_of}

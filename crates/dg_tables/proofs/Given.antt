@@ -18,7 +18,7 @@ use Rattle.dg_model.specs.declared.kind.Gate.TheVariants.{Not}
 use Rattle.dg_model.specs.declared.op.Op.{Op}
 use Rattle.dg_model.specs.declared.op.Op.TheVariants.{Sum as OpSum, Gain as OpGain, Product as OpProduct, Switch as OpSwitch, Relational as OpRelational, Logic as OpLogic, Convert as OpConvert, Pass as OpPass}
 use Rattle.dg_model.specs.Signals.{Attributes, Stimulus, Table}
-use Rattle.dg_model.specs.Library.{HasPorts}
+use Rattle.dg_model.specs.Readable.{HasPorts}
 use Rattle.dg_model.specs.Hits.{hits_before, counted_hits, is_slow_to_fast}
 use Rattle.dg_model.specs.Operation.{AreInRange, stored_truth, type_of, value_of}
 use Rattle.dg_model.specs.Solves.{IsShown, shown_ports, shown_width}

@@ -12,7 +12,7 @@ use Rattle.dg_model.specs.declared.diagram.Diagram.{Diagram}
 use Rattle.dg_model.specs.declared.diagram.Block.{Block}
 use Rattle.dg_model.specs.declared.diagram.Edge.{Edge}
 use Rattle.dg_model.specs.KindRow.{IsSpec}
-use Rattle.dg_model.specs.Library.{IsReadable}
+use Rattle.dg_model.specs.Readable.{IsReadable}
 use Rattle.dg_model.specs.GainParam.{ParamTypeIsOne}
 use Rattle.dg_model.specs.Periods.{known_at}
 use Rattle.dg_model.specs.TypeRounds.{Types, explicit_type, input_types, type_of_next, next_types, taken_type, types_after, types_of}

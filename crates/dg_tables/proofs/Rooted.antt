@@ -8,7 +8,8 @@ use Rattle.dg_model.specs.declared.diagram.Diagram.{Diagram}
 use Rattle.dg_model.specs.declared.diagram.Block.{Block}
 use Rattle.dg_model.specs.declared.kind.Kind.{Kind}
 use Rattle.dg_model.specs.declared.kind.Kind.TheVariants.{Inport}
-use Rattle.dg_model.specs.Library.{row_of, HasPorts, IsReadable}
+use Rattle.dg_model.specs.Library.{row_of}
+use Rattle.dg_model.specs.Readable.{HasPorts, IsReadable}
 use Rattle.dg_model.specs.Wired.{IsWired, root_input}
 use Rattle.dg_model.specs.Signals.{Attributes}
 use Rattle.dg_model.specs.RootElements.{RootElement, root_element, elements_of_port, number_in}

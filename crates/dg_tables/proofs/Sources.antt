@@ -9,7 +9,8 @@ use Rattle.dg_model.specs.declared.kind.Kind.{Kind}
 use Rattle.dg_model.specs.declared.kind.Kind.TheVariants.{Outport, EnableTest}
 use Rattle.dg_model.specs.Signals.{Attributes, Table}
 use Rattle.dg_model.specs.declared.row.Role.{Role}
-use Rattle.dg_model.specs.Library.{row_of, HasPorts, IsReadable}
+use Rattle.dg_model.specs.Library.{row_of}
+use Rattle.dg_model.specs.Readable.{HasPorts, IsReadable}
 use Rattle.dg_model.specs.Solves.{IsShown, shown_ports, shown_width, AgreeAt}
 use Rattle.dg_model.specs.Wired.{IsWired, Joins, NamesControl}
 use Rattle.dg_model.specs.Wires.{enters, driver_of, at_source, repeated, width_into, type_into, value_into, values_into}

@@ -21,8 +21,9 @@ use Rattle.dg_model.specs.declared.kind.Gate.{Gate}
 use Rattle.dg_model.specs.declared.kind.Gate.TheVariants.{Not}
 use Rattle.dg_model.specs.declared.op.Op.{Op}
 use Rattle.dg_model.specs.declared.op.Op.TheVariants.{Sum as OpSum, Gain as OpGain, Product as OpProduct, Switch as OpSwitch, Relational as OpRelational, Logic as OpLogic, Convert as OpConvert, Pass as OpPass}
-use Rattle.dg_model.specs.KindRow.{FullRule, MayBeFixed}
-use Rattle.dg_model.specs.Library.{row_of, HasPorts, HasOperands, IsReadable}
+use Rattle.dg_model.specs.KindRow.{FullRule, MayBeFixed, HasOperands}
+use Rattle.dg_model.specs.Library.{row_of}
+use Rattle.dg_model.specs.Readable.{HasPorts, IsReadable}
 use Rattle.dg_model.specs.GainParam.{ParamTypeIsOne, param_type_of}
 use Rattle.dg_model.specs.Periods.{known_at}
 use Rattle.dg_model.specs.Types.{names_full_type}

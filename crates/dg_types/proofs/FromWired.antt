@@ -9,7 +9,8 @@ use Rattle.dg_model.specs.declared.diagram.Block.{Block}
 use Rattle.dg_model.specs.declared.kind.Kind.{Kind}
 use Rattle.dg_model.specs.declared.kind.Kind.TheVariants.{Inport, Constant, Gain, Switch, Delay, Demux, RateTransition, Pass, EnOut}
 use Rattle.dg_model.specs.KindRow.{Shape, IsBetween}
-use Rattle.dg_model.specs.Library.{HasPorts, IsReadable, row_of}
+use Rattle.dg_model.specs.Library.{row_of}
+use Rattle.dg_model.specs.Readable.{HasPorts, IsReadable}
 use Rattle.dg_model.specs.Widths.{are_open, list_length}
 use Rattle.dg_model.specs.Wired.{IsWired}
 use Rattle.dg_types.specs.declared.linked.Share.TheVariants.{Even, Fixed}

@@ -23,7 +23,8 @@ use Rattle.dg_model.specs.declared.diagram.Edge.{Edge}
 use Rattle.dg_model.specs.declared.kind.Kind.{Kind}
 use Rattle.dg_model.specs.declared.kind.Kind.TheVariants.{Sum, Gain}
 use Rattle.dg_model.specs.KindRow.{IsSpec}
-use Rattle.dg_model.specs.Library.{HasPorts, IsReadable, row_of}
+use Rattle.dg_model.specs.Library.{row_of}
+use Rattle.dg_model.specs.Readable.{HasPorts, IsReadable}
 use Rattle.dg_model.specs.Periods.{known_at, known_or}
 use Rattle.dg_model.specs.TypeRounds.{Types, next_types, types_of, type_of_next, input_types, explicit_type}
 use Rattle.dg_model.specs.Wired.{IsWired}

@@ -11,7 +11,8 @@ use Rattle.dg_model.specs.Attributes.{attributes_of}
 use Rattle.dg_model.specs.Checked.{IsChecked}
 use Rattle.dg_model.specs.declared.row.Role.{Role}
 use Rattle.dg_model.specs.Laws.{InputsAreListed, IsElementOfPort, OutputsAreListed}
-use Rattle.dg_model.specs.Library.{IsReadable, row_of}
+use Rattle.dg_model.specs.Library.{row_of}
+use Rattle.dg_model.specs.Readable.{IsReadable}
 use Rattle.dg_model.specs.RootElements.{RootElement, number_in, root_inputs, root_outputs}
 use Rattle.dg_model.specs.Signals.{Attributes}
 use Rattle.dg_model.specs.Widths.{widths_of}

@@ -15,7 +15,8 @@ use Rattle.dg_model.specs.Hits.{is_slow_to_fast}
 use Rattle.dg_model.specs.Instant.{asks_now, is_now, reads_now, takes_now_at, IsInstant}
 use Rattle.dg_model.specs.declared.row.Reading.{Reading}
 use Rattle.dg_model.specs.LatencyEdges.{asks_ever, latency_edges, LatencyEdge}
-use Rattle.dg_model.specs.Library.{row_of, HasPorts}
+use Rattle.dg_model.specs.Library.{row_of}
+use Rattle.dg_model.specs.Readable.{HasPorts}
 use Rattle.dg_model.specs.Loop.{LeadsNow}
 use Rattle.dg_model.specs.Wires.{at_source, driver_of, period_into}
 use Rattle.hw_sched.specs.Laws.{ControlsAreEdges, LinesAreEdges}

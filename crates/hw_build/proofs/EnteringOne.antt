@@ -12,7 +12,8 @@ use Rattle.dg_model.specs.Attributes.{attributes_of}
 use Rattle.dg_model.specs.Dimension.{IsRepeated}
 use Rattle.dg_model.specs.Equation.{StoresEntry}
 use Rattle.dg_model.specs.Instant.{reads_now}
-use Rattle.dg_model.specs.Library.{row_of, HasPorts}
+use Rattle.dg_model.specs.Library.{row_of}
+use Rattle.dg_model.specs.Readable.{HasPorts}
 use Rattle.dg_model.specs.Solves.{IsShown, shown_ports, shown_width}
 use Rattle.dg_model.specs.Wires.{period_into}
 use Rattle.hw_latency.specs.Shared.{is_shared}

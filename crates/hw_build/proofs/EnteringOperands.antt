@@ -17,7 +17,8 @@ use Rattle.dg_model.specs.declared.nested.Target.TheVariants.{Port, Enable}
 use Rattle.dg_model.specs.Attributes.{attributes_of}
 use Rattle.dg_model.specs.Checked.{IsChecked}
 use Rattle.dg_model.specs.LatencyEdges.{asks_ever}
-use Rattle.dg_model.specs.Library.{row_of, HasPorts}
+use Rattle.dg_model.specs.Library.{row_of}
+use Rattle.dg_model.specs.Readable.{HasPorts}
 use Rattle.dg_model.specs.Solves.{shown_ports, shown_width}
 use Rattle.dg_model.specs.Wires.{at_source, type_into, types_into, width_into, widths_into}
 use Rattle.dg_tables.specs.Fit.{AreRepeated, HasWidths, KeepsType}

@@ -13,7 +13,8 @@ use Rattle.dg_model.specs.declared.resolved.Resolved.{Resolved}
 use Rattle.dg_model.specs.Attributes.{attributes_of}
 use Rattle.dg_model.specs.Checked.{IsChecked}
 use Rattle.dg_model.specs.KindRow.{FullRule}
-use Rattle.dg_model.specs.Library.{row_of, HasPorts, IsReadable}
+use Rattle.dg_model.specs.Library.{row_of}
+use Rattle.dg_model.specs.Readable.{HasPorts, IsReadable}
 use Rattle.dg_model.specs.Wires.{type_into}
 use Rattle.dg_tables.specs.Laws.{IsOrdered, OperationsPrepare, TypesAreValid}
 use Rattle.hw_latency.specs.Shared.{is_shared, multiplies, multiplies_if, shares}

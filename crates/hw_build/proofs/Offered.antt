@@ -12,7 +12,7 @@ use Rattle.dg_model.specs.declared.resolved.Resolved.{Resolved}
 use Rattle.dg_model.specs.Attributes.{attributes_of}
 use Rattle.dg_model.specs.Checked.{IsChecked}
 use Rattle.dg_model.specs.Laws.{WidthsAreOfEdges}
-use Rattle.dg_model.specs.Library.{HasPorts, IsReadable}
+use Rattle.dg_model.specs.Readable.{HasPorts, IsReadable}
 use Rattle.dg_model.specs.Solves.{shown_ports}
 use Rattle.dg_model.specs.Wires.{at_source, driver_of, type_into, width_into}
 use Rattle.hw_latency.specs.Shared.{is_shared}

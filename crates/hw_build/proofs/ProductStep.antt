@@ -9,7 +9,8 @@ use Rattle.dg_model.specs.declared.resolved.Resolved.{Resolved}
 use Rattle.dg_model.specs.Attributes.{attributes_of}
 use Rattle.dg_model.specs.KindRow.{FullRule}
 use Rattle.dg_model.specs.Laws.{WidthsAreOfEdges}
-use Rattle.dg_model.specs.Library.{row_of, HasPorts, IsReadable}
+use Rattle.dg_model.specs.Library.{row_of}
+use Rattle.dg_model.specs.Readable.{HasPorts, IsReadable}
 use Rattle.dg_model.specs.RootElements.{root_inputs}
 use Rattle.dg_tables.specs.Laws.{IsOrdered, OperationsPrepare, TypesAreValid}
 use Rattle.hw_arcs.specs.Latencies.{latency_at}

@@ -19,7 +19,8 @@ use Rattle.dg_model.specs.Attributes.{attributes_of}
 use Rattle.dg_model.specs.Dimension.{IsRepeated}
 use Rattle.dg_model.specs.Instant.{is_now}
 use Rattle.dg_model.specs.LatencyEdges.{signal_edge}
-use Rattle.dg_model.specs.Library.{row_of, HasPorts}
+use Rattle.dg_model.specs.Library.{row_of}
+use Rattle.dg_model.specs.Readable.{HasPorts}
 use Rattle.dg_model.specs.Solves.{shown_ports}
 use Rattle.dg_model.specs.Widths.{width_at}
 use Rattle.dg_model.specs.Wires.{at_source, repeated, driver_of, type_into}

@@ -19,7 +19,8 @@ use Rattle.dg_model.specs.Hits.{is_slow_to_fast}
 use Rattle.dg_model.specs.Instant.{is_now}
 use Rattle.dg_model.specs.KindRow.{FullRule, Shape}
 use Rattle.dg_model.specs.Laws.{WidthsAreOfEdges}
-use Rattle.dg_model.specs.Library.{row_of, HasPorts, IsReadable}
+use Rattle.dg_model.specs.Library.{row_of}
+use Rattle.dg_model.specs.Readable.{HasPorts, IsReadable}
 use Rattle.dg_model.specs.Signals.{Stimulus, Table}
 use Rattle.dg_model.specs.Solves.{shown_ports}
 use Rattle.dg_model.specs.Wires.{width_into, value_into, repeated, period_into}

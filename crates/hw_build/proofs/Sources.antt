@@ -14,7 +14,8 @@ use Rattle.dg_model.specs.Checked.{IsChecked}
 use Rattle.dg_model.specs.declared.row.Role.{Role}
 use Rattle.dg_model.specs.KindRow.{Shape}
 use Rattle.dg_model.specs.LatencyEdges.{asks_ever}
-use Rattle.dg_model.specs.Library.{row_of, HasPorts}
+use Rattle.dg_model.specs.Library.{row_of}
+use Rattle.dg_model.specs.Readable.{HasPorts}
 use Rattle.dg_model.specs.Signals.{Attributes}
 use Rattle.dg_model.specs.Solves.{width_of_role, shown_ports, shown_width, IsShown}
 use Rattle.dg_model.specs.Widths.{widths_of, width_at, input_widths, next_of, taken, list_length, most_width}

@@ -15,7 +15,8 @@ use Rattle.dg_model.specs.Dimension.{IsRepeated, Agrees}
 use Rattle.dg_model.specs.declared.row.Reading.{Reading}
 use Rattle.dg_model.specs.KindRow.{Shape}
 use Rattle.dg_model.specs.Laws.{WidthsAreOfEdges}
-use Rattle.dg_model.specs.Library.{row_of, IsReadable}
+use Rattle.dg_model.specs.Library.{row_of}
+use Rattle.dg_model.specs.Readable.{IsReadable}
 use Rattle.dg_model.specs.Widths.{width_at, widths_of, input_widths, greatest, list_length, most_width, taken, next_of}
 use Rattle.dg_model.specs.Wires.{at_source, width_into, widths_into}
 use Rattle.hw_shows.specs.Timed.{lag_of}

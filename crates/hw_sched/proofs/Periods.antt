@@ -19,7 +19,8 @@ use Rattle.dg_model.specs.declared.kind.Kind.{Kind}
 use Rattle.dg_model.specs.declared.kind.Kind.TheVariants.{Inport, Outport, Delay, EnOut}
 use Rattle.dg_model.specs.declared.row.Inherited.{Inherited}
 use Rattle.dg_model.specs.KindRow.{IsPeriod}
-use Rattle.dg_model.specs.Library.{row_of, IsReadable}
+use Rattle.dg_model.specs.Library.{row_of}
+use Rattle.dg_model.specs.Readable.{IsReadable}
 use Rattle.dg_model.specs.Periods.{Period, Periods, units_of, declared_period, least, multiple_of, known_or, known_at, finite, least_of, least_finite, are_unchanging, sources_of, taken_period, period_of_next, next_periods, first_inherited, first_period, first_periods, periods_after, or_one, period_at, base_units, periods_of}
 use Rattle.dg_model.specs.Checked.{IsChecked}
 use Rattle.dg_model.specs.Faults.{AllKeep}

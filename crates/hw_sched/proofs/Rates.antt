@@ -16,7 +16,8 @@ use Rattle.dg_model.specs.Hits.{is_slow_to_fast}
 use Rattle.dg_model.specs.Instant.{is_now}
 use Rattle.dg_model.specs.declared.row.Reading.{Reading}
 use Rattle.dg_model.specs.LatencyEdges.{LatencyEdge, signal_edge, asks_ever}
-use Rattle.dg_model.specs.Library.{row_of, HasPorts}
+use Rattle.dg_model.specs.Library.{row_of}
+use Rattle.dg_model.specs.Readable.{HasPorts}
 use Rattle.dg_model.specs.Periods.{Period, drivers_of, periods_of, period_at, control_of}
 use Rattle.dg_model.specs.Rate.{joins_periods, suits, asked_of}
 use Rattle.dg_model.specs.Wired.{MayStand}

@@ -11,7 +11,8 @@ use Rattle.dg_model.specs.declared.resolved.Resolved.{Resolved}
 use Rattle.dg_model.specs.Attributes.{attributes_of}
 use Rattle.dg_model.specs.declared.row.Inherited.{Inherited}
 use Rattle.dg_model.specs.LatencyEdges.{LatencyEdge, latency_edges, asks_ever}
-use Rattle.dg_model.specs.Library.{row_of, HasPorts}
+use Rattle.dg_model.specs.Library.{row_of}
+use Rattle.dg_model.specs.Readable.{HasPorts}
 use Rattle.dg_model.specs.Loop.{LeadsNow, IsInCone}
 use Rattle.dg_model.specs.Wired.{IsWired}
 use Rattle.hw_latency.specs.Cone.{IsFed, is_marked}

@@ -31,7 +31,7 @@ use Rattle.dg_model.specs.declared.kind.Kind.TheVariants.{Inport, Outport}
 use Rattle.dg_model.specs.Dimension.{IsRepeated}
 use Rattle.dg_model.specs.KindRow.{IsSpec}
 use Rattle.dg_model.specs.LatencyEdges.{LatencyEdge, latency_edges}
-use Rattle.dg_model.specs.Library.{IsReadable}
+use Rattle.dg_model.specs.Readable.{IsReadable}
 use Rattle.dg_model.specs.Loop.{LeadsNow, IsOrder, KeepsLoop}
 use Rattle.dg_model.specs.Attributes.{attributes_of, or_logical, param_type_at}
 use Rattle.dg_model.specs.Signals.{Attributes}

@@ -21,7 +21,8 @@ use Rattle.dg_model.specs.Checked.{IsChecked}
 use Rattle.dg_model.specs.Dimension.{IsRepeated, Agrees, KeepsDimension, IsBounded, output_elements, input_elements, delay_elements}
 use Rattle.dg_model.specs.KindRow.{Shape}
 use Rattle.dg_model.specs.LatencyEdges.{latency_edges}
-use Rattle.dg_model.specs.Library.{row_of, IsReadable}
+use Rattle.dg_model.specs.Library.{row_of}
+use Rattle.dg_model.specs.Readable.{IsReadable}
 use Rattle.dg_model.specs.Loop.{KeepsLoop}
 use Rattle.dg_model.specs.Periods.{base_units, declared_period, known_at, multiple_of, periods_of, units_of}
 use Rattle.dg_model.specs.Rate.{KeepsDeclared, KeepsPeriods, disagreeing}

@@ -5,8 +5,7 @@ use Rattle.std.specs.List.{AllZip}
 use Rattle.std.proofs.lemmas.List.{length-replicate}
 use Rattle.std.proofs.lemmas.List.Elements.{All-replicate}
 use Rattle.std.proofs.lemmas.Slice.Eq.{bytes_eq-Decides}
-use Rattle.dg_model.specs.KindRow.{IsBetween, Only}
-use Rattle.dg_model.specs.Library.{HasOperands, HasParts}
+use Rattle.dg_model.specs.KindRow.{IsBetween, Only, HasOperands, HasParts}
 use Rattle.dg_model.specs.declared.kind.Gate.{Gate}
 use Rattle.dg_model.specs.declared.kind.Gate.TheVariants.{And, Or, Nand, Nor, Xor, Nxor, Not}
 use Rattle.mdl_values.specs.Numbers.{IsNumberText}

@@ -7,7 +7,7 @@ use Rattle.dg_model.specs.declared.diagram.Block.{Block}
 use Rattle.dg_model.specs.Attributes.{attributes_of}
 use Rattle.dg_model.specs.Checked.{IsChecked}
 use Rattle.dg_model.specs.KindRow.{IsSpec}
-use Rattle.dg_model.specs.Library.{IsReadable}
+use Rattle.dg_model.specs.Readable.{IsReadable}
 use Rattle.dg_model.specs.Signals.{Attributes}
 use Rattle.dg_model.proofs.Written.{all_of}
 use Rattle.hw_shows.proofs.Small.{int8_valid, no_loop}

@@ -7,7 +7,8 @@ use Rattle.dg_model.specs.Attributes.{attributes_of}
 use Rattle.dg_model.specs.Checked.{IsChecked}
 use Rattle.dg_model.specs.Dimension.{IsRepeated, KeepsDimension, KeepsDimensions}
 use Rattle.dg_model.specs.Faults.{AllKeep}
-use Rattle.dg_model.specs.Library.{row_of, IsReadable}
+use Rattle.dg_model.specs.Library.{row_of}
+use Rattle.dg_model.specs.Readable.{IsReadable}
 use Rattle.dg_model.specs.Rate.{KeepsDeclared, KeepsPeriods, KeepsRates}
 use Rattle.dg_model.specs.Signals.{Attributes}
 use Rattle.dg_model.specs.TypeRounds.{Types}

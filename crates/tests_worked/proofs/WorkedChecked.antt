@@ -3,7 +3,7 @@ use Rattle.std.proofs.Common.{◌≤◌, ℕ, List, All, codes, sym, subst, refl
 use Rattle.std.proofs.Math.Dec.{lit<, lit≤}
 use Rattle.dg_model.specs.Attributes.{attributes_of}
 use Rattle.dg_model.specs.Checked.{IsChecked}
-use Rattle.dg_model.specs.Library.{IsReadable}
+use Rattle.dg_model.specs.Readable.{IsReadable}
 use Rattle.dg_model.specs.Loop.{KeepsLoop}
 use Rattle.dg_model.specs.Signals.{Attributes}
 use Rattle.dg_model.proofs.Written.{all_of}

@@ -1,7 +1,7 @@
 use Rattle.std.proofs.Common.{subst, sym}
 use Rattle.fx_type.specs.FullType.{IsFullProduct}
 use Rattle.fx_type.specs.FxType.{IsType}
-use Rattle.dg_model.specs.Library.{IsReadable}
+use Rattle.dg_model.specs.Readable.{IsReadable}
 use Rattle.hw_build.proofs.FullyTyped.{found_ok, full_is_there, second_is_valid}
 use Rattle.hw_build.proofs.Serving.{multiplies_input}
 use Rattle.fx_io.proofs.Places.{held}

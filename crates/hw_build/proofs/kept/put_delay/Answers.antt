@@ -1,7 +1,7 @@
 use Rattle.std.proofs.Common.{◌≡◌, sym, subst, ◌∙◌, ap, arith, ℕ, Option, None, Some, refl}
 use Rattle.dg_model.specs.declared.kind.Kind.{Kind}
 use Rattle.dg_model.specs.Attributes.{attributes_of}
-use Rattle.dg_model.specs.Library.{HasPorts}
+use Rattle.dg_model.specs.Readable.{HasPorts}
 use Rattle.dg_model.specs.Wires.{period_into}
 use Rattle.hw_build.specs.inner.Entries.{hands_on}
 use Rattle.hw_build.specs.inner.Sites.{HasOperands}
