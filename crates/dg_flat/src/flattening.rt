@@ -1,4 +1,4 @@
-ghost use Rattle.std.specs.Prelude.{◌≡◌, ◌<◌, length, IfOk, IfErr, OnOk, Some};
+ghost use Rattle.std.specs.Prelude.{◌≡◌, ◌<◌, length, IfOk, IfErr, OnOk};
 ghost use Rattle.dg_model.specs.Faults.{fault_of, IsRefusal};
 ghost use Rattle.dg_model.specs.Sound.{IsSound};
 ghost use Rattle.dg_model.specs.Wired.{IsWired};
@@ -9,6 +9,7 @@ ghost use Rattle.dg_flat.specs.Rules.{BreaksWiringOrEnable, AllNestedKeep, Keeps
 ghost use Rattle.dg_flat.specs.inner.Paths.{ArePaths};
 ghost use Rattle.dg_flat.specs.inner.Slots.{HaveParents};
 ghost use Rattle.dg_flat.specs.inner.Systems.{AreSystems};
+ghost use Rattle.dg_flat.specs.inner.Verdict.{KeepsAll};
 
 use crate::blocks::{flat_blocks, flat_places};
 use crate::edges::flat_edges;
@@ -17,31 +18,50 @@ use crate::paths::{path_in, system_paths};
 use crate::systems::Systems;
 use crate::wiring::first_unwired;
 use dg_model::{CheckFault, Diagram, Nested, NestedBlock, Rule, RuleFault, Shown, SystemPath};
-use fx_io::OutOfMemory;
+use fx_io::{OutOfMemory, Text};
 use std::alloc::Global;
 
+/// The path of the block at a place.
+fn path_at(
+    alloc: Global,
+    blocks: &[NestedBlock],
+    paths: &[SystemPath],
+    place: u32,
+) -> Result<Text, OutOfMemory>
+    requires parents { HaveParents blocks.now }
+    requires paths { ArePaths blocks.now (length blocks.now) paths.now }
+    requires there { place < length blocks.now }
+    ensures { IfOk result (λ path. path ≡ nested_path blocks.now place) }
+{
+    let block = &blocks[place as usize];
+    let path = path_in(alloc, paths, block.parent, &block.name)?;
+    let text = path.text(alloc);
+    drop(path);
+    text
+}
+
 /// A rule is broken at a block.
-fn rule_fault(
+fn refusal(
     alloc: Global,
     rule: Rule,
     blocks: &[NestedBlock],
     paths: &[SystemPath],
     place: u32,
-) -> Result<RuleFault, OutOfMemory>
+) -> CheckFault
     requires parents { HaveParents blocks.now }
     requires paths { ArePaths blocks.now (length blocks.now) paths.now }
     requires there { place < length blocks.now }
-    ensures { IfOk result (λ fault. fault ≡ fault_of rule (nested_path blocks.now place) Nothing) }
+    ensures { IsRefusal (λ fault.
+        fault ≡ fault_of rule (nested_path blocks.now place) Nothing) result }
 {
-    let block = &blocks[place as usize];
-    let path = path_in(alloc, paths, block.parent, &block.name)?;
-    let place = path.text(alloc);
-    drop(path);
-    Ok(RuleFault {
-        rule,
-        place: place?,
-        shown: Shown::Nothing,
-    })
+    match path_at(alloc, blocks, paths, place) {
+        Ok(place) => CheckFault::Broken(RuleFault {
+            rule,
+            place,
+            shown: Shown::Nothing,
+        }),
+        Err(OutOfMemory) => CheckFault::OutOfMemory,
+    }
 }
 
 /// Refuses nested blocks and lines of which one breaks the rule of wiring, or else of enabled
@@ -55,20 +75,38 @@ fn check(
     requires sound { IsSound nested.now }
     requires systems { AreSystems nested.now.blocks systems.now }
     requires paths { ArePaths nested.now.blocks (length nested.now.blocks) paths.now }
-    ensures wiring { OnOk result (AllNestedKeep nested.now KeepsWiring) }
-    ensures enables { OnOk result (AllNestedKeep nested.now KeepsEnable) }
+    ensures kept { OnOk result (KeepsAll nested.now) }
     ensures refused { IfErr result (IsRefusal (BreaksWiringOrEnable nested.now)) }
 {
     let blocks = nested.blocks.as_slice();
     if let Some(place) = first_unwired(alloc, systems, nested)? {
-        let fault = rule_fault(alloc, Rule::Wiring, blocks, paths, place)?;
-        return Err(CheckFault::Broken(fault));
+        return Err(refusal(alloc, Rule::Wiring, blocks, paths, place));
     }
     if let Some(place) = first_misplaced(systems, nested) {
-        let fault = rule_fault(alloc, Rule::Enable, blocks, paths, place)?;
-        return Err(CheckFault::Broken(fault));
+        return Err(refusal(alloc, Rule::Enable, blocks, paths, place));
     }
     Ok(())
+}
+
+/// The flat diagram of nested blocks and lines that keep the rules.
+fn kept_diagram(
+    alloc: Global,
+    nested: &Nested,
+    systems: &Systems,
+    paths: &[SystemPath],
+) -> Result<Diagram, OutOfMemory>
+    requires sound { IsSound nested.now }
+    requires systems { AreSystems nested.now.blocks systems.now }
+    requires paths { ArePaths nested.now.blocks (length nested.now.blocks) paths.now }
+    requires kept { KeepsAll nested.now }
+    ensures { IfOk result (IsFlatOf nested.now) }
+{
+    let blocks = nested.blocks.as_slice();
+    let lines = nested.lines.as_slice();
+    let places = flat_places(alloc, blocks)?;
+    let edges = flat_edges(alloc, systems, blocks, &places, lines)?;
+    let blocks = flat_blocks(alloc, systems, blocks, &places, paths)?;
+    Ok(Diagram { blocks, edges })
 }
 
 /// The flat diagram of nested blocks and lines, or the first broken rule.
@@ -82,17 +120,12 @@ fn diagram_of(
     requires systems { AreSystems nested.now.blocks systems.now }
     requires paths { ArePaths nested.now.blocks (length nested.now.blocks) paths.now }
     ensures flat { IfOk result (IsFlatOf nested.now) }
-    ensures wiring { OnOk result (AllNestedKeep nested.now KeepsWiring) }
-    ensures enables { OnOk result (AllNestedKeep nested.now KeepsEnable) }
+    ensures kept { OnOk result (KeepsAll nested.now) }
     ensures refused { IfErr result (IsRefusal (BreaksWiringOrEnable nested.now)) }
 {
     check(alloc, nested, systems, paths)?;
-    let blocks = nested.blocks.as_slice();
-    let lines = nested.lines.as_slice();
-    let places = flat_places(alloc, blocks)?;
-    let edges = flat_edges(alloc, systems, blocks, &places, lines)?;
-    let blocks = flat_blocks(alloc, systems, blocks, &places, paths)?;
-    Ok(Diagram { blocks, edges })
+    let diagram = kept_diagram(alloc, nested, systems, paths)?;
+    Ok(diagram)
 }
 
 /// The flat diagram of nested blocks and lines, or the first broken rule of wiring and of enabled

@@ -4,10 +4,8 @@ use Rattle.std.specs.Prelude.{◌==◌, nat_lt, slice_get, MatchOption}
 use Rattle.std.specs.Option.{option_to_list}
 use Rattle.std.proofs.lemmas.Bool.{cases_eq, cases_lt, cond-true, cond-false, eq-eqb, ne_eqb, lt-ltb, le-ltb}
 use Rattle.std.proofs.lemmas.List.{append-nil, get_or-replicate, get_or_past, length-replicate, map-append, take_more}
-use Rattle.std.proofs.lemmas.List.Elements.{All-push, filter-append}
+use Rattle.std.proofs.lemmas.List.Elements.{filter-append}
 use Rattle.std.proofs.lemmas.Option.{get_or_from_slice_get, same_Some, slice_get_past, slice_get_within}
-use Rattle.dg_waves.specs.inner.Waves.{is_in}
-use Rattle.dg_waves.proofs.Waved.{is_in_last}
 use Rattle.dg_model.specs.declared.diagram.Diagram.{Diagram}
 use Rattle.dg_model.specs.declared.diagram.Block.{Block}
 use Rattle.dg_model.specs.declared.diagram.Edge.{Edge}
@@ -15,7 +13,7 @@ use Rattle.dg_model.specs.declared.row.Role.{Role}
 use Rattle.dg_model.specs.Library.{row_of}
 use Rattle.dg_model.specs.Periods.{control_of, drivers_of}
 use Rattle.dg_model.specs.Wired.{IsWired, NamesControl}
-use Rattle.dg_rates.specs.inner.Links.{AreControlled, AreDrivers, AreOwn, AreSources, AreTied}
+use Rattle.dg_rates.specs.inner.Links.{AreControlled, AreDrivers, AreSources, AreTied}
 use Rattle.fx_io.specs.Rows.{row_at, noted}
 use Rattle.dg_rates.proofs.Tying.{noted_here, noted_other}
 
@@ -91,26 +89,22 @@ sources_all diagram done rows all a = record {
 
 -- ---- before the controls
 
--- rows without a source, and readers that have themselves alone
-pub tied_first : (count : ℕ) (sources readers : List (List ℕ)) → sources ≡ replicate count [] → AreOwn count readers → AreTied count sources readers
-tied_first count sources readers empty own = record {
-  sources_size = ap length empty ∙ length-replicate count [];
-  readers_size = own.size;
-  there = λ block. rw (no_source block) (λ k d below. absurd (omega (arith, below)));
-  readers_there = λ block.
-      ⊎_elim
-      (λ below. rw (own.own block below) (All-push (λ reader. reader < count) [] block (λ k d none. absurd (omega (arith, none))) below))
-      (λ past. rw (get_or_past readers block [] (omega (arith, past, own.size))) (λ k d inside. absurd (omega (arith, inside))))
-      (cases_lt block count);
-  own = λ block below. subst (λ (row : List ℕ). is_in block row ≡ true) (sym (own.own block below)) (is_in_last [] block block refl);
+-- rows without a source, or a reader
+pub tied_first : (count : ℕ) (sources readers : List (List ℕ)) → sources ≡ replicate count [] → readers ≡ replicate count [] → AreTied count 0 sources readers
+tied_first count sources readers no_sources no_readers = record {
+  sources_size = ap length no_sources ∙ length-replicate count [];
+  readers_size = ap length no_readers ∙ length-replicate count [];
+  there = λ block. rw (none_at count block sources no_sources) (λ k d below. absurd (omega (arith, below)));
+  readers_there = λ block. rw (none_at count block readers no_readers) (λ k d below. absurd (omega (arith, below)));
+  own = λ block below. absurd (omega (arith, below));
   known = λ block k source at.
       let inside = slice_get_within (row_at sources block) k source at in
-      absurd (omega (arith, inside, ap length (no_source block)));
+      absurd (omega (arith, inside, ap length (none_at count block sources no_sources)));
 }
   where
-    no_source : (block : ℕ) → row_at sources block ≡ []
-    no_source block =
-        ap (λ (rows : List (List ℕ)). row_at rows block) empty
+    none_at : (count block : ℕ) (rows : List (List ℕ)) → rows ≡ replicate count [] → row_at rows block ≡ []
+    none_at count block rows empty =
+        ap (λ (all : List (List ℕ)). row_at all block) empty
         ∙ ⊎_elim
         (λ below. get_or-replicate count block [] [] below)
         (λ past. get_or_past (replicate count []) block [] (omega (arith, past, length-replicate {A = List ℕ} count [])))

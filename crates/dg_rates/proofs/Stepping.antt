@@ -24,7 +24,7 @@ taken_is Inherited.Base sources (Some period) e = rw e refl
 taken_is Inherited.Unchanging sources None e = rw e refl
 taken_is Inherited.Unchanging sources (Some period) e = rw e refl
 
-rests_at : (blocks : List Block) (k : ℕ) (block : Block) → slice_get blocks k ≡ Some block → get_or (all_rests blocks) k false ≡ is_of_sources (row_of block.kind).timing.inherits
+pub rests_at : (blocks : List Block) (k : ℕ) (block : Block) → slice_get blocks k ≡ Some block → get_or (all_rests blocks) k false ≡ is_of_sources (row_of block.kind).timing.inherits
 rests_at [] k block at = absurd (none-some block at)
 rests_at (b ∷ blocks) zero block at = ap (λ (o : Block). is_of_sources (row_of o.kind).timing.inherits) (same_Some b block at)
 rests_at (b ∷ blocks) (suc k) block at = rests_at blocks k block at

@@ -1,14 +1,13 @@
 -- Rows of sources and readers once one more block reads one more source.
-use Rattle.std.proofs.Common.{◌≡◌, ℕ, ◌+◌, ◌<◌, ⊎_elim, true, List, [], ◌∷◌, ◌++◌, length, get_or, Some, refl, sym, ap, subst, ◌∙◌, arith}
+use Rattle.std.proofs.Common.{◌≡◌, ℕ, ◌+◌, ◌<◌, ⊎_elim, true, List, [], ◌∷◌, ◌++◌, length, Some, refl, sym, ap, subst, ◌∙◌, arith}
 use Rattle.std.specs.Prelude.{All, slice_get}
-use Rattle.std.proofs.Math.Seq.{get_or-append_seam}
-use Rattle.std.proofs.lemmas.Bool.{cases_eq, cases_lt}
+use Rattle.std.proofs.lemmas.Bool.{cases_eq}
 use Rattle.std.proofs.lemmas.Grind.{get_or-set_at}
-use Rattle.std.proofs.lemmas.List.{get_or-set_other, get_or_append_left, length-append, length-set}
+use Rattle.std.proofs.lemmas.List.{get_or-set_other, length-set}
 use Rattle.std.proofs.lemmas.List.Elements.{All-push}
 use Rattle.dg_waves.specs.inner.Waves.{is_in}
 use Rattle.dg_waves.proofs.Waved.{is_in_push, is_in_last, pushed_at}
-use Rattle.dg_rates.specs.inner.Links.{AreOwn, AreTied}
+use Rattle.dg_rates.specs.inner.Links.{AreTied}
 use Rattle.fx_io.specs.Rows.{row_at, noted}
 
 pub noted_here : (rows : List (List ℕ)) (block number k : ℕ) → block < length rows → k ≡ block → row_at (noted rows block number) k ≡ row_at rows k ++ number ∷ []
@@ -28,24 +27,39 @@ each_row P rows block number inside before more k =
     (λ other. subst (P k) (sym (noted_other rows block number k other)) (before k))
     (cases_eq k block)
 
--- rows that have their own number alone, and one more that has its own
-pub own_more : (count : ℕ) (rows : List (List ℕ)) (own : List ℕ) → own ≡ count ∷ [] → AreOwn count rows → AreOwn (count + 1) (rows ++ own ∷ [])
-own_more count rows own is before = record {
-  size = length-append rows (own ∷ []) ∙ ap (λ n. n + 1) before.size;
-  own = λ block below.
+-- who is a reader stays one
+still_in : (rows : List (List ℕ)) (at reader k block : ℕ) → at < length rows → is_in block (row_at rows k) ≡ true → is_in block (row_at (noted rows at reader) k) ≡ true
+still_in rows at reader k block inside is =
+    ⊎_elim
+    (λ same. subst (λ row. is_in block row ≡ true) (sym (noted_here rows at reader k inside same)) (is_in_push (row_at rows k) reader block is))
+    (λ other. subst (λ row. is_in block row ≡ true) (sym (noted_other rows at reader k other)) is)
+    (cases_eq k at)
+
+now_in : (rows : List (List ℕ)) (at reader k block : ℕ) → at < length rows → k ≡ at → block ≡ reader → is_in block (row_at (noted rows at reader) k) ≡ true
+now_in rows at reader k block inside same is = subst (λ row. is_in block row ≡ true) (sym (noted_here rows at reader k inside same)) (is_in_last (row_at rows k) reader block (sym is))
+
+-- one more block is its own reader
+pub own_more : (count own : ℕ) (sources readers : List (List ℕ)) → own < count → AreTied count own sources readers → AreTied count (own + 1) sources (noted readers own own)
+own_more count own sources readers below t = record {
+  sources_size = t.sources_size;
+  readers_size = length-set readers own (row_at readers own ++ own ∷ []) ∙ t.readers_size;
+  there = t.there;
+  readers_there = each_row (λ k row. All (λ r. r < count) row) readers own own inside t.readers_there
+      (λ k same before. All-push (λ r. r < count) (row_at readers k) own before below);
+  own = λ block there.
       ⊎_elim
-      (λ inner. get_or_append_left rows (own ∷ []) [] block (omega (arith, inner, before.size)) ∙ before.own block inner)
-      (λ past. last block (omega (arith, past, below)))
-      (cases_lt block count);
+      (λ same. now_in readers own own block block inside same same)
+      (λ other. still_in readers own own block block inside (t.own block (omega (arith, there, other))))
+      (cases_eq block own);
+  known = λ block k s at. still_in readers own own s block inside (t.known block k s at);
 }
   where
-    last : (block : ℕ) → count ≡ block → get_or (rows ++ own ∷ []) block [] ≡ block ∷ []
-    last block same =
-        subst (λ (k : ℕ). get_or (rows ++ own ∷ []) k [] ≡ own) (before.size ∙ same) (get_or-append_seam rows own [] []) ∙ is ∙ ap (λ (k : ℕ). k ∷ []) same
+    inside : own < length readers
+    inside = omega (arith, below, t.readers_size)
 
-pub tie_more : (count : ℕ) (sources readers : List (List ℕ)) (reader source : ℕ) → reader < count → source < count → AreTied count sources readers
-    → AreTied count (noted sources reader source) (noted readers source reader)
-tie_more count sources readers reader source reader_there source_there t = record {
+pub tie_more : (count selves : ℕ) (sources readers : List (List ℕ)) (reader source : ℕ) → reader < count → source < count → AreTied count selves sources readers
+    → AreTied count selves (noted sources reader source) (noted readers source reader)
+tie_more count selves sources readers reader source reader_there source_there t = record {
   sources_size = length-set sources reader (row_at sources reader ++ source ∷ []) ∙ t.sources_size;
   readers_size = length-set readers source (row_at readers source ++ reader ∷ []) ∙ t.readers_size;
   there = each_row (λ k row. All (λ s. s < count) row) sources reader source reader_inside t.there
@@ -67,14 +81,7 @@ tie_more count sources readers reader source reader_there source_there t = recor
     source_inside = omega (arith, source_there, t.readers_size)
 
     still : (s block : ℕ) → is_in block (row_at readers s) ≡ true → is_in block (row_at (noted readers source reader) s) ≡ true
-    still s block is =
-        ⊎_elim
-        (λ same. subst (λ row. is_in block row ≡ true) (sym (noted_here readers source reader s source_inside same)) (is_in_push (row_at readers s) reader block is))
-        (λ other. subst (λ row. is_in block row ≡ true) (sym (noted_other readers source reader s other)) is)
-        (cases_eq s source)
-
-    new_reader : (s block : ℕ) → s ≡ source → block ≡ reader → is_in block (row_at (noted readers source reader) s) ≡ true
-    new_reader s block same is = subst (λ row. is_in block row ≡ true) (sym (noted_here readers source reader s source_inside same)) (is_in_last (row_at readers s) reader block (sym is))
+    still s block is = still_in readers source reader s block source_inside is
 
     at_reader : (block k s : ℕ) → block ≡ reader → slice_get (row_at sources block ++ source ∷ []) k ≡ Some s → is_in block (row_at (noted readers source reader) s) ≡ true
-    at_reader block k s same at = pushed_at (λ x. is_in block (row_at (noted readers source reader) x) ≡ true) (row_at sources block) source (λ j x there. still x block (t.known block j x there)) (new_reader source block refl same) k s at
+    at_reader block k s same at = pushed_at (λ x. is_in block (row_at (noted readers source reader) x) ≡ true) (row_at sources block) source (λ j x there. still x block (t.known block j x there)) (now_in readers source reader source block source_inside refl same) k s at

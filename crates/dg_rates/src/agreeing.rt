@@ -1,4 +1,4 @@
-ghost use Rattle.std.specs.Prelude.{◌≡◌, ◌<◌, ◌≤◌, All, IfErr, IfOk, IfSome, IsSome, OnOk, find, length, not, true};
+ghost use Rattle.std.specs.Prelude.{◌≡◌, ◌<◌, ◌≤◌, All, IfErr, IfOk, IfSome, IsSome, OnOk, find, length, not};
 ghost use Rattle.dg_model.specs.declared.fault.Shown.TheVariants.{Periods as ShownPeriods};
 ghost use Rattle.dg_model.specs.declared.rule.Rule.{Rule};
 ghost use Rattle.dg_model.specs.Faults.{AllKeep, BreaksAt, IsRefusal, fault_of};
@@ -6,7 +6,7 @@ ghost use Rattle.dg_model.specs.Library.{row_of};
 ghost use Rattle.dg_model.specs.Limits.{most_blocks};
 ghost use Rattle.dg_model.specs.Periods.{period_at};
 ghost use Rattle.dg_model.specs.Rate.{KeepsPeriods, joins_periods as joins_periods_of, shown_period, shown_periods, suits as suits_of};
-ghost use Rattle.dg_rates.specs.inner.Agreeing.{asked_among, without_control as without_control_of};
+ghost use Rattle.dg_rates.specs.inner.Agreeing.{asked_among};
 ghost use Rattle.dg_rates.specs.inner.Links.{AreSources};
 
 use crate::links::Links;
@@ -24,13 +24,6 @@ pub fn joins_periods(kind: &Kind) -> bool
     }
 }
 
-/// Whether one of two periods divides the other.
-fn divide(own: u32, source: u32) -> bool
-    ensures { result ≡ suits_of true (Some own) (Some source) }
-{
-    own.is_multiple_of(source) || source.is_multiple_of(own)
-}
-
 /// Whether a source of this period suits a block of that (Simulink reference, Rate Transition; the
 /// bounds are own).
 fn suits(joins: bool, own: Option<u32>, source: Option<u32>) -> bool
@@ -43,7 +36,7 @@ fn suits(joins: bool, own: Option<u32>, source: Option<u32>) -> bool
         return false;
     };
     if joins {
-        divide(own, source)
+        own.is_multiple_of(source) || source.is_multiple_of(own)
     } else {
         own == source
     }
@@ -64,26 +57,18 @@ fn disagreeing(periods: &[Option<u32>], joins: bool, own: Option<u32>, asked: &[
     None
 }
 
-/// The sources of a block without the control of its enabled subsystem, which is the last one.
-fn without_control<'a>(sources: &'a [u32], enable: Option<u32>) -> &'a [u32]
-    requires { IsSome enable → 0 < length sources.now }
-    ensures { result.now ≡ without_control_of enable sources.now }
-{
-    match enable {
-        Some(_) => &sources[..sources.len() - 1],
-        None => sources,
-    }
-}
-
-/// The sources that a block's period is held against: the control isn't asked of a block whose
-/// value never changes.
+/// The sources that a block's period is held against: the control of its enabled subsystem, which is
+/// the last one, isn't asked of a block whose value never changes.
 fn asked_of<'a>(sources: &'a [u32], own: Option<u32>, enable: Option<u32>) -> &'a [u32]
     requires { IsSome enable → 0 < length sources.now }
     ensures { result.now ≡ asked_among own enable sources.now }
 {
     match own {
         Some(_) => sources,
-        None => without_control(sources, enable),
+        None => match enable {
+            Some(_) => &sources[..sources.len() - 1],
+            None => sources,
+        },
     }
 }
 

@@ -1,10 +1,9 @@
-ghost use Rattle.std.specs.Prelude.{◌≡◌, ◌<◌, ◌≤◌, All, IfOk, OnOk, length};
-ghost use Rattle.dg_model.specs.Limits.{most_blocks};
+ghost use Rattle.std.specs.Prelude.{◌≡◌, ◌<◌, [], All, IfOk, OnOk, length, replicate};
 ghost use Rattle.dg_model.specs.Wired.{IsWired};
-ghost use Rattle.dg_rates.specs.inner.Links.{AreOwn, AreTied, AreDrivers, AreSources};
+ghost use Rattle.dg_rates.specs.inner.Links.{AreTied, AreSources};
 ghost use Rattle.fx_io.specs.Rows.{noted, row_at};
 
-use dg_model::{Diagram, Edge};
+use dg_model::Diagram;
 use fx_io::{OutOfMemory, Sequence, Sizes, empty_rows, push_at};
 use std::alloc::Global;
 
@@ -14,80 +13,67 @@ use std::alloc::Global;
 pub struct Links {
     pub sources: Sequence<Sizes>,
     pub readers: Sequence<Sizes>,
-    pub ghost tied: { AreTied (length sources) sources readers },
-}
-
-/// Links while they are made.
-#[derive(Drop)]
-struct Rows {
-    sources: Vec<Sizes>,
-    readers: Vec<Sizes>,
-}
-
-/// So many rows, each with its own number.
-fn own_rows(alloc: Global, count: usize) -> Result<Vec<Sizes>, OutOfMemory>
-    requires { count ≤ most_blocks }
-    ensures { IfOk result (λ rows. AreOwn count rows.items) }
-{
-    let mut rows: Vec<Sizes> = Vec::new(alloc);
-    for block in 0..count {
-        let mut own = Sizes::new(alloc);
-        own.push(block as u32)?;
-        rows.push(own)?;
-    }
-    Ok(rows)
+    pub ghost tied: { AreTied (length sources) (length sources) sources readers },
 }
 
 /// A block reads a source.
-fn link(rows: &mut Rows, reader: u32, source: u32) -> Result<(), OutOfMemory>
-    requires reader { reader < length rows.old.sources.items }
-    requires source { source < length rows.old.sources.items }
-    requires tied { AreTied (length rows.old.sources.items)
-        rows.old.sources.items rows.old.readers.items }
+fn link(
+    sources: &mut Vec<Sizes>,
+    readers: &mut Vec<Sizes>,
+    reader: u32,
+    source: u32,
+) -> Result<(), OutOfMemory>
+    requires reader { reader < length sources.old.items }
+    requires source { source < length readers.old.items }
     ensures sources { OnOk result
-        (rows.new.sources.items ≡ noted rows.old.sources.items reader source) }
-    ensures tied { OnOk result (AreTied (length rows.old.sources.items)
-        rows.new.sources.items rows.new.readers.items) }
+        (sources.new.items ≡ noted sources.old.items reader source) }
+    ensures readers { OnOk result
+        (readers.new.items ≡ noted readers.old.items source reader) }
 {
-    push_at(&mut rows.sources, reader, source)?;
-    push_at(&mut rows.readers, source, reader)?;
+    push_at(sources, reader, source)?;
+    push_at(readers, source, reader)?;
     Ok(())
 }
 
-/// The links along these edges.
-fn edge_rows(alloc: Global, count: usize, edges: &[Edge]) -> Result<Rows, OutOfMemory>
-    requires few { count ≤ most_blocks }
-    requires from { All (λ edge. edge.from < count) edges.now }
-    requires to { All (λ edge. edge.to < count) edges.now }
-    ensures tied { IfOk result (λ rows. AreTied count rows.sources.items rows.readers.items) }
-    ensures drivers { IfOk result (λ rows. AreDrivers count edges.now rows.sources.items) }
+/// Puts the links of a diagram: along its edges, from each block to itself, and from the control of
+/// an enabled subsystem to each block in it.
+fn put_links(
+    diagram: &Diagram,
+    sources: &mut Vec<Sizes>,
+    readers: &mut Vec<Sizes>,
+) -> Result<(), OutOfMemory>
+    requires wired { IsWired diagram.now }
+    requires sources { sources.old.items ≡ replicate (length diagram.now.blocks) [] }
+    requires readers { readers.old.items ≡ replicate (length diagram.now.blocks) [] }
+    ensures tied { OnOk result (AreTied (length diagram.now.blocks)
+        (length diagram.now.blocks) sources.new.items readers.new.items) }
+    ensures sources { OnOk result (AreSources diagram.now sources.new.items) }
 {
-    let mut rows = Rows {
-        sources: empty_rows(alloc, count)?,
-        readers: own_rows(alloc, count)?,
-    };
+    let edges = diagram.edges.as_slice();
+    let blocks = diagram.blocks.as_slice();
     for edge in edges {
-        link(&mut rows, edge.to, edge.from)?;
+        link(sources, readers, edge.to, edge.from)?;
     }
-    Ok(rows)
+    for (place, block) in blocks.iter().enumerate() {
+        push_at(readers, place as u32, place as u32)?;
+        if let Some(control) = block.enable {
+            link(sources, readers, place as u32, control)?;
+        }
+    }
+    Ok(())
 }
 
 impl Links {
-    /// The links of a diagram: along its edges, and from the control of an enabled subsystem to
-    /// each block in it.
+    /// The links of a diagram.
     pub fn of(alloc: Global, diagram: &Diagram) -> Result<Links, OutOfMemory>
         requires { IsWired diagram.now }
         ensures size { IfOk result (λ links. length links.sources ≡ length diagram.now.blocks) }
         ensures sources { IfOk result (λ links. AreSources diagram.now links.sources) }
     {
-        let blocks = diagram.blocks.as_slice();
-        let mut rows = edge_rows(alloc, blocks.len(), diagram.edges.as_slice())?;
-        for (place, block) in blocks.iter().enumerate() {
-            if let Some(control) = block.enable {
-                link(&mut rows, place as u32, control)?;
-            }
-        }
-        let Rows { sources, readers } = rows;
+        let count = diagram.blocks.as_slice().len();
+        let mut sources: Vec<Sizes> = empty_rows(alloc, count)?;
+        let mut readers: Vec<Sizes> = empty_rows(alloc, count)?;
+        put_links(diagram, &mut sources, &mut readers)?;
         Ok(Links {
             sources: Sequence::from_vec(sources),
             readers: Sequence::from_vec(readers),

@@ -6,6 +6,7 @@ ghost use Rattle.dg_model.specs.Wired.{IsWired};
 
 use crate::agreeing::check_periods;
 use crate::declared::{base_period, first_periods};
+use crate::links::Links;
 use crate::rounds::PeriodRound;
 use dg_model::{CheckFault, Diagram};
 use fx_io::{OutOfMemory, Periods};
@@ -32,7 +33,9 @@ pub fn rates(alloc: Global, diagram: &Diagram) -> Result<Periods, CheckFault>
 {
     let base = base_period(diagram);
     let first = first_periods(alloc, diagram, base)?;
-    let round = PeriodRound::of(alloc, diagram)?;
+    let blocks = diagram.blocks.as_slice();
+    let links = Links::of(alloc, diagram)?;
+    let round = PeriodRound { blocks, links };
     let periods = match round.periods(alloc, diagram, first) {
         Ok(periods) => periods,
         Err(OutOfMemory) => {

@@ -1,10 +1,9 @@
-ghost use Rattle.std.specs.Prelude.{◌≡◌, ◌<◌, ◌≤◌, ◌&&◌, IfOk, ⊤, true, false, All, length, map, slice_index_or, Some, None};
+ghost use Rattle.std.specs.Prelude.{◌≡◌, ◌<◌, ◌≤◌, ◌&&◌, IfOk, ⊤, All, length, map, Some, None};
 ghost use Rattle.std.specs.List.{list_all};
 ghost use Rattle.dg_waves.specs.Rounds.{after_rounds as after_rounds_of};
 ghost use Rattle.dg_model.specs.Library.{row_of};
 ghost use Rattle.dg_model.specs.Limits.{most_blocks};
 ghost use Rattle.dg_model.specs.Periods.{are_unchanging, is_unchanging, least_finite as least_finite_of, least_of, next_periods, or_one};
-ghost use Rattle.dg_model.specs.Wired.{IsWired};
 ghost use Rattle.dg_rates.specs.inner.Links.{AreSources};
 ghost use Rattle.fx_io.specs.Rows.{row_at};
 ghost use Rattle.dg_rates.specs.inner.Steps.{all_rests, is_of_sources, known_of, next_known, taken_by};
@@ -13,7 +12,7 @@ ghost use Rattle.dg_rates.specs.inner.StepLaws.{step_is_local};
 use crate::links::Links;
 use dg_model::{Block, Diagram, Inherited, Kind};
 use dg_waves::Round;
-use fx_io::{Flags, OutOfMemory, Periods};
+use fx_io::{OutOfMemory, Periods};
 use std::alloc::Global;
 
 /// A block's period, where it has one yet; an inner `None` is a value that never changes.
@@ -21,11 +20,10 @@ pub type Known = Option<Option<u32>>;
 
 /// The blocks of a diagram, as the rounds of periods see them.
 #[derive(Drop)]
-pub struct PeriodRound {
-    /// The blocks that may take the period of a value that never changes.
-    pub rests: Flags,
+pub struct PeriodRound<'a> {
+    pub blocks: &'a [Block],
     pub links: Links,
-    pub ghost marked: { length rests ≡ length links.sources },
+    pub ghost long: { length blocks.now ≡ length links.sources },
 }
 
 /// Whether a block of this kind may take the period of a value that never changes.
@@ -36,17 +34,6 @@ fn may_rest(kind: &Kind) -> bool
         Inherited::OfSources => true,
         Inherited::Moving | Inherited::Base | Inherited::Unchanging => false,
     }
-}
-
-/// Which blocks may take the period of a value that never changes.
-fn resting(alloc: Global, blocks: &[Block]) -> Result<Flags, OutOfMemory>
-    ensures { IfOk result (λ rests. rests ≡ all_rests blocks.now) }
-{
-    let mut rests = Flags::new(alloc);
-    for block in blocks {
-        rests.push(may_rest(&block.kind))?;
-    }
-    Ok(rests)
 }
 
 /// The lesser of a period and another, where there is another.
@@ -102,14 +89,32 @@ fn takes_rest(values: &[Known], sources: &[u32], rests: bool) -> bool
     }
 }
 
-impl Round for PeriodRound {
+/// The period that a block without one takes from its sources.
+fn taken(values: &[Known], sources: &[u32], rests: bool) -> Known
+    requires { All (λ source. source < length values.now) sources.now }
+    ensures { result ≡ taken_by rests (known_of values.now sources.now) }
+{
+    match least_finite(values, sources) {
+        Some(period) => Some(Some(period)),
+        None => {
+            if takes_rest(values, sources, rests) {
+                Some(None)
+            } else {
+                None
+            }
+        }
+    }
+}
+
+impl Round for PeriodRound<'_> {
     type Value = Known;
 
     ghost count = { λ round. length round.links.sources };
 
     ghost IsValue = { λ round value. ⊤ };
 
-    ghost next = { λ round values block. next_known round.rests round.links.sources values block };
+    ghost next = { λ round values block.
+        next_known (all_rests round.blocks.now) round.links.sources values block };
 
     ghost readers_of = { λ round block. row_at round.links.readers block };
 
@@ -118,15 +123,18 @@ impl Round for PeriodRound {
     ghost fit = { λ round values block size there fit. tt };
 
     ghost local = { λ round old new block old_size new_size there same.
-        step_is_local round.rests round.links.sources round.links.readers old new block
-        round.links.tied there same };
+        step_is_local (all_rests round.blocks.now) round.links.sources round.links.readers
+        old new block round.links.tied there same };
 
     fn next(&self, values: &[Known], block: u32) -> Known {
-        let own = values[block as usize];
-        if own.is_some() {
-            return own;
+        match values[block as usize] {
+            Some(period) => Some(period),
+            None => taken(
+                values,
+                self.links.sources_of(block),
+                may_rest(&self.blocks[block as usize].kind),
+            ),
         }
-        self.period_of_sources(values, block)
     }
 
     fn readers(&self, block: u32) -> &[u32] {
@@ -138,41 +146,7 @@ impl Round for PeriodRound {
     }
 }
 
-impl PeriodRound {
-    /// The rounds of a diagram.
-    pub fn of(alloc: Global, diagram: &Diagram) -> Result<PeriodRound, OutOfMemory>
-        requires { IsWired diagram.now }
-        ensures size { IfOk result
-            (λ round. length round.links.sources ≡ length diagram.now.blocks) }
-        ensures rests { IfOk result (λ round. round.rests ≡ all_rests diagram.now.blocks) }
-        ensures sources { IfOk result (λ round. AreSources diagram.now round.links.sources) }
-    {
-        let links = Links::of(alloc, diagram)?;
-        let rests = resting(alloc, diagram.blocks.as_slice())?;
-        Ok(PeriodRound { rests, links })
-    }
-
-    /// The period that a block without one takes.
-    fn period_of_sources(&self, values: &[Known], block: u32) -> Known
-        requires inside { block < length self.now.links.sources }
-        requires size { length values.now ≡ length self.now.links.sources }
-        ensures { result ≡ taken_by (slice_index_or self.now.rests block false)
-            (known_of values.now (row_at self.now.links.sources block)) }
-    {
-        let sources = self.links.sources_of(block);
-        let rests = self.rests.as_slice()[block as usize];
-        match least_finite(values, sources) {
-            Some(period) => Some(Some(period)),
-            None => {
-                if takes_rest(values, sources, rests) {
-                    Some(None)
-                } else {
-                    None
-                }
-            }
-        }
-    }
-
+impl PeriodRound<'_> {
     /// The periods of a diagram's blocks: those after as many rounds as there are blocks, and 1
     /// where there is none by then (Simulink reference, sample time propagation; the rounds are own).
     pub fn periods(
@@ -184,7 +158,7 @@ impl PeriodRound {
         requires few { length diagram.now.blocks ≤ most_blocks }
         requires size { length self.now.links.sources ≡ length diagram.now.blocks }
         requires first_size { length first.items ≡ length diagram.now.blocks }
-        requires rests { self.now.rests ≡ all_rests diagram.now.blocks }
+        requires blocks { self.now.blocks.now ≡ diagram.now.blocks }
         requires sources { AreSources diagram.now self.now.links.sources }
         ensures { IfOk result (λ periods. periods ≡ map or_one
             (after_rounds_of (next_periods diagram.now) (length diagram.now.blocks) first.items)) }

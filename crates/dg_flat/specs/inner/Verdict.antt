@@ -4,7 +4,7 @@ use Rattle.dg_model.specs.declared.nested.Nested.{Nested}
 use Rattle.dg_model.specs.declared.nested.NestedBlock.{NestedBlock}
 use Rattle.dg_flat.specs.declared.wiring.Known.{Known}
 use Rattle.dg_flat.specs.Parts.{in_number, out_number, outputs_of}
-use Rattle.dg_flat.specs.Rules.{IsDriven, IsNumbered, HasEnd, AllNestedKeep}
+use Rattle.dg_flat.specs.Rules.{IsDriven, IsNumbered, HasEnd, AllNestedKeep, KeepsWiring, KeepsEnable}
 use Rattle.dg_flat.specs.inner.Slots.{HaveParents}
 use Rattle.dg_flat.specs.inner.Systems.{AreSystems}
 use Rattle.dg_flat.specs.inner.Tally.{IsTally}
@@ -19,6 +19,11 @@ pub record IsFirstBroken (nested : Nested) (Keeps : Nested → ℕ → NestedBlo
 abbrev pub IsFirst : Nested → (Nested → ℕ → NestedBlock → Type 0) → Option ℕ → Type 0
 IsFirst nested Keeps None = AllNestedKeep nested Keeps
 IsFirst nested Keeps (Some place) = IsFirstBroken nested Keeps place
+
+-- all blocks keep both rules
+pub record KeepsAll (nested : Nested) : Type 0 where
+  pub wiring : AllNestedKeep nested KeepsWiring
+  pub enables : AllNestedKeep nested KeepsEnable
 
 -- a block, and the tables of what stands and what is driven beside it
 pub record IsKnown (known : Known) (place : ℕ) (block : NestedBlock) : Type 0 where

@@ -1,5 +1,5 @@
 -- What each block reads, and which blocks read it, by rows of their numbers (own).
-use Rattle.std.specs.Prelude.{◌≡◌, ℕ, ◌<◌, ◌++◌, ◌==◌, nat_lt, true, if◌then◌else◌, List, [], ◌∷◌, All, length, map, filter, Some, slice_get}
+use Rattle.std.specs.Prelude.{◌≡◌, ℕ, ◌<◌, ◌++◌, ◌==◌, nat_lt, true, if◌then◌else◌, List, [], All, length, map, filter, Some, slice_get}
 use Rattle.fx_io.specs.Rows.{row_at}
 use Rattle.dg_waves.specs.inner.Waves.{is_in}
 use Rattle.dg_model.specs.declared.diagram.Diagram.{Diagram}
@@ -7,21 +7,14 @@ use Rattle.dg_model.specs.declared.diagram.Block.{Block}
 use Rattle.dg_model.specs.declared.diagram.Edge.{Edge}
 use Rattle.dg_model.specs.Periods.{control_of, drivers_of, sources_of}
 
--- so many rows, each with its own number alone
-pub record AreOwn (count : ℕ) (rows : List (List ℕ)) : Type 0 where
-  pub size : length rows ≡ count
-  pub own : (block : ℕ) → block < count → row_at rows block ≡ block ∷ []
-
--- so many blocks read blocks that are there, and these know them as their readers; each is a reader
--- of itself
-pub record AreTied (count : ℕ) (sources readers : List (List ℕ)) : Type 0 where
+-- so many blocks read blocks that are there, and these know them as their readers; those before `selves` are readers of themselves
+pub record AreTied (count selves : ℕ) (sources readers : List (List ℕ)) : Type 0 where
   pub sources_size : length sources ≡ count
   pub readers_size : length readers ≡ count
   pub there : (block : ℕ) → All (λ source. source < count) (row_at sources block)
   pub readers_there : (block : ℕ) → All (λ reader. reader < count) (row_at readers block)
-  pub own : (block : ℕ) → block < count → is_in block (row_at readers block) ≡ true
-  pub known : (block k source : ℕ) → slice_get (row_at sources block) k ≡ Some source
-      → is_in block (row_at readers source) ≡ true
+  pub own : (block : ℕ) → block < selves → is_in block (row_at readers block) ≡ true
+  pub known : (block k source : ℕ) → slice_get (row_at sources block) k ≡ Some source → is_in block (row_at readers source) ≡ true
 
 -- the rows have the drivers of these edges, in order
 pub record AreDrivers (count : ℕ) (edges : List Edge) (rows : List (List ℕ)) : Type 0 where

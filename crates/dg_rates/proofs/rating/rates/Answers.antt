@@ -1,5 +1,6 @@
 use Rattle.std.proofs.Common.{◌≡◌, List, inl, inr, length, map, ap, subst, ◌∙◌}
 use Rattle.std.specs.Prelude.{codes}
+use Rattle.std.proofs.lemmas.List.{length-map}
 use Rattle.std.proofs.lemmas.Result.{err_from_is_err_and}
 use Rattle.dg_waves.specs.Rounds.{after_rounds}
 use Rattle.dg_model.specs.declared.fault.Shown.TheVariants.{Word}
@@ -55,3 +56,6 @@ returns-in-Err-check_periods-clause-refused c =
       periods = subst (λ (periods : List Period). BreaksAt diagram Rule.Rate (KeepsPeriods diagram periods) (shown_periods diagram periods) fault) same broken;
     }))
     c.in-Err-check_periods.ensures.refused
+
+pub periods-requires-clause-first_size : goal.periods-requires-clause-first_size
+periods-requires-clause-first_size c = ap length c.in_ok-first.ensures.known ∙ length-map c.args.diagram.now.blocks _

@@ -1,0 +1,18 @@
+use Rattle.dg_flat.proofs.Found.{numbers_within}
+use Rattle.dg_flat.proofs.FromSound.{have_parents, have_ends}
+use Rattle.dg_flat.proofs.Law.{flat_of}
+use Rattle.dg_flat.proofs.flattening.kept_diagram.Goals as goal
+
+pub flat_blocks-requires-clause-parents : goal.flat_blocks-requires-clause-parents
+flat_blocks-requires-clause-parents c = rw c.as_slice-blocks.ensures (have_parents c.args.nested.now c.requires.sound)
+
+pub flat_edges-requires-clause-numbers : goal.flat_edges-requires-clause-numbers
+flat_edges-requires-clause-numbers c = rw c.as_slice-blocks.ensures (numbers_within c.args.nested.now c.requires.kept.wiring)
+
+pub flat_edges-requires-clause-ends : goal.flat_edges-requires-clause-ends
+flat_edges-requires-clause-ends c = rw (c.as_slice-blocks.ensures, c.as_slice-lines.ensures) (have_ends c.args.nested.now c.requires.sound)
+
+pub returns : goal.returns
+returns c =
+    flat_of c.args.nested.now c.as_slice-blocks.result.now c.as_slice-lines.result.now c.in_ok-blocks.blocks c.in_ok-edges.edges c.as_slice-blocks.ensures c.as_slice-lines.ensures c.in_ok-blocks.ensures
+    c.in_ok-edges.ensures.same c.in_ok-edges.ensures.ordered
