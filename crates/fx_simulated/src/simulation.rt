@@ -134,7 +134,6 @@ fn fit(columns: &RootColumns) -> Result<(), OutOfMemory>
 }
 
 /// Puts the line of each row by itself, as soon as its sample is made. It takes no memory.
-#[tactic(auto, using(crate::proofs::Simulations::took_none, crate::proofs::Simulations::took_line, crate::proofs::Simulations::took_part_of_line))]
 fn put_lines<K: Sink>(
     checked: &Checked,
     rows: &Rows,
@@ -207,7 +206,6 @@ pub fn response_text(
 }
 
 /// The lines of all rows, one after another.
-#[tactic(auto, using(crate::proofs::Simulations::no_lines, crate::proofs::Simulations::more_lines))]
 fn lines_of(
     alloc: Global,
     checked: &Checked,

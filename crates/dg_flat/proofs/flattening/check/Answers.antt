@@ -1,10 +1,10 @@
-use Rattle.std.proofs.Common.{◌≡◌, ℕ, inl, inr, subst}
+use Rattle.std.proofs.Common.{◌≡◌, ℕ, List, inl, inr, subst}
 use Rattle.dg_model.specs.declared.fault.RuleFault.{RuleFault}
 use Rattle.dg_model.specs.declared.fault.Shown.TheVariants.{Nothing}
 use Rattle.dg_model.specs.declared.nested.Nested.{Nested}
 use Rattle.dg_model.specs.declared.nested.NestedBlock.{NestedBlock}
 use Rattle.dg_model.specs.declared.rule.Rule.{Rule}
-use Rattle.dg_model.specs.Faults.{fault_of}
+use Rattle.dg_model.specs.Faults.{IsRefusal, fault_of}
 use Rattle.dg_flat.specs.Parts.{nested_path}
 use Rattle.dg_flat.specs.Rules.{BreaksNested, BreaksWiringOrEnable, KeepsWiring, KeepsEnable}
 use Rattle.dg_flat.specs.inner.Verdict.{IsFirst, IsFirstBroken}
@@ -53,7 +53,8 @@ returns-in-Some-clause-refused c =
     let place = c.in-Some.place in
     let first = subst (IsFirst nested KeepsWiring) c.in-Some.is c.in_ok-place.ensures in
     refused_as (told Rule.Wiring nested place) (BreaksWiringOrEnable nested) c.refusal.result
-    (λ fault is. inl (breaks Rule.Wiring nested KeepsWiring place first fault is)) (rw c.as_slice-blocks.ensures at c.refusal.ensures)
+    (λ fault is. inl (breaks Rule.Wiring nested KeepsWiring place first fault is))
+    (subst (λ (blocks : List NestedBlock). IsRefusal (λ fault. fault ≡ fault_of Rule.Wiring (nested_path blocks place) Nothing) c.refusal.result) c.as_slice-blocks.ensures c.refusal.ensures)
 
 pub returns-in-Some-first_misplaced-clause-refused : goal.returns-in-Some-first_misplaced-clause-refused
 returns-in-Some-first_misplaced-clause-refused c =
@@ -62,7 +63,8 @@ returns-in-Some-first_misplaced-clause-refused c =
     let wired = subst (IsFirst nested KeepsWiring) c.in_default.is c.in_ok-place.ensures in
     refused_as (told Rule.Enable nested place) (BreaksWiringOrEnable nested) c.refusal-in-Some-first_misplaced.result
     (λ fault is. inr (record { wired = wired; enables = breaks Rule.Enable nested KeepsEnable place c.in-Some-first_misplaced.ensures fault is }))
-    (rw c.as_slice-blocks.ensures at c.refusal-in-Some-first_misplaced.ensures)
+    (subst (λ (blocks : List NestedBlock). IsRefusal (λ fault. fault ≡ fault_of Rule.Enable (nested_path blocks place) Nothing) c.refusal-in-Some-first_misplaced.result) c.as_slice-blocks.ensures
+    c.refusal-in-Some-first_misplaced.ensures)
 
 pub returns-clause-kept : goal.returns-clause-kept
 returns-clause-kept c = record { wiring = subst (IsFirst c.args.nested.now KeepsWiring) c.in_default.is c.in_ok-place.ensures; enables = c.in_default-first_misplaced.ensures }

@@ -4,10 +4,10 @@ use Rattle.dg_rates.specs.inner.Links.{AreTied}
 use Rattle.dg_rates.proofs.links.Links.of.Goals as goal
 
 pub put_links-requires-clause-sources : goal.put_links-requires-clause-sources
-put_links-requires-clause-sources c = c.in_ok-sources.ensures ∙ ap (λ (bs : List Block). replicate (length bs) []) c.as_slice.ensures
+put_links-requires-clause-sources c = c.in_ok-sources.ensures ∙ ap (λ (bs : List Block). replicate (length bs) []) c.as_slice-count.ensures
 
 pub put_links-requires-clause-readers : goal.put_links-requires-clause-readers
-put_links-requires-clause-readers c = c.in_ok-readers.ensures ∙ ap (λ (bs : List Block). replicate (length bs) []) c.as_slice.ensures
+put_links-requires-clause-readers c = c.in_ok-readers.ensures ∙ ap (λ (bs : List Block). replicate (length bs) []) c.as_slice-count.ensures
 
 pub invariant_of-result : goal.invariant_of-result
 invariant_of-result c =
