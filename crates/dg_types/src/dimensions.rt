@@ -106,7 +106,8 @@ fn widths_by(
 ) -> Result<PortWidths, CheckFault>
     requires wired { IsWired diagram.now }
     requires size { length round.now.sources ≡ length diagram.now.blocks }
-    requires mirrors { Mirrors diagram.now (all_forms round.now.blocks.now) round.now.sources }
+    requires mirrors { Mirrors diagram.now (all_forms round.now.blocks.now)
+        round.now.sources }
     requires widths { scan.old.widths ≡ [] }
     requires again { scan.old.again ≡ [] }
     ensures widths { IfOk result (λ widths. widths ≡ widths_of diagram.now) }

@@ -56,7 +56,8 @@ pub fn put_scan(
 ) -> Result<(), OutOfMemory>
     requires wired { IsWired diagram.now }
     requires size { length round.now.sources ≡ length diagram.now.blocks }
-    requires mirrors { Mirrors diagram.now (all_forms round.now.blocks.now) round.now.sources }
+    requires mirrors { Mirrors diagram.now (all_forms round.now.blocks.now)
+        round.now.sources }
     requires widths { scan.old.widths ≡ [] }
     requires again { scan.old.again ≡ [] }
     ensures { OnOk result (IsScan diagram.now scan.new) }

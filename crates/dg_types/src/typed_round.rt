@@ -113,7 +113,8 @@ pub fn known_types(
 ) -> Result<Vec<Option<FxType>>, OutOfMemory>
     requires wired { IsWired diagram.now }
     requires blocks { round.now.blocks.now ≡ diagram.now.blocks }
-    requires mirrors { Mirrors diagram.now (all_forms round.now.links.blocks.now) round.now.links.sources }
+    requires mirrors { Mirrors diagram.now (all_forms round.now.links.blocks.now)
+        round.now.links.sources }
     ensures { IfOk result (λ types. IsTyped diagram.now round.now.blocks.now
         (all_forms round.now.links.blocks.now) round.now.links.sources types.items) }
 {

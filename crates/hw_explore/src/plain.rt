@@ -1,4 +1,5 @@
 ghost use Rattle.std.specs.Prelude.{◌≡◌, ◌≤◌, IfOk};
+ghost use Rattle.dg_model.specs.Limits.{most_cycles, most_multipliers};
 ghost use Rattle.dg_model.specs.PlanOf.{IsPlanOf};
 ghost use Rattle.hw_explore.specs.Candidates.{plain_plan};
 
@@ -14,8 +15,8 @@ pub fn without_pipelines(
     multipliers: u32,
 ) -> Result<Resolved, OutOfMemory>
     requires some { 1 ≤ cycles }
-    requires clocks { cycles ≤ 1024 }
-    requires multipliers { multipliers ≤ 64 }
+    requires clocks { cycles ≤ most_cycles }
+    requires multipliers { multipliers ≤ most_multipliers }
     ensures is { IfOk result (λ plan. plan ≡ plain_plan checked.now.diagram cycles multipliers) }
     ensures plan { IfOk result (λ plan. IsPlanOf checked.now.diagram plan) }
 {
