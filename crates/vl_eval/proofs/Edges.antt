@@ -54,20 +54,20 @@ module _ (by_layer : ByLayer) (m : Module) (b : BreaksNone m) (scope : Scope) (s
   nets = nets_in scope
 
   abbrev slots : List ℕ
-  slots = plan.slots.items
+  slots = plan.arranged.slots.items
 
   abbrev ops : List Op
-  ops = plan.ops
+  ops = plan.arranged.ops
 
   abbrev row : List ℕ → List ℕ → ℕ
   row values name = slice_index values (slot_in scope slots name)
 
   -- what no capture or put touches
-  module _ (v0 v1 v2 : List ℕ) (bits : List ℕ) (taken : IsTaken plan.captures.items v0 v1) (put : IsPut plan.inputs.items bits v1 v2) where
+  module _ (v0 v1 v2 : List ℕ) (bits : List ℕ) (taken : IsTaken plan.arranged.captures.items v0 v1) (put : IsPut plan.inputs.items bits v1 v2) where
     register-taken : IsSettledIn plan v0 → FixedFit m scope (row v0) → (name : List ℕ) (first : Sized) (condition : Option Expr) (value : Expr) → Contains m.items (Always name first condition value)
         → row v1 name ≡ next_in nets (row v0) name first condition value
     register-taken st f name first condition value h = by (taken.each (slot_in scope slots name)) where
-      by : (IsFree plan.captures.items (slot_in scope slots name) × (row v1 name ≡ row v0 name)) ⊎ ((c : Capture) × Contains plan.captures.items c × (c.to ≡ slot_in scope slots name) × (row v1 name ≡ slice_index v0 c.from))
+      by : (IsFree plan.arranged.captures.items (slot_in scope slots name) × (row v1 name ≡ row v0 name)) ⊎ ((c : Capture) × Contains plan.arranged.captures.items c × (c.to ≡ slot_in scope slots name) × (row v1 name ≡ slice_index v0 c.from))
           → row v1 name ≡ next_in nets (row v0) name first condition value
       by (inl (free, same)) = let r = p.captured.each name first condition value h in absurd (free r.0 r.1 r.2.to)
       by (inr (c, inside, to, same)) =
@@ -85,8 +85,8 @@ module _ (by_layer : ByLayer) (m : Module) (b : BreaksNone m) (scope : Scope) (s
 
     input-taken : (port : Port) → Contains m.ports port → port.input ≡ true → row v1 port.name ≡ row v0 port.name
     input-taken port h i = by (taken.each (slot_in scope slots port.name)) where
-      by : (IsFree plan.captures.items (slot_in scope slots port.name) × (row v1 port.name ≡ row v0 port.name))
-          ⊎ ((c : Capture) × Contains plan.captures.items c × (c.to ≡ slot_in scope slots port.name) × (row v1 port.name ≡ slice_index v0 c.from))
+      by : (IsFree plan.arranged.captures.items (slot_in scope slots port.name) × (row v1 port.name ≡ row v0 port.name))
+          ⊎ ((c : Capture) × Contains plan.arranged.captures.items c × (c.to ≡ slot_in scope slots port.name) × (row v1 port.name ≡ slice_index v0 c.from))
           → row v1 port.name ≡ row v0 port.name
       by (inl (free, same)) = same
       by (inr (c, inside, to, same)) =
@@ -113,8 +113,8 @@ module _ (by_layer : ByLayer) (m : Module) (b : BreaksNone m) (scope : Scope) (s
         omega (arith, there, number, below, base, above, same))
         ∙ by (taken.each place)
       where
-        by : (IsFree plan.captures.items place × (slice_index v1 place ≡ slice_index v0 place))
-            ⊎ ((c : Capture) × Contains plan.captures.items c × (c.to ≡ place) × (slice_index v1 place ≡ slice_index v0 c.from))
+        by : (IsFree plan.arranged.captures.items place × (slice_index v1 place ≡ slice_index v0 place))
+            ⊎ ((c : Capture) × Contains plan.arranged.captures.items c × (c.to ≡ place) × (slice_index v1 place ≡ slice_index v0 c.from))
             → slice_index v1 place ≡ slice_index v0 place
         by (inl (free, same)) = same
         by (inr (c, inside, to, same)) =
@@ -239,7 +239,7 @@ module _ (by_layer : ByLayer) (m : Module) (b : BreaksNone m) (scope : Scope) (s
   to-named : (values : List ℕ) → ((d : Declared) → Contains (declarations m) d → row values d.name < 2 ^ d.net.width) → FitsNamed values
   to-named values fits d listed = subst (λ (r : List ℕ → ℕ). r d.name < 2 ^ d.net.width) (named-row values) (fits d listed)
 
-  module _ (v0 v1 v2 bits : List ℕ) (taken : IsTaken plan.captures.items v0 v1) (put : IsPut plan.inputs.items bits v1 v2) (fit : AreFit (driven_ports m) bits)
+  module _ (v0 v1 v2 bits : List ℕ) (taken : IsTaken plan.arranged.captures.items v0 v1) (put : IsPut plan.inputs.items bits v1 v2) (fit : AreFit (driven_ports m) bits)
       (v3 : List ℕ) (st0 : IsSettledIn plan v0) (fits0 : FitsNamed v0) (still0 : StillNamed v0) (kept : take plan.base v3 ≡ take plan.base v2) (st3 : IsSettledIn plan v3) where
     still-row : (port : Port) → Contains m.ports port → port.input ≡ true → bytes_eq port.name (codes "clk") ≡ true → row v0 port.name ≡ 0
     still-row port h i clk = (λ k. named-row v0 k port.name) ∙ still0 port h i clk

@@ -44,7 +44,7 @@ IsListed m name = (d : Declared) × Contains (declarations m) d × (d.name ≡ n
 
 -- the operations of a plan have their values
 abbrev pub IsSettledIn : Plan → List ℕ → Type 0
-IsSettledIn plan values = IsSettled plan.base plan.ops (λ k. slice_index values k)
+IsSettledIn plan values = IsSettled plan.base plan.arranged.ops (λ k. slice_index values k)
 
 module _ (by_layer : ByLayer) (m : Module) (b : BreaksNone m) (scope : Scope) (s : IsScopeOf m scope) (plan : Plan) (p : IsPlan m scope plan) where
   abbrev nets : List ℕ → Net
@@ -57,13 +57,13 @@ module _ (by_layer : ByLayer) (m : Module) (b : BreaksNone m) (scope : Scope) (s
   few name = subst (λ (f : List ℕ → Net). (f name).width ≤ 128) (sym nets-same) (width-few m b.narrow b.acyclic.driven b.acyclic.once name)
 
   abbrev slots : List ℕ
-  slots = plan.slots.items
+  slots = plan.arranged.slots.items
 
   abbrev count : ℕ
   count = length (names_in scope)
 
   abbrev ops : List Op
-  ops = plan.ops
+  ops = plan.arranged.ops
 
   abbrev row : List ℕ → List ℕ → ℕ
   row values name = slice_index values (slot_in scope slots name)
@@ -181,14 +181,14 @@ module _ (by_layer : ByLayer) (m : Module) (b : BreaksNone m) (scope : Scope) (s
       let place = a.2 in let number = c.2 in let below = c.3 in let base = p.base in
       omega (arith, place, number, below, base, room)
 
-  pub captures-within : (values : List ℕ) → length values ≡ plan.base + length ops → (c : Capture) → Contains plan.captures.items c → (c.from < length values) × (c.to < length values)
+  pub captures-within : (values : List ℕ) → length values ≡ plan.base + length ops → (c : Capture) → Contains plan.arranged.captures.items c → (c.from < length values) × (c.to < length values)
   captures-within values room c h =
       let r = p.captured.only c h in
       let a = fixed-slot r.0 (register-known r.0 r.1 r.2 r.3 r.4) (register-fixed r.0 r.1 r.2 r.3 r.4) in
       let from = r.5.below in let to = r.5.to in let number = a.2 in let below = a.3 in let base = p.base in
       (omega (arith, from, base, room), omega (arith, to, number, below, base, room))
 
-  pub captures-apart : (c d : Capture) → Contains plan.captures.items c → Contains plan.captures.items d → c.to ≢ d.from
+  pub captures-apart : (c d : Capture) → Contains plan.arranged.captures.items c → Contains plan.arranged.captures.items d → c.to ≢ d.from
   captures-apart c d h k same =
       let r = p.captured.only c h in
       let a = fixed-slot r.0 (register-known r.0 r.1 r.2 r.3 r.4) (register-fixed r.0 r.1 r.2 r.3 r.4) in

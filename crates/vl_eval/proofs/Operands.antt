@@ -1,5 +1,5 @@
 -- What an expression's soundness, length and names say of its operands.
-use Rattle.std.proofs.Common.{◌≡◌, ◌<◌, ◌≤◌, ◌*◌, ℕ, max, sum, Bool, true, false, ◌&&◌, nat_le, nat_lt, List, [], ◌∷◌, ◌++◌, map, flat_map, refl, sym, ap, ◌∙◌, arith}
+use Rattle.std.proofs.Common.{◌≡◌, ◌<◌, ◌≤◌, ◌+◌, ◌-◌, ◌*◌, ℕ, max, sum, Bool, true, false, ◌&&◌, nat_le, nat_lt, List, [], ◌∷◌, ◌++◌, map, flat_map, refl, sym, ap, ◌∙◌, arith}
 use Rattle.std.specs.List.{list_all}
 use Rattle.std.proofs.lemmas.Bool.{and_parts, leb-true, ltb-true}
 use Rattle.vl_ast.specs.declared.expressions.UnOp.{UnOp}
@@ -146,6 +146,9 @@ module _ (nets : List ℕ → Net) where
 
   pub names-part : (name : List ℕ) (high low : ℕ) → names_read (Part name high low) ≡ name ∷ []
   names-part name high low = names-of (Expr-F.Part name high low) (Part name high low) (rolls-Part name high low)
+
+  pub length-part : (name : List ℕ) (high low : ℕ) → own_length nets (Part name high low) ≡ high + 1 - low
+  length-part name high low = length-of (Expr-F.Part name high low) (Part name high low) (rolls-Part name high low)
 
   pub length-name : (name : List ℕ) → own_length nets (Name name) ≡ (nets name).width
   length-name name = length-of (Expr-F.Name name) (Name name) (rolls-Name name)

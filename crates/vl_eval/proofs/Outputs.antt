@@ -30,10 +30,10 @@ use Rattle.vl_eval.proofs.Edges.{named-row}
 
 module _ (by_layer : ByLayer) (m : Module) (b : BreaksNone m) (scope : Scope) (s : IsScopeOf m scope) (plan : Plan) (p : IsPlan m scope plan) where
   abbrev slots : List ℕ
-  slots = plan.slots.items
+  slots = plan.arranged.slots.items
 
   abbrev ops : List Op
-  ops = plan.ops
+  ops = plan.arranged.ops
 
   abbrev named : List ℕ → List ℕ → ℕ
   named values name = slice_index values (slot_at slots (position (bytes_eq name) (names_of m)))

@@ -22,8 +22,17 @@ use Rattle.vl_eval.specs.inner.Planned.{AreCaptured, AreWired, FixedFit, IsCaptu
 use Rattle.vl_eval.specs.inner.Site.{slot_at, slot_in}
 use Rattle.vl_eval.proofs.Builds.{grows-length, grows-none, settled-later}
 
-module _ (by_layer : ByLayer) (m : Module) (scope : Scope) (some : 0 < length (names_in scope)) (wires ops : List Op) (slots : List ℕ) (captures : List Capture)
-    (w : AreWired m scope slots wires) (c : AreCaptured m scope slots m.items wires ops captures) (arranged : Arranged) (a : IsArranged (length (names_in scope)) ops slots captures arranged) where
+module _ (by_layer : ByLayer) (m : Module) (scope : Scope) (some : 0 < length (names_in scope)) (wires : List Op) (built arranged : Arranged)
+    (w : AreWired m scope built.slots.items wires) (c : AreCaptured m scope built.slots.items m.items wires built.ops built.captures.items) (a : IsArranged (length (names_in scope)) built arranged) where
+  abbrev ops : List Op
+  ops = built.ops
+
+  abbrev slots : List ℕ
+  slots = built.slots.items
+
+  abbrev captures : List Capture
+  captures = built.captures.items
+
   abbrev count : ℕ
   count = length (names_in scope)
 

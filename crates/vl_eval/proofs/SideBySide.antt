@@ -20,10 +20,11 @@ use Rattle.vl_ast.proofs.Agree.{ByLayer}
 use Rattle.vl_check.specs.declared.scope.Scope.{Scope}
 use Rattle.vl_check.specs.declared.shapes.Shape.{Shape}
 use Rattle.vl_check.specs.Scope.{nets_in}
+use Rattle.vl_eval.specs.declared.adding.Additions.{Additions}
 use Rattle.vl_eval.specs.declared.ops.Op.{Op}
 use Rattle.vl_eval.specs.declared.ops.Op.TheVariants.{Constant, Beside}
 use Rattle.vl_eval.specs.inner.Ops.{IsSettled}
-use Rattle.vl_eval.specs.inner.Shown.{NamesFit, row_of, Grows, Pushed, IsBeside}
+use Rattle.vl_eval.specs.inner.Shown.{NamesFit, row_of, Grows, IfFine, Pushed, IsBeside}
 use Rattle.vl_eval.specs.declared.site.Alone.{Alone}
 use Rattle.vl_eval.specs.inner.Site.{ArePlaced, Built, BuiltAlone, slot_in}
 use Rattle.vl_eval.proofs.Forms.{Value, shows-op, ShowsBeside, still-beside, shows-beside, shows-first, shows-concat, shows-repeat}
@@ -245,32 +246,32 @@ module _ (by_layer : ByLayer) (base : ℕ) (scope : Scope) (slots : List ℕ) wh
   pub copies-few : (k n w : ℕ) → k < n → n * w ≤ 128 → (k + 1) * w ≤ 128
   copies-few k n w less few = let m : (k + 1) * w ≤ n * w = mul-le-mul_right w (omega arith) in omega (arith, m, few)
 
-  one-copy : (k w : ℕ) → k * w + w ≡ (k + 1) * w
+  pub one-copy : (k w : ℕ) → k * w + w ≡ (k + 1) * w
   one-copy k w = grind arith
 
-  pub copied-room : (before now : List Op) (slot length' k count : ℕ) (part : Expr) → is_sound nets (Repeat count part) ≡ true → k < count → Copied before now slot length' k part → length' + own_length nets part ≤ 128
-  copied-room before now slot length' k count part ok less c =
+  pub copied-room : (length' k count : ℕ) (part : Expr) → is_sound nets (Repeat count part) ≡ true → k < count → length' ≡ k * own_length nets part → length' + own_length nets part ≤ 128
+  copied-room length' k count part ok less long =
       let few = copies-few k count (own_length nets part) less (sound-repeat nets count part ok).2 in
       let more = one-copy k (own_length nets part) in
-      omega (arith, few, more, c.long)
+      omega (arith, few, more, long)
 
   pub built-copies : (count : ℕ) (part : Expr) (before now : List Op) (slot length' width : ℕ) (signed : Bool) → Copied before now slot length' count part → Here before now slot width signed (Repeat count part)
   built-copies count part before now slot length' width signed c =
       stays by_layer base scope slots before now slot width signed (Repeat count part) (roll-Expr (Expr-F.Repeat count part)) c.grows (rolls-Repeat count part) (shows-repeat by_layer base nets at now slot length' width signed count part c.shows)
 
   -- a place that shows an expression in every context shows it in its own
-  pub shows-alone-too : (before now : List Op) (e : Expr) (alone : Alone) → alone.shape.length ≡ own_length nets e → is_signed nets e ≡ false → own_length nets e ≤ 128 → alone.shape.signed ≡ false
-      → ((width : ℕ) (signed : Bool) → Here before now alone.slot width signed e) → BuiltAlone base scope slots before now alone e
+  pub shows-alone-too : (before now : Additions) (e : Expr) (alone : Alone) → alone.shape.length ≡ own_length nets e → is_signed nets e ≡ false → own_length nets e ≤ 128 → alone.shape.signed ≡ false
+      → ((context : Shape) → IfFine before now (Here before.code now.code alone.slot context.length context.signed e)) → BuiltAlone base scope slots before now alone e
   shows-alone-too before now e alone long plain few unsigned' built' = record {
     length = long;
     sign = unsigned' ∙ sym plain;
     few = omega (arith, long, few);
-    built = built' alone.shape.length alone.shape.signed;
+    built = built' alone.shape;
   }
 
   -- of all parts
-  pub concat-alone : (before now : List Op) (parts : List Expr) (alone : Alone) → is_sound nets (Concat parts) ≡ true → alone.shape.length ≡ lengths parts → alone.shape.signed ≡ false
-      → ((width : ℕ) (signed : Bool) → Here before now alone.slot width signed (Concat parts)) → BuiltAlone base scope slots before now alone (Concat parts)
+  pub concat-alone : (before now : Additions) (parts : List Expr) (alone : Alone) → is_sound nets (Concat parts) ≡ true → alone.shape.length ≡ lengths parts → alone.shape.signed ≡ false
+      → ((context : Shape) → IfFine before now (Here before.code now.code alone.slot context.length context.signed (Concat parts))) → BuiltAlone base scope slots before now alone (Concat parts)
   concat-alone before now parts alone ok long unsigned' built' =
       let l = length-concat nets parts in
       let few = (sound-concat nets parts ok).1 in

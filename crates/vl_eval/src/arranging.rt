@@ -182,27 +182,27 @@ fn moved_captures(
 }
 
 /// What `arrange` gives of operations that aren't too many for it.
-fn arranged_by(
-    alloc: Global,
-    base: usize,
-    ops: &Code,
-    slots: &[usize],
-    captures: &[Capture],
-) -> Result<Arranged, OutOfMemory>
-    requires ordered { IsOrdered base ops.now }
-    requires few { length ops.now ≤ 2 ^ 29 }
-    ensures { IfOk result (IsArranged base ops.now slots.now captures.now) }
+fn arranged_by(alloc: Global, base: usize, built: &Arranged) -> Result<Arranged, OutOfMemory>
+    requires ordered { IsOrdered base built.now.ops }
+    requires few { length built.now.ops ≤ 2 ^ 29 }
+    ensures { IfOk result (IsArranged base built.now) }
 {
-    let Some(_end) = base.checked_add(ops.len()) else {
+    let Some(_end) = base.checked_add(built.ops.len()) else {
         // word: words and operations are counted in 64 bits
         return Err(OutOfMemory);
     };
-    let mut entries = entries(alloc, ops, base)?;
+    let mut entries = entries(alloc, &built.ops, base)?;
     entries.sort_unstable();
     let places = places_of(alloc, entries.as_slice(), base)?;
-    let slots = moved_slots(alloc, slots, base, places.as_slice())?;
-    let captures = moved_captures(alloc, captures, base, places.as_slice())?;
-    let ops = in_order(alloc, ops, entries.as_slice(), base, places.as_slice())?;
+    let slots = moved_slots(alloc, built.slots.as_slice(), base, places.as_slice())?;
+    let captures = moved_captures(alloc, built.captures.as_slice(), base, places.as_slice())?;
+    let ops = in_order(
+        alloc,
+        &built.ops,
+        entries.as_slice(),
+        base,
+        places.as_slice(),
+    )?;
     Ok(Arranged {
         ops,
         slots,
@@ -212,26 +212,14 @@ fn arranged_by(
 
 /// Sorts operations by level and, within a level, by kind, so that the jump on the kind of an operation
 /// is foreseen. An operation is of a level above those that it reads.
-pub fn arrange(
-    alloc: Global,
-    base: usize,
-    ops: Code,
-    slots: Vec<usize>,
-    captures: Vec<Capture>,
-) -> Result<Arranged, OutOfMemory>
-    requires ordered { IsOrdered base ops }
-    ensures { IfOk result (IsArranged base ops slots.items captures.items) }
+pub fn arrange(alloc: Global, base: usize, built: Arranged) -> Result<Arranged, OutOfMemory>
+    requires { IsOrdered base built.ops }
+    ensures { IfOk result (IsArranged base built) }
 {
-    if ops.len() > MOST {
-        return Ok(Arranged {
-            ops,
-            slots,
-            captures,
-        });
+    if built.ops.len() > MOST {
+        return Ok(built);
     }
-    let arranged = arranged_by(alloc, base, &ops, slots.as_slice(), captures.as_slice());
-    drop(captures);
-    drop(slots);
-    drop(ops);
+    let arranged = arranged_by(alloc, base, &built);
+    drop(built);
     arranged
 }

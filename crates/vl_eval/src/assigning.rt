@@ -1,14 +1,14 @@
-ghost use Rattle.std.specs.Prelude.{◌≡◌, ◌≤◌, ◌<◌, true, IfOk};
+ghost use Rattle.std.specs.Prelude.{◌≡◌, ◌≤◌, ◌<◌, true, false};
 ghost use Rattle.vl_ast.specs.Conditions.{is_number, is_sound, is_sound_condition};
 ghost use Rattle.vl_ast.specs.Nets.{condition_names, names_read};
 ghost use Rattle.vl_ast.specs.Value.{assigned_number};
 ghost use Rattle.vl_check.specs.Scope.{nets_in};
+ghost use Rattle.vl_eval.specs.inner.Shown.{IfFine};
 ghost use Rattle.vl_eval.specs.inner.Site.{ArePlaced};
 ghost use Rattle.vl_eval.specs.inner.Assigning.{Assigns, Captures, Tests, next_names};
 
-use crate::adding::{Placed, push};
+use crate::adding::{Additions, push};
 use crate::building::build;
-use crate::code::Code;
 use crate::operators::literal;
 use crate::ops::{OneOp, Op, Register};
 use crate::site::{Site, shape_of, slot};
@@ -16,21 +16,21 @@ use vl_ast::{Expr, Sized, mask_of, meaning_by_layer};
 use vl_check::{Shape, net};
 
 /// Adds the operations of an assignment to a net of this width, and gives the place of its bits.
-pub fn build_assigned(ops: &mut Code, site: &Site<'_, '_>, e: &Expr, width: u32) -> Placed
+pub fn build_assigned(ops: &mut Additions, site: &Site<'_, '_>, e: &Expr, width: u32) -> usize
     requires sound { is_sound (nets_in site.now.scope.now) e.now ≡ true }
     requires most { width ≤ 128 }
-    requires placed { ArePlaced site.now.base site.now.scope.now site.now.slots.now ops.old
-        (names_read e.now) }
-    ensures { IfOk result (λ slot. Assigns site.now.base site.now.scope.now site.now.slots.now
-        ops.old ops.new slot width e.now) }
+    requires placed { ops.old.wanting ≡ false → ArePlaced site.now.base site.now.scope.now
+        site.now.slots.now ops.old.code (names_read e.now) }
+    ensures { IfFine ops.old ops.new (Assigns site.now.base site.now.scope.now
+        site.now.slots.now ops.old.code ops.new.code result width e.now) }
 {
     meaning_by_layer();
     let shape = shape_of(site, e);
     let length = shape.length.max(width);
     let signed = shape.signed;
-    let slot = build(ops, site, e, Shape { length, signed })?;
+    let slot = build(ops, site, e, Shape { length, signed });
     if shape.length <= width {
-        return Ok(slot);
+        return slot;
     }
     let mask = mask_of(width);
     push(
@@ -41,12 +41,12 @@ pub fn build_assigned(ops: &mut Code, site: &Site<'_, '_>, e: &Expr, width: u32)
 }
 
 /// Adds the operations of a condition, and gives the place of bits that aren't 0 where it is true.
-fn build_condition(ops: &mut Code, site: &Site<'_, '_>, condition: &Option<Expr>) -> Placed
+fn build_condition(ops: &mut Additions, site: &Site<'_, '_>, condition: &Option<Expr>) -> usize
     requires sound { is_sound_condition (nets_in site.now.scope.now) condition.now ≡ true }
-    requires placed { ArePlaced site.now.base site.now.scope.now site.now.slots.now ops.old
-        (condition_names condition.now) }
-    ensures { IfOk result (λ slot. Tests site.now.base site.now.scope.now site.now.slots.now
-        ops.old ops.new slot condition.now) }
+    requires placed { ops.old.wanting ≡ false → ArePlaced site.now.base site.now.scope.now
+        site.now.slots.now ops.old.code (condition_names condition.now) }
+    ensures { IfFine ops.old ops.new (Tests site.now.base site.now.scope.now
+        site.now.slots.now ops.old.code ops.new.code result condition.now) }
 {
     meaning_by_layer();
     match condition {
@@ -70,25 +70,27 @@ fn first_bits(number: &Sized, width: u32) -> u128
 
 /// Adds the operations of what a register takes at an edge, and gives the place of its bits.
 pub fn build_next(
-    ops: &mut Code,
+    ops: &mut Additions,
     site: &Site<'_, '_>,
     name: &[u8],
     first: &Sized,
     condition: &Option<Expr>,
     value: &Expr,
-) -> Placed
+) -> usize
     requires number { is_number first.now ≡ true }
     requires condition { is_sound_condition (nets_in site.now.scope.now) condition.now ≡ true }
     requires value { is_sound (nets_in site.now.scope.now) value.now ≡ true }
-    requires placed { ArePlaced site.now.base site.now.scope.now site.now.slots.now ops.old
-        (next_names name.now condition.now value.now) }
-    ensures { IfOk result (λ slot. Captures site.now.base site.now.scope.now site.now.slots.now
-        ops.old ops.new slot name.now first.now condition.now value.now) }
+    requires few { (nets_in site.now.scope.now name.now).width ≤ 128 }
+    requires placed { ops.old.wanting ≡ false → ArePlaced site.now.base site.now.scope.now
+        site.now.slots.now ops.old.code (next_names name.now condition.now value.now) }
+    ensures { IfFine ops.old ops.new (Captures site.now.base site.now.scope.now
+        site.now.slots.now ops.old.code ops.new.code result name.now first.now condition.now
+        value.now) }
 {
     meaning_by_layer();
     let width = net(site.scope, name).length;
-    let test = build_condition(ops, site, condition)?;
-    let taken = build_assigned(ops, site, value, width)?;
+    let test = build_condition(ops, site, condition);
+    let taken = build_assigned(ops, site, value, width);
     push(
         ops,
         site.base,

@@ -35,15 +35,15 @@ pub struct Snapshot {
 
 /// The values of row 0: those of the operations, where every register and input is 0.
 fn first_values(alloc: Global, plan: &Plan) -> Result<Vec<u128>, OutOfMemory>
-    requires { IsOrdered plan.now.base plan.now.ops }
-    ensures { IfOk result (λ values. IsFirst plan.now.base plan.now.ops values.items) }
+    requires { IsOrdered plan.now.base plan.now.arranged.ops }
+    ensures { IfOk result (λ values. IsFirst plan.now.base plan.now.arranged.ops values.items) }
 {
-    let Some(room) = plan.base.checked_add(plan.ops.len()) else {
+    let Some(room) = plan.base.checked_add(plan.arranged.ops.len()) else {
         // word: words and operations are counted in 64 bits
         return Err(OutOfMemory);
     };
     let mut values = vec![in alloc; 0u128; room]?;
-    plan.ops.sweep(plan.base, 0, values.as_mut_slice());
+    plan.arranged.ops.sweep(plan.base, 0, values.as_mut_slice());
     Ok(values)
 }
 
@@ -144,9 +144,10 @@ impl Machine {
     {
         meaning_by_layer();
         let values = self.values.as_mut_slice();
-        capture(self.plan.captures.as_slice(), values);
+        capture(self.plan.arranged.captures.as_slice(), values);
         put(self.plan.inputs.as_slice(), inputs, values);
         self.plan
+            .arranged
             .ops
             .sweep(self.plan.base, self.plan.constants, values);
     }

@@ -1,12 +1,14 @@
-ghost use Rattle.std.specs.Prelude.{◌≡◌, ◌<◌, [], IfErr, IfOk, OnOk, length, map, option_map};
+ghost use Rattle.std.specs.Prelude.{◌≡◌, ◌<◌, ◌++◌, ◌∷◌, [], false, IfErr, IfOk, OnOk, length, map, option_map};
 ghost use Rattle.vl_ast.specs.Conditions.{BreaksNone};
 ghost use Rattle.vl_ast.specs.Driven.{output_ports};
 ghost use Rattle.vl_check.specs.Cause.{IsCause};
 ghost use Rattle.vl_check.specs.Ordering.{IsOrdering};
 ghost use Rattle.vl_check.specs.Scope.{IsScopeOf, names_in};
 ghost use Rattle.vl_eval.specs.Given.{driven_ports};
+ghost use Rattle.vl_eval.specs.inner.Shown.{IfFine};
 ghost use Rattle.vl_eval.specs.inner.Planned.{AreCaptured, AreNumbers, AreOperations, AreWired, IsChecked, IsPlan, IsPlanOf, assignment_at, output_of, slot_of_port, the_assignment};
 
+use crate::adding::Additions;
 use crate::arranging::{Arranged, arrange};
 use crate::assigning::{build_assigned, build_next};
 use crate::code::{Code, constants};
@@ -39,12 +41,9 @@ pub struct Output {
 #[derive(Drop)]
 pub struct Plan {
     pub base: usize,
-    pub ops: Code,
-    /// How many constants stand first among them.
+    pub arranged: Arranged,
+    /// How many constants stand first among the operations.
     pub constants: usize,
-    /// By the number of each name in the order of first places.
-    pub slots: Vec<usize>,
-    pub captures: Vec<Capture>,
     /// The places of the input ports but `clk`.
     pub inputs: Vec<usize>,
     pub outputs: Vec<Output>,
@@ -94,19 +93,19 @@ fn assignment_of<'a>(
 /// Adds the operations of the assignments, each behind those whose names it reads, and notes where the
 /// names then have their values.
 fn wires(
-    ops: &mut Code,
+    ops: &mut Additions,
     slots: &mut Vec<usize>,
     scope: &Scope<'_>,
     source: &Module,
     order: &[usize],
     places: &[Option<usize>],
-) -> Result<(), OutOfMemory>
+)
     requires sound { BreaksNone source.now }
     requires scope { IsScopeOf source.now scope.now }
     requires order { IsOrdering source.now scope.now order.now places.now }
     requires numbers { AreNumbers (length (names_in scope.now)) slots.old.items }
-    requires none { ops.old ≡ [] }
-    ensures { OnOk result (AreWired source.now scope.now slots.new.items ops.new) }
+    requires none { ops.old.code ≡ [] }
+    ensures { IfFine ops.old ops.new (AreWired source.now scope.now slots.new.items ops.new.code) }
 {
     meaning_by_layer();
     for number in order {
@@ -119,28 +118,33 @@ fn wires(
             slots: slots.as_slice(),
             base: scope.count(),
         };
-        let slot = build_assigned(ops, &site, value, width)?;
+        let slot = build_assigned(ops, &site, value, width);
         slots[*number] = slot;
     }
-    Ok(())
 }
 
-/// Adds the operations of what the registers take at an edge.
-fn captures(
-    alloc: Global,
-    ops: &mut Code,
-    site: &Site<'_, '_>,
-    source: &Module,
-) -> Result<Vec<Capture>, OutOfMemory>
+/// Puts what a register takes behind the others.
+fn put_capture(ops: &mut Additions, captures: &mut Vec<Capture>, capture: Capture)
+    ensures code { ops.new.code ≡ ops.old.code }
+    ensures put { IfFine ops.old ops.new (captures.new.items ≡ captures.old.items ++ capture ∷ []) }
+{
+    if let Err(_refused) = captures.push(capture) {
+        ops.wanting = true;
+    }
+}
+
+/// Adds the operations of what the registers take at an edge, and puts into an empty list what that is.
+fn captures(ops: &mut Additions, site: &Site<'_, '_>, source: &Module, captures: &mut Vec<Capture>)
     requires sound { BreaksNone source.now }
     requires scope { IsScopeOf source.now site.now.scope.now }
     requires base { site.now.base ≡ length (names_in site.now.scope.now) }
-    requires wired { AreWired source.now site.now.scope.now site.now.slots.now ops.old }
-    ensures { IfOk result (λ captures. AreCaptured source.now site.now.scope.now site.now.slots.now
-        source.now.items ops.old ops.new captures.items) }
+    requires wired { ops.old.wanting ≡ false → AreWired source.now site.now.scope.now
+        site.now.slots.now ops.old.code }
+    requires none { captures.old.items ≡ [] }
+    ensures { IfFine ops.old ops.new (AreCaptured source.now site.now.scope.now site.now.slots.now
+        source.now.items ops.old.code ops.new.code captures.new.items) }
 {
     meaning_by_layer();
-    let mut captures = Vec::new(alloc);
     for item in source.items.as_slice() {
         if let ModItem::Always {
             name,
@@ -149,36 +153,33 @@ fn captures(
             value,
         } = item
         {
-            let from = build_next(ops, site, name.bytes(), first, condition, value)?;
+            let from = build_next(ops, site, name.bytes(), first, condition, value);
             let to = slot(site, name.bytes());
-            captures.push(Capture { from, to })?;
+            put_capture(ops, captures, Capture { from, to });
         }
     }
-    Ok(captures)
 }
 
-/// The places of the input ports but `clk`, in order.
-fn inputs(alloc: Global, site: &Site<'_, '_>, source: &Module) -> Result<Vec<usize>, OutOfMemory>
-    ensures { IfOk result (λ places. places.items
+/// Puts the places of the input ports but `clk`, and where the output ports that carry numbers have
+/// their values, in order, into empty lists.
+fn put_ports(
+    site: &Site<'_, '_>,
+    source: &Module,
+    inputs: &mut Vec<usize>,
+    outputs: &mut Vec<Output>,
+) -> Result<(), OutOfMemory>
+    requires inputs { inputs.old.items ≡ [] }
+    requires outputs { outputs.old.items ≡ [] }
+    ensures inputs { OnOk result (inputs.new.items
         ≡ map (slot_of_port site.now.scope.now site.now.slots.now) (driven_ports source.now)) }
-{
-    let mut places = Vec::new(alloc);
-    for port in source.ports.as_slice() {
-        if is_driven_input(port) {
-            places.push(slot(site, port.name.bytes()))?;
-        }
-    }
-    Ok(places)
-}
-
-/// Where the output ports that carry numbers have their values, in order.
-fn outputs(alloc: Global, site: &Site<'_, '_>, source: &Module) -> Result<Vec<Output>, OutOfMemory>
-    ensures { IfOk result (λ outputs. outputs.items
+    ensures outputs { OnOk result (outputs.new.items
         ≡ map (output_of site.now.scope.now site.now.slots.now) (output_ports source.now)) }
 {
-    let mut outputs = Vec::new(alloc);
     let stalls = is_stallable(source);
     for port in source.ports.as_slice() {
+        if is_driven_input(port) {
+            inputs.push(slot(site, port.name.bytes()))?;
+        }
         if is_number_output(port, stalls) {
             outputs.push(Output {
                 slot: slot(site, port.name.bytes()),
@@ -187,7 +188,34 @@ fn outputs(alloc: Global, site: &Site<'_, '_>, source: &Module) -> Result<Vec<Ou
             })?;
         }
     }
-    Ok(outputs)
+    Ok(())
+}
+
+/// Puts the operations of the assignments and the registers of a module where there are none.
+fn fill(
+    source: &Module,
+    checked: &Checked<'_>,
+    ops: &mut Additions,
+    slots: &mut Vec<usize>,
+    captured: &mut Vec<Capture>,
+)
+    requires checked { IsChecked source.now checked.now }
+    requires ops { ops.old.code ≡ [] }
+    requires slots { AreNumbers (length (names_in checked.now.scope)) slots.old.items }
+    requires captures { captured.old.items ≡ [] }
+    ensures { IfFine ops.old ops.new (AreOperations source.now checked.now.scope
+        (record { ops = ops.new.code; slots = slots.new; captures = captured.new })) }
+{
+    let scope = &checked.scope;
+    let order = checked.order.as_slice();
+    let places = checked.places.as_slice();
+    wires(ops, slots, scope, source, order, places);
+    let site = Site {
+        scope,
+        slots: slots.as_slice(),
+        base: scope.count(),
+    };
+    captures(ops, &site, source, captured);
 }
 
 /// The operations of the assignments and the registers of a module, by level and kind.
@@ -200,20 +228,26 @@ fn arranged_in(
     ensures { IfOk result (AreOperations source.now checked.now.scope) }
 {
     meaning_by_layer();
-    let scope = &checked.scope;
-    let base = scope.count();
+    let base = checked.scope.count();
     let mut slots = numbers(alloc, base)?;
-    let mut ops = Code::new(alloc);
-    let order = checked.order.as_slice();
-    let places = checked.places.as_slice();
-    wires(&mut ops, &mut slots, scope, source, order, places)?;
-    let site = Site {
-        scope,
-        slots: slots.as_slice(),
-        base,
+    let mut additions = Additions {
+        code: Code::new(alloc),
+        wanting: false,
     };
-    let taken = captures(alloc, &mut ops, &site, source)?;
-    arrange(alloc, base, ops, slots, taken)
+    let mut captures = Vec::new(alloc);
+    fill(source, checked, &mut additions, &mut slots, &mut captures);
+    let Additions { code, wanting } = additions;
+    let built = Arranged {
+        ops: code,
+        slots,
+        captures,
+    };
+    if wanting {
+        drop(built);
+        // allocation: that of the operation or the list at which it first failed
+        return Err(OutOfMemory);
+    }
+    arrange(alloc, base, built)
 }
 
 /// The operations of a module that breaks no condition.
@@ -222,28 +256,27 @@ fn plan_in(alloc: Global, source: &Module, checked: &Checked<'_>) -> Result<Plan
     ensures { IfOk result (IsPlan source.now checked.now.scope) }
 {
     let base = checked.scope.count();
-    let Arranged {
-        ops,
-        slots,
-        captures,
-    } = arranged_in(alloc, source, checked)?;
+    let arranged = arranged_in(alloc, source, checked)?;
+    let constants = constants(&arranged.ops);
+    let mut plan = Plan {
+        base,
+        arranged,
+        constants,
+        inputs: Vec::new(alloc),
+        outputs: Vec::new(alloc),
+    };
     let site = Site {
         scope: &checked.scope,
-        slots: slots.as_slice(),
+        slots: plan.arranged.slots.as_slice(),
         base,
     };
-    let constants = constants(&ops);
-    let inputs = inputs(alloc, &site, source)?;
-    let outputs = outputs(alloc, &site, source)?;
-    Ok(Plan {
-        base,
-        ops,
-        constants,
-        slots,
-        captures,
-        inputs,
-        outputs,
-    })
+    match put_ports(&site, source, &mut plan.inputs, &mut plan.outputs) {
+        Ok(()) => Ok(plan),
+        Err(wanting) => {
+            drop(plan);
+            Err(wanting)
+        }
+    }
 }
 
 /// Tries the six conditions, and works out the operations of a module that breaks none.
@@ -252,6 +285,14 @@ pub fn plan_of(alloc: Global, source: &Module) -> Result<Plan, VlFault>
     ensures fault { IfErr result (IsCause source.now) }
 {
     let checked = check(alloc, source)?;
-    let plan = plan_in(alloc, source, &checked)?;
-    Ok(plan)
+    match plan_in(alloc, source, &checked) {
+        Ok(plan) => {
+            drop(checked);
+            Ok(plan)
+        }
+        Err(wanting) => {
+            drop(checked);
+            Err(wanting.into())
+        }
+    }
 }

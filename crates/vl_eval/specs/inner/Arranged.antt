@@ -83,15 +83,12 @@ op_at base places ops entry =
     renamed (moved base places) (slice_index_or ops (number_of entry) (Constant 0))
 
 -- the same operations in another order, and the places of names and captures in it
-pub record IsArranged (base : ℕ) (ops : List Op) (slots : List ℕ) (captures : List Capture)
-    (arranged : Arranged) : Type 0 where
+pub record IsArranged (base : ℕ) (built arranged : Arranged) : Type 0 where
   pub move : ℕ → ℕ
   pub fixed : (k : ℕ) → k < base → move k ≡ k
-  pub within : (k : ℕ) → base ≤ k → k < base + length ops → (base ≤ move k)
-      × (move k < base + length ops)
-  pub long : length arranged.ops ≡ length ops
+  pub within : (k : ℕ) → base ≤ k → k < base + length built.ops → (base ≤ move k) × (move k < base + length built.ops)
+  pub long : length arranged.ops ≡ length built.ops
   pub ordered : IsOrdered base arranged.ops
-  pub settled : (values : ℕ → ℕ) → IsSettled base arranged.ops values
-      → IsSettled base ops (λ place. values (move place))
-  pub slots_are : arranged.slots.items ≡ map move slots
-  pub captures_are : arranged.captures.items ≡ map (moved_capture move) captures
+  pub settled : (values : ℕ → ℕ) → IsSettled base arranged.ops values → IsSettled base built.ops (λ place. values (move place))
+  pub slots_are : arranged.slots.items ≡ map move built.slots.items
+  pub captures_are : arranged.captures.items ≡ map (moved_capture move) built.captures.items

@@ -1,9 +1,10 @@
 -- What a place shows of an expression, and how operations are added for it.
-use Rattle.std.specs.Prelude.{◌≡◌, ℕ, ◌+◌, ◌<◌, ◌^◌, Bool, List, ◌++◌, ◌∷◌, [], ◌-◌, ◌⊎◌, length, Contains}
+use Rattle.std.specs.Prelude.{◌≡◌, ℕ, ◌+◌, ◌<◌, ◌^◌, Bool, false, List, ◌++◌, ◌∷◌, [], ◌-◌, ◌⊎◌, length, Contains}
 use Rattle.vl_ast.specs.declared.expressions.Expr.{Expr}
 use Rattle.vl_ast.specs.Context.{Net}
 use Rattle.vl_ast.specs.Nets.{names_read}
 use Rattle.vl_ast.specs.Value.{value_in}
+use Rattle.vl_eval.specs.declared.adding.Additions.{Additions}
 use Rattle.vl_eval.specs.declared.ops.Op.{Op}
 use Rattle.vl_eval.specs.declared.ops.Op.TheVariants.{One, Beside}
 use Rattle.vl_eval.specs.declared.ops.OneOp.TheVariants.{Extended}
@@ -30,6 +31,10 @@ pub record Grows (base : ℕ) (before after : List Op) : Type 0 where
   pub more : List Op
   pub grown : after ≡ before ++ more
   pub ordered : IsOrdered base before → IsOrdered base after
+
+-- this was done, and nothing was wanting before, unless something was wanting
+abbrev pub IfFine : Additions → Additions → Type 0 → Type 0
+IfFine before after Done = after.wanting ≡ false → (before.wanting ≡ false) × Done
 
 -- one operation was added, at this place
 pub record Pushed (base : ℕ) (before after : List Op) (slot : ℕ) (op : Op) : Type 0 where

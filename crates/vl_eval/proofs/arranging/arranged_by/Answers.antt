@@ -12,7 +12,7 @@ rises c = IsNonDecreasingBy-from_sort (λ x. x) c.sort_unstable.new.self.items c
 
 pub places_of-requires-clause-numbers : goal.places_of-requires-clause-numbers
 places_of-requires-clause-numbers c =
-    let ops = c.args.ops.now in
+    let ops = c.args.built.now.ops in
     let few = c.requires.few in
     let all = c.in_ok-entries.ensures in
     let sorted = c.sort_unstable.new.self.items in
@@ -24,16 +24,16 @@ places_of-requires-clause-numbers c =
 
 pub in_order-requires : goal.in_order-requires
 in_order-requires c =
-    let ops = c.args.ops.now in
+    let ops = c.args.built.now.ops in
     let sorted = c.sort_unstable.new.self.items in
     let rising = rises (goal.at.in_order-requires c).After-sort_unstable in
-    subst (λ xs. (i : ℕ) → i < length xs → number_of (slice_index xs i) < length ops) (sym c.as_slice-4.ensures.value)
+    subst (λ xs. (i : ℕ) → i < length xs → number_of (slice_index xs i) < length ops) (sym c.as_slice-6.ensures.value)
     (numbers-low c.args.base ops c.in_ok-entries.entries.items sorted sorted c.requires.few c.requires.ordered c.in_ok-entries.ensures c.sort_unstable.ensures.permutation rising)
 
 pub returns : goal.returns
 returns c =
     let base = c.args.base in
-    let ops = c.args.ops.now in
+    let ops = c.args.built.now.ops in
     let few = c.requires.few in
     let entries = c.in_ok-entries.entries.items in
     let all = c.in_ok-entries.ensures in
@@ -43,7 +43,7 @@ returns c =
     let places = c.in_ok-places.places.items in
     let there = subst (λ xs. ArePlaces base xs (length xs) places) c.as_slice.ensures.value c.in_ok-places.ensures in
     let is : c.in_ok-ops.ops ≡ map (op_at base places ops) sorted =
-    c.in_ok-ops.ensures ∙ (λ i. map (op_at base (c.as_slice-5.ensures.value i) ops) (c.as_slice-4.ensures.value i)) in
+    c.in_ok-ops.ensures ∙ (λ i. map (op_at base (c.as_slice-7.ensures.value i) ops) (c.as_slice-6.ensures.value i)) in
     record {
       move = moved base places;
       fixed = moved-fixed base places;
@@ -51,6 +51,6 @@ returns c =
       long = ap length is ∙ arranged-long base ops entries sorted places few c.requires.ordered all same rising there;
       ordered = subst (λ os. IsOrdered base os) (sym is) (arranged-ordered base ops entries sorted places few c.requires.ordered all same rising there);
       settled = λ values s. arranged-settled base ops entries sorted places few c.requires.ordered all same rising there values (subst (λ os. IsSettled base os values) is s);
-      slots_are = c.in_ok-slots.ensures ∙ (λ i. map (moved base (c.as_slice-2.ensures.value i)) c.args.slots.now);
-      captures_are = c.in_ok-captures.ensures ∙ (λ i. map (moved_capture (moved base (c.as_slice-3.ensures.value i))) c.args.captures.now);
+      slots_are = c.in_ok-slots.ensures ∙ (λ i. map (moved base (c.as_slice-3.ensures.value i)) (c.as_slice-2.ensures.value i));
+      captures_are = c.in_ok-captures.ensures ∙ (λ i. map (moved_capture (moved base (c.as_slice-5.ensures.value i))) (c.as_slice-4.ensures.value i));
     }

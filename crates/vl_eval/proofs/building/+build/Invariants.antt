@@ -1,18 +1,23 @@
-use Rattle.std.proofs.Common.{◌+◌, ◌*◌, max, take}
+use Rattle.std.proofs.Common.{◌≡◌, ◌+◌, ◌*◌, map, max, sum, take}
 use Rattle.vl_ast.specs.declared.expressions.Expr.TheViews.{size-Expr}
 use Rattle.vl_ast.proofs.Agree.{ByLayer}
-use Rattle.vl_eval.specs.inner.Shown.{Grows}
+use Rattle.vl_ast.specs.Context.{own_length}
+use Rattle.vl_check.specs.Scope.{nets_in}
+use Rattle.vl_eval.specs.inner.Shown.{Grows, IfFine}
 use Rattle.vl_eval.proofs.SideBySide.{Copied, Joined}
 use Rattle.vl_eval.proofs.building.+build.Given as goal
 
 abbrev pub invariant-build_parts-loop-part : goal.invariant-build_parts-loop-part
-invariant-build_parts-loop-part l =
-    (b : ByLayer) → Joined b l.site.base l.site.scope.now l.site.slots.now l.fn.ops l.ops l.joined l.length (take l.part-index l.parts) l.parts
+invariant-build_parts-loop-part l = record {
+  long : l.length ≡ sum (map (own_length (nets_in l.site.scope.now)) (take l.part-index l.parts));
+  joined : IfFine l.fn.ops l.ops ((b : ByLayer) → Joined b l.site.base l.site.scope.now l.site.slots.now l.fn.ops.code l.ops.code l.joined l.length (take l.part-index l.parts) l.parts);
+}
 
 abbrev pub invariant-build_copies-loop-copy : goal.invariant-build_copies-loop-copy
 invariant-build_copies-loop-copy l = record {
-  later : Grows l.site.base l.initial.ops l.ops;
-  copied : (b : ByLayer) → Copied b l.site.base l.site.scope.now l.site.slots.now l.fn.ops l.ops l.joined l.length l._copy l.part;
+  long : l.length ≡ l._copy * own_length (nets_in l.site.scope.now) l.part;
+  later : IfFine l.initial.ops l.ops (Grows l.site.base l.initial.ops.code l.ops.code);
+  copied : IfFine l.fn.ops l.ops ((b : ByLayer) → Copied b l.site.base l.site.scope.now l.site.slots.now l.fn.ops.code l.ops.code l.joined l.length l._copy l.part);
 }
 
 abbrev pub decreases-build : goal.decreases-build

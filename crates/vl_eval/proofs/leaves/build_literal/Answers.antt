@@ -1,6 +1,5 @@
 use Rattle.std.proofs.Common.{arith}
 use Rattle.vl_check.specs.Scope.{nets_in}
-use Rattle.std.proofs.lemmas.Result.{IfOk-weaker}
 use Rattle.vl_eval.proofs.Operands.{length-literal, sound-literal}
 use Rattle.vl_eval.proofs.Builds.{built-literal}
 use Rattle.vl_eval.proofs.leaves.build_literal.Goals as goal
@@ -15,7 +14,10 @@ pub literal-bits-requires-clause-most : goal.literal-bits-requires-clause-most
 literal-bits-requires-clause-most c = c.requires.most
 
 pub returns : goal.returns
-returns c =
+returns c = λ fine.
     let site = c.args.site.now in
-    IfOk-weaker c.push.result _ _ (λ slot p. built-literal c.requires.by_layer site.base site.scope.now site.slots.now c.args.number.now c.args.ops.now c.push.new.ops c.literal-bits.result slot c.args.context.length c.args.context.signed
-    c.literal-bits.ensures p) c.push.ensures
+    let p = c.push.ensures fine in (
+      p.0,
+      built-literal c.requires.by_layer site.base site.scope.now site.slots.now c.args.number.now c.args.ops.now.code c.push.new.ops.code c.literal-bits.result c.push.result c.args.context.length c.args.context.signed
+          c.literal-bits.ensures p.1,
+    )

@@ -7,7 +7,7 @@ use Rattle.vl_eval.proofs.Swept.{settled-none}
 use Rattle.vl_eval.proofs.machine.first_values.Goals as goal
 
 pub sweep-requires-clause-begun : goal.sweep-requires-clause-begun
-sweep-requires-clause-begun c = settled-none c.args.plan.now.base c.args.plan.now.ops c.as_mut_slice.result.now
+sweep-requires-clause-begun c = settled-none c.args.plan.now.base c.args.plan.now.arranged.ops c.as_mut_slice.result.now
 
 pub returns : goal.returns
 returns c =
@@ -22,5 +22,5 @@ returns c =
       zeros = values.items;
       none = λ k. ap (λ (items : List ℕ). slice_index items k) zeros ∙ zero-at c.in-Some.room k;
       kept = subst (λ v. take plan.base v ≡ take plan.base values.items) (sym is) (c.sweep.ensures.kept ∙ ap (take plan.base) c.as_mut_slice.ensures.value);
-      settled = subst (λ v. IsSettled plan.base plan.ops (λ k. slice_index v k)) (sym is) c.sweep.ensures.settled;
+      settled = subst (λ v. IsSettled plan.base plan.arranged.ops (λ k. slice_index v k)) (sym is) c.sweep.ensures.settled;
     }

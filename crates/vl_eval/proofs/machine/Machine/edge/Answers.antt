@@ -38,9 +38,9 @@ put-requires-clause-apart c =
     (places-apart c.meaning_by_layer.ensures.value self.source of.sound of.scope of.scope_is self.plan of.plan_is)
 
 -- what was captured of the row, and what was put after it
-taken : (c : After-put) → IsTaken c.args.self.now.plan.captures.items c.args.self.now.values.items c.capture.new.values
+taken : (c : After-put) → IsTaken c.args.self.now.plan.arranged.captures.items c.args.self.now.values.items c.capture.new.values
 taken c =
-    subst (λ v. IsTaken c.args.self.now.plan.captures.items v c.capture.new.values) c.as_mut_slice-values.ensures.value
+    subst (λ v. IsTaken c.args.self.now.plan.arranged.captures.items v c.capture.new.values) c.as_mut_slice-values.ensures.value
     (subst (λ cs. IsTaken cs c.as_mut_slice-values.result.now c.capture.new.values) c.as_slice.ensures.value c.capture.ensures)
 
 put : (c : After-put) → IsPut c.args.self.now.plan.inputs.items c.args.inputs.now c.capture.new.values c.put.new.values
@@ -59,8 +59,8 @@ is c = with_items_is c.args.self.now.values c.sweep.new.values (long c ∙ sym c
 kept : (c : After-sweep) → take c.args.self.now.plan.base (swept c) ≡ take c.args.self.now.plan.base c.put.new.values
 kept c = subst (λ v. take c.args.self.now.plan.base v ≡ take c.args.self.now.plan.base c.put.new.values) (sym (is c)) c.sweep.ensures.kept
 
-settled : (c : After-sweep) → IsSettled c.args.self.now.plan.base c.args.self.now.plan.ops (λ k. slice_index (swept c) k)
-settled c = subst (λ v. IsSettled c.args.self.now.plan.base c.args.self.now.plan.ops (λ k. slice_index v k)) (sym (is c)) c.sweep.ensures.settled
+settled : (c : After-sweep) → IsSettled c.args.self.now.plan.base c.args.self.now.plan.arranged.ops (λ k. slice_index (swept c) k)
+settled c = subst (λ v. IsSettled c.args.self.now.plan.base c.args.self.now.plan.arranged.ops (λ k. slice_index v k)) (sym (is c)) c.sweep.ensures.settled
 
 pub sweep-requires-clause-begun : goal.sweep-requires-clause-begun
 sweep-requires-clause-begun c =
@@ -68,7 +68,7 @@ sweep-requires-clause-begun c =
     let self = c.args.self.now in
     let ready = c.requires.ready in
     let of = ready.plan_is in
-    constants-settled self.plan.base self.plan.constants self.plan.ops self.values.items c.put.new.values of.plan_is.constants ready.settled
+    constants-settled self.plan.base self.plan.constants self.plan.arranged.ops self.values.items c.put.new.values of.plan_is.constants ready.settled
     (ops-stay c.meaning_by_layer.ensures.value self.source of.sound of.scope of.scope_is self.plan of.plan_is self.values.items c.capture.new.values c.put.new.values c.args.inputs.now (taken point) (put point))
 
 pub returns-clause-row : goal.returns-clause-row
