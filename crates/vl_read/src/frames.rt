@@ -4,14 +4,15 @@ ghost use Rattle.vl_ast.specs.declared.expressions.Expr.TheViews.{out-Expr};
 ghost use Rattle.vl_read.specs.declared.places.Frame.TheVariants.{InConcat, InChosen};
 ghost use Rattle.vl_read.specs.declared.scan.Kind.TheVariants.{Fixed};
 ghost use Rattle.vl_read.specs.inner.Lexemes.{kind_of};
-ghost use Rattle.vl_read.specs.inner.Places.{Value, High, Low, Amount};
+ghost use Rattle.vl_read.specs.inner.Places.{Value, High, Amount};
 ghost use Rattle.vl_read.specs.inner.Plain.{expect_spot, left_step, frame_step, goal_step, spot_step, indexed, name_of};
-ghost use Rattle.vl_read.specs.inner.Seen.{seen, goal_of, goal_in, frames_of, spot_of, spot_seen};
-ghost use Rattle.vl_read.specs.inner.Turns.{stepped};
+ghost use Rattle.vl_read.specs.inner.Seen.{goal_of, goal_in, frames_of, next_of, spot_of, spot_seen};
 
 use crate::numbers::{constant_of, count_of, kind_of};
+use crate::operands::expected_spot;
 use crate::pieces::{Wrap, binary, bit, choose, concat, innermost, part, wrapped};
 use crate::places::{Bracket, Frame, Goal, Place, Reader, Spot, Stepped};
+use crate::reader::expected;
 use crate::scan::is;
 use fx_io::{Boxed, OutOfMemory};
 use vl_ast::{BinOp, Expr, Exprs, ModItem, ShiftOp};
@@ -20,7 +21,7 @@ impl Reader {
     /// An operator after the first operand of what is in parentheses.
     #[tactic(auto, unfolding(crate::specs::inner::Plain::left_step))]
     fn left_step(&mut self, value: Expr, lexeme: &[u8]) -> Stepped
-        ensures { IfOk result (λ said. stepped said (seen self.new)
+        ensures { IfOk result (λ next. next_of self.new next
             ≡ left_step self.old.draft (goal_in self.old)
             (frames_of self.old) value lexeme.now) }
     {
@@ -36,11 +37,11 @@ impl Reader {
             None => match ShiftOp::of_text(lexeme) {
                 Some(op) => {
                     self.hold(value);
-                    Ok(self.spot(Spot::Amount(op)))
+                    Ok(Some(Place::Expression(Spot::Amount(op))))
                 }
                 None => {
                     drop(value);
-                    Ok(false)
+                    Ok(None)
                 }
             },
         }
@@ -49,7 +50,7 @@ impl Reader {
     /// After an operand in a concatenation.
     #[tactic(auto, unfolding(crate::specs::inner::Plain::frame_step))]
     fn concat_step(&mut self, mut parts: Exprs, value: Expr, lexeme: &[u8]) -> Stepped
-        ensures { IfOk result (λ said. stepped said (seen self.new)
+        ensures { IfOk result (λ next. next_of self.new next
             ≡ frame_step self.old.draft (goal_in self.old) (frames_of self.old)
             (InConcat parts) value lexeme.now) }
     {
@@ -58,19 +59,19 @@ impl Reader {
             return self.inside(Frame::InConcat(parts), Spot::Operand);
         }
         self.hold(concat(parts));
-        Ok(self.expect_spot(b'}', lexeme, Spot::Value))
+        Ok(expected_spot(b'}', lexeme, Spot::Value))
     }
 
     /// After the second operand of a choice.
     #[tactic(auto, unfolding(crate::specs::inner::Plain::frame_step))]
     fn chosen_step(&mut self, test: Boxed<Expr>, value: Expr, lexeme: &[u8]) -> Stepped
-        ensures { IfOk result (λ said. stepped said (seen self.new)
+        ensures { IfOk result (λ next. next_of self.new next
             ≡ frame_step self.old.draft (goal_in self.old) (frames_of self.old)
             (InChosen test) value lexeme.now) }
     {
         let chosen = Boxed::new(self.alloc, value)?;
         self.held.frames.push(Frame::InOther(test, chosen))?;
-        Ok(self.expect_spot(b':', lexeme, Spot::Operand))
+        Ok(expected_spot(b':', lexeme, Spot::Operand))
     }
 
     /// After the mark that ends what an operand was made of. What was made may have wanted memory.
@@ -82,18 +83,18 @@ impl Reader {
         spot: Spot,
     ) -> Stepped
         ensures { (value : Expr) → IfOk made (λ e. e ≡ value)
-            → IfOk result (λ said. stepped said (seen self.new)
+            → IfOk result (λ next. next_of self.new next
             ≡ expect_spot mark lexeme.now self.old.draft (goal_in self.old)
             (frames_of self.old) (spot_seen self.old.held.operand value spot)) }
     {
         self.hold(made?);
-        Ok(self.expect_spot(mark, lexeme, spot))
+        Ok(expected_spot(mark, lexeme, spot))
     }
 
     /// After an operand in a frame.
     #[tactic(auto, unfolding(crate::specs::inner::Plain::frame_step))]
     fn frame_step(&mut self, frame: Frame, value: Expr, lexeme: &[u8]) -> Stepped
-        ensures { IfOk result (λ said. stepped said (seen self.new)
+        ensures { IfOk result (λ next. next_of self.new next
             ≡ frame_step self.old.draft (goal_in self.old)
             (frames_of self.old) frame value lexeme.now) }
     {
@@ -127,7 +128,7 @@ impl Reader {
     /// After an expression that is in no other.
     #[tactic(auto, unfolding(crate::specs::inner::Plain::goal_step))]
     fn goal_step(&mut self, goal: Goal, lexeme: &[u8]) -> Stepped
-        ensures { IfOk result (λ said. stepped said (seen self.new)
+        ensures { IfOk result (λ next. next_of self.new next
             ≡ goal_step self.old.draft (goal_of self.old goal) self.old.held.value lexeme.now) }
     {
         match goal {
@@ -139,27 +140,27 @@ impl Reader {
             Goal::Condition => {
                 let condition = self.take_value();
                 self.hold_condition(Some(condition));
-                Ok(self.expect(")", lexeme, Place::Again))
+                Ok(expected(")", lexeme, Place::Again))
             }
-            Goal::Next => Ok(self.expect(";", lexeme, Place::End)),
+            Goal::Next => Ok(expected(";", lexeme, Place::End)),
         }
     }
 
     /// `[` after an operand.
     #[tactic(auto, unfolding(crate::specs::inner::Plain::spot_step))]
-    fn index_step(&mut self, value: Expr) -> bool
-        ensures { stepped result (seen self.new)
+    fn index_step(&mut self, value: Expr) -> Option<Place>
+        ensures { next_of self.new result
             ≡ indexed self.old.draft (goal_in self.old) (frames_of self.old)
             (name_of (out-Expr value)) }
     {
         match value {
             Expr::Name(name) => {
                 self.held.operand = name;
-                self.spot(Spot::Index)
+                Some(Place::Expression(Spot::Index))
             }
             other => {
                 drop(other);
-                false
+                None
             }
         }
     }
@@ -167,7 +168,7 @@ impl Reader {
     /// After an operand.
     #[tactic(auto, unfolding(crate::specs::inner::Plain::spot_step))]
     fn value_step(&mut self, lexeme: &[u8]) -> Stepped
-        ensures { IfOk result (λ said. stepped said (seen self.new)
+        ensures { IfOk result (λ next. next_of self.new next
             ≡ spot_step self.old.draft (goal_in self.old) (frames_of self.old)
             (Value self.old.held.value) Fixed lexeme.now) }
     {
@@ -186,50 +187,33 @@ impl Reader {
 
     /// After a name, `[` and a number.
     #[tactic(auto, unfolding(crate::specs::inner::Plain::spot_step))]
-    fn high_step(&mut self, place: u32, lexeme: &[u8]) -> bool
-        ensures { stepped result (seen self.new)
+    fn high_step(&mut self, place: u32, lexeme: &[u8]) -> Option<Place>
+        ensures { next_of self.new result
             ≡ spot_step self.old.draft (goal_in self.old) (frames_of self.old)
             (High self.old.held.operand place) Fixed lexeme.now }
     {
         if is(lexeme, "]") {
             let name = self.take_operand();
             self.hold(bit(name, place));
-            self.spot(Spot::Value)
+            Some(Place::Expression(Spot::Value))
         } else {
-            self.expect_spot(b':', lexeme, Spot::Low(place))
+            expected_spot(b':', lexeme, Spot::Low(place))
         }
     }
 
     /// The amount of a shift.
     #[tactic(auto, unfolding(crate::specs::inner::Plain::spot_step))]
     fn amount_step(&mut self, op: ShiftOp, lexeme: &[u8]) -> Stepped
-        ensures { IfOk result (λ said. stepped said (seen self.new)
+        ensures { IfOk result (λ next. next_of self.new next
             ≡ spot_step self.old.draft (goal_in self.old) (frames_of self.old)
             (Amount op self.old.held.value) (kind_of lexeme.now) lexeme.now) }
     {
         match constant_of(lexeme) {
-            None => Ok(false),
+            None => Ok(None),
             Some(amount) => {
                 let value = self.take_value();
                 self.hold(wrapped(self.alloc, Wrap::Shift(op, amount), value)?);
-                Ok(self.spot(Spot::Ends(Bracket::CloseParenthesis)))
-            }
-        }
-    }
-
-    /// The lower bound of a part.
-    #[tactic(auto, unfolding(crate::specs::inner::Plain::spot_step))]
-    fn low_step(&mut self, high: u32, lexeme: &[u8]) -> bool
-        ensures { stepped result (seen self.new)
-            ≡ spot_step self.old.draft (goal_in self.old) (frames_of self.old)
-            (Low self.old.held.operand high) (kind_of lexeme.now) lexeme.now }
-    {
-        match count_of(lexeme) {
-            None => false,
-            Some(low) => {
-                let name = self.take_operand();
-                self.hold(part(name, high, low));
-                self.spot(Spot::Ends(Bracket::CloseBracket))
+                Ok(Some(Place::Expression(Spot::Ends(Bracket::CloseParenthesis))))
             }
         }
     }
@@ -237,7 +221,7 @@ impl Reader {
     /// The next lexeme in an expression (IEEE 1364-2005, clause 5).
     #[tactic(auto, unfolding(crate::specs::inner::Plain::spot_step))]
     pub fn spot_step(&mut self, spot: Spot, lexeme: &[u8]) -> Stepped
-        ensures { IfOk result (λ said. stepped said (seen self.new)
+        ensures { IfOk result (λ next. next_of self.new next
             ≡ spot_step self.old.draft (goal_in self.old) (frames_of self.old)
             (spot_of self.old spot) (kind_of lexeme.now) lexeme.now) }
     {
@@ -245,16 +229,23 @@ impl Reader {
             Spot::Operand => self.operand_step(kind_of(lexeme), lexeme),
             Spot::Opened => self.opened_step(kind_of(lexeme), lexeme),
             Spot::Braced => self.braced_step(kind_of(lexeme), lexeme),
-            Spot::Begins(mark) => Ok(self.expect_spot(mark.byte(), lexeme, Spot::Operand)),
+            Spot::Begins(mark) => Ok(expected_spot(mark.byte(), lexeme, Spot::Operand)),
             Spot::Value => self.value_step(lexeme),
-            Spot::Ends(mark) => Ok(self.expect_spot(mark.byte(), lexeme, Spot::Value)),
+            Spot::Ends(mark) => Ok(expected_spot(mark.byte(), lexeme, Spot::Value)),
             Spot::Amount(op) => self.amount_step(op, lexeme),
             Spot::Index => match count_of(lexeme) {
-                None => Ok(false),
-                Some(place) => Ok(self.spot(Spot::High(place))),
+                None => Ok(None),
+                Some(place) => Ok(Some(Place::Expression(Spot::High(place)))),
             },
             Spot::High(place) => Ok(self.high_step(place, lexeme)),
-            Spot::Low(high) => Ok(self.low_step(high, lexeme)),
+            Spot::Low(high) => match count_of(lexeme) {
+                None => Ok(None),
+                Some(low) => {
+                    let name = self.take_operand();
+                    self.hold(part(name, high, low));
+                    Ok(Some(Place::Expression(Spot::Ends(Bracket::CloseBracket))))
+                }
+            },
         }
     }
 }

@@ -265,8 +265,8 @@ pub enum Place {
     Done,
 }
 
-/// Whether a module goes on so, where no memory was wanting.
-pub type Stepped = Result<bool, OutOfMemory>;
+/// Where a module goes on, if it does so, where no memory was wanting.
+pub type Stepped = Result<Option<Place>, OutOfMemory>;
 
 /// The module so far.
 #[derive(Drop)]

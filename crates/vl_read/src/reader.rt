@@ -1,8 +1,9 @@
 ghost use Rattle.std.specs.Prelude.{◌≡◌, false, [], ◌∷◌, ◌++◌, IfOk};
 ghost use Rattle.vl_read.specs.inner.Places.{Items};
-ghost use Rattle.vl_read.specs.inner.Plain.{expect, start, finish, goes};
-ghost use Rattle.vl_read.specs.inner.Seen.{seen, place_seen, nothing};
-ghost use Rattle.vl_read.specs.inner.Turns.{stepped};
+ghost use Rattle.vl_read.specs.declared.places.Draft.{Draft};
+ghost use Rattle.vl_read.specs.declared.places.Held.{Held};
+ghost use Rattle.vl_read.specs.inner.Plain.{expect, start, finish};
+ghost use Rattle.vl_read.specs.inner.Seen.{seen, place_seen, next_of, next_seen, nothing};
 
 use crate::places::{Draft, Goal, Held, Place, Reader, Stepped};
 use crate::scan::is;
@@ -20,6 +21,14 @@ fn unread() -> Sized
         signed: false,
         bits: Bits128::new(0),
     }
+}
+
+/// The place, if the lexeme is this word.
+pub fn expected(word: &str, lexeme: &[u8], place: Place) -> Option<Place>
+    ensures { (draft : Draft) (held : Held) → next_seen draft held result
+        ≡ expect word.now lexeme.now draft (place_seen held place) }
+{
+    if is(lexeme, word) { Some(place) } else { None }
 }
 
 impl Draft {
@@ -95,26 +104,6 @@ impl Reader {
         }
     }
 
-    /// The reading goes on at a place.
-    pub fn goes(&mut self, place: Place) -> bool
-        ensures { stepped result (seen self.new)
-            ≡ goes self.old.draft (place_seen self.old.held place) }
-    {
-        self.place = place;
-        true
-    }
-
-    /// The reading goes on at a place, if the lexeme is this word.
-    pub fn expect(&mut self, word: &str, lexeme: &[u8], place: Place) -> bool
-        ensures { stepped result (seen self.new)
-            ≡ expect word.now lexeme.now self.old.draft (place_seen self.old.held place) }
-    {
-        if !is(lexeme, word) {
-            return false;
-        }
-        self.goes(place)
-    }
-
     /// Hands out the name that is held.
     pub fn take_name(&mut self) -> Text
         ensures name { result ≡ self.old.held.name }
@@ -168,13 +157,13 @@ impl Reader {
 
     /// One more item, if the lexeme is this word.
     pub fn with_item(&mut self, word: &str, lexeme: &[u8], item: ModItem) -> Stepped
-        ensures { IfOk result (λ said. stepped said (seen self.new)
+        ensures { IfOk result (λ next. next_of self.new next
             ≡ expect word.now lexeme.now (record self.old.draft {
               items = self.old.draft.items
                   ++ item ∷ [];
             }) Items) }
     {
         self.draft.items.push(item)?;
-        Ok(self.expect(word, lexeme, Place::Items))
+        Ok(expected(word, lexeme, Place::Items))
     }
 }

@@ -1,5 +1,5 @@
 -- What the reader's place and registers stand for in the plain reading (own).
-use Rattle.std.specs.Prelude.{ℕ, false, List, Option}
+use Rattle.std.specs.Prelude.{ℕ, false, List, Option, Some, None}
 use Rattle.vl_ast.specs.declared.expressions.Expr.{Expr}
 use Rattle.vl_ast.specs.declared.expressions.Sized.{Sized}
 use Rattle.vl_ast.specs.declared.expressions.Expr.TheOpen.{Expr-F}
@@ -17,6 +17,7 @@ use Rattle.vl_read.specs.declared.places.AttrSpot.TheVariants.{AttrName, AttrSig
 use Rattle.vl_read.specs.declared.places.Place.{Place}
 use Rattle.vl_read.specs.declared.places.Place.TheVariants.{Start, Attributes, Title, Ports, Port as PortPlace, Net, AfterPort, AfterPorts, Items, AssignName, AssignSign, Head, ClockedName, ClockedSign, First, AfterFirst, Else, Branch, If, Again, NextSign, Expression, AfterNet, End, Done}
 use Rattle.vl_read.specs.declared.places.Frame.{Frame}
+use Rattle.vl_read.specs.declared.places.Draft.{Draft}
 use Rattle.vl_read.specs.declared.places.Held.{Held}
 use Rattle.vl_read.specs.declared.places.Reader.{Reader}
 use Rattle.vl_read.specs.inner.Places as plain
@@ -95,6 +96,15 @@ place_seen held Done = plain.Done
 -- the state of the plain reading that the reader is in
 abbrev pub seen : Reader → plain.Parser
 seen reader = record { draft = reader.draft; place = place_seen reader.held reader.place }
+
+-- the state that is next, where the reading goes on at a place
+abbrev pub next_seen : Draft → Held → Option Place → Option plain.Parser
+next_seen draft held None = None
+next_seen draft held (Some place) = Some (record { draft = draft; place = place_seen held place })
+
+-- the same of what the reader holds
+abbrev pub next_of : Reader → Option Place → Option plain.Parser
+next_of reader next = next_seen reader.draft reader.held next
 
 -- what an expression is read for, as the reader holds it
 abbrev pub goal_of : Reader → Goal → plain.Goal

@@ -17,13 +17,13 @@ pub returns-then-is : goal.returns-then-is
 unfolding compound_step
 returns-then-is c =
     let frames = c.args.self.now.held.frames in
-    rw (room frames.items c.len.result (c.len.ensures ∙ frames.ok.0) c.if-len-ge-DEEPEST.false, sym c.is.ensures ∙ c.if-is.true) c.spot.ensures
+    rw (room frames.items c.len.result (c.len.ensures ∙ frames.ok.0) c.if-len-ge-DEEPEST.false, sym c.is.ensures ∙ c.if-is.true) refl
 
 pub returns-then-is-2 : goal.returns-then-is-2
 unfolding compound_step
 returns-then-is-2 c =
     let frames = c.args.self.now.held.frames in
-    rw (room frames.items c.len.result (c.len.ensures ∙ frames.ok.0) c.if-len-ge-DEEPEST.false, sym c.is.ensures ∙ c.if-is.false, sym c.is-else-is.ensures ∙ c.if-is-2.true) c.spot-then-is-2.ensures
+    rw (room frames.items c.len.result (c.len.ensures ∙ frames.ok.0) c.if-len-ge-DEEPEST.false, sym c.is.ensures ∙ c.if-is.false, sym c.is-else-is.ensures ∙ c.if-is-2.true) refl
 
 pub returns-then-is-3 : goal.returns-then-is-3
 unfolding compound_step

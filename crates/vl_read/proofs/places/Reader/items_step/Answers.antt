@@ -10,7 +10,7 @@ room items seen most is few = lt-ltb (length items) most (subst (λ (xs : List M
 
 pub returns-then-is : goal.returns-then-is
 unfolding step_at
-returns-then-is c = rw (sym c.is.ensures ∙ c.if-is.true) c.goes.ensures
+returns-then-is c = rw (sym c.is.ensures ∙ c.if-is.true) refl
 
 pub returns-then-as_slice-self : goal.returns-then-as_slice-self
 unfolding step_at
@@ -23,22 +23,22 @@ pub returns-then-is-2 : goal.returns-then-is-2
 unfolding step_at item_step
 returns-then-is-2 c =
     let draft = c.args.self.now.draft in
-    rw (sym c.is.ensures ∙ c.if-is.false, room draft.items c.as_slice.result.now draft.most c.as_slice.ensures c.if-as_slice-self.false, sym c.is-else-as_slice-self.ensures ∙ c.if-is-2.true) c.goes-then-is-2.ensures
+    rw (sym c.is.ensures ∙ c.if-is.false, room draft.items c.as_slice.result.now draft.most c.as_slice.ensures c.if-as_slice-self.false, sym c.is-else-as_slice-self.ensures ∙ c.if-is-2.true) refl
 
 pub returns-then-is-3 : goal.returns-then-is-3
 unfolding step_at item_step
 returns-then-is-3 c =
     let draft = c.args.self.now.draft in
-    rw (sym c.is.ensures ∙ c.if-is.false, room draft.items c.as_slice.result.now draft.most c.as_slice.ensures c.if-as_slice-self.false, sym c.is-else-as_slice-self.ensures ∙ c.if-is-2.false, sym c.is-else-is-2.ensures ∙ c.if-is-3.true) c.goes-then-is-3.ensures
+    rw (sym c.is.ensures ∙ c.if-is.false, room draft.items c.as_slice.result.now draft.most c.as_slice.ensures c.if-as_slice-self.false, sym c.is-else-as_slice-self.ensures ∙ c.if-is-2.false, sym c.is-else-is-2.ensures ∙ c.if-is-3.true) refl
 
 pub returns-then-is-4 : goal.returns-then-is-4
 unfolding step_at item_step
 returns-then-is-4 c =
     let draft = c.args.self.now.draft in
-    rw (sym c.is.ensures ∙ c.if-is.false, room draft.items c.as_slice.result.now draft.most c.as_slice.ensures c.if-as_slice-self.false, sym c.is-else-as_slice-self.ensures ∙ c.if-is-2.false, sym c.is-else-is-2.ensures ∙ c.if-is-3.false, sym c.is-else-is-3.ensures ∙ c.if-is-4.true) c.goes-then-is-4.ensures
+    rw (sym c.is.ensures ∙ c.if-is.false, room draft.items c.as_slice.result.now draft.most c.as_slice.ensures c.if-as_slice-self.false, sym c.is-else-as_slice-self.ensures ∙ c.if-is-2.false, sym c.is-else-is-2.ensures ∙ c.if-is-3.false, sym c.is-else-is-3.ensures ∙ c.if-is-4.true) refl
 
 pub returns-else-is-4 : goal.returns-else-is-4
 unfolding step_at item_step
 returns-else-is-4 c =
     let draft = c.args.self.now.draft in
-    rw (sym c.is.ensures ∙ c.if-is.false, room draft.items c.as_slice.result.now draft.most c.as_slice.ensures c.if-as_slice-self.false, sym c.is-else-as_slice-self.ensures ∙ c.if-is-2.false, sym c.is-else-is-2.ensures ∙ c.if-is-3.false, sym c.is-else-is-3.ensures ∙ c.if-is-4.false) c.expect.ensures
+    rw (sym c.is.ensures ∙ c.if-is.false, room draft.items c.as_slice.result.now draft.most c.as_slice.ensures c.if-as_slice-self.false, sym c.is-else-as_slice-self.ensures ∙ c.if-is-2.false, sym c.is-else-is-2.ensures ∙ c.if-is-3.false, sym c.is-else-is-3.ensures ∙ c.if-is-4.false) (c.expected.ensures c.args.self.now.draft c.args.self.now.held)

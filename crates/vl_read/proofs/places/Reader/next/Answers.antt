@@ -1,6 +1,6 @@
-use Rattle.std.proofs.Common.{sym}
+use Rattle.std.proofs.Common.{refl, sym, ◌∙◌}
 use Rattle.vl_read.specs.inner.Plain.{step, step_at}
-use Rattle.vl_read.proofs.places.Reader.step.Goals as goal
+use Rattle.vl_read.proofs.places.Reader.next.Goals as goal
 
 pub returns-in-Start : goal.returns-in-Start
 unfolding step step_at
@@ -32,7 +32,7 @@ returns-in-AfterPort c = rw c.in-AfterPort.is c.after_port.ensures
 
 pub returns-in-AfterPorts : goal.returns-in-AfterPorts
 unfolding step step_at
-returns-in-AfterPorts c = rw c.in-AfterPorts.is c.expect.ensures
+returns-in-AfterPorts c = rw c.in-AfterPorts.is (c.expected.ensures c.args.self.now.draft c.args.self.now.held)
 
 pub returns-in-Items : goal.returns-in-Items
 unfolding step step_at
@@ -48,7 +48,7 @@ returns-in-AssignSign c = rw c.in-AssignSign.is c.expression.ensures
 
 pub returns-in-Head : goal.returns-in-Head
 unfolding step step_at
-returns-in-Head c = rw (c.in-Head.is, sym c.word.ensures, sym (c.next.ensures c.args.self.now.held)) c.expect-in-Head.ensures
+returns-in-Head c = rw (c.in-Head.is, sym c.word.ensures, sym (c.next.ensures c.args.self.now.held)) (c.expected-in-Head.ensures c.args.self.now.draft c.args.self.now.held)
 
 pub returns-in-ClockedName : goal.returns-in-ClockedName
 unfolding step step_at
@@ -56,7 +56,7 @@ returns-in-ClockedName c = rw c.in-ClockedName.is c.name_step-in-ClockedName.ens
 
 pub returns-in-ClockedSign : goal.returns-in-ClockedSign
 unfolding step step_at
-returns-in-ClockedSign c = rw c.in-ClockedSign.is c.expect-in-ClockedSign.ensures
+returns-in-ClockedSign c = rw c.in-ClockedSign.is (c.expected-in-ClockedSign.ensures c.args.self.now.draft c.args.self.now.held)
 
 pub returns-in-First : goal.returns-in-First
 unfolding step step_at
@@ -64,11 +64,11 @@ returns-in-First c = rw c.in-First.is c.first_step.ensures
 
 pub returns-in-AfterFirst : goal.returns-in-AfterFirst
 unfolding step step_at
-returns-in-AfterFirst c = rw c.in-AfterFirst.is c.expect-in-AfterFirst.ensures
+returns-in-AfterFirst c = rw c.in-AfterFirst.is (c.expected-in-AfterFirst.ensures c.args.self.now.draft c.args.self.now.held)
 
 pub returns-in-Else : goal.returns-in-Else
 unfolding step step_at
-returns-in-Else c = rw c.in-Else.is c.expect-in-Else.ensures
+returns-in-Else c = rw c.in-Else.is (c.expected-in-Else.ensures c.args.self.now.draft c.args.self.now.held)
 
 pub returns-in-Branch : goal.returns-in-Branch
 unfolding step step_at
@@ -77,6 +77,14 @@ returns-in-Branch c = rw c.in-Branch.is c.branch_step.ensures
 pub returns-in-If : goal.returns-in-If
 unfolding step step_at
 returns-in-If c = rw c.in-If.is c.expression-in-If.ensures
+
+pub returns-then-is_name : goal.returns-then-is_name
+unfolding step step_at
+returns-then-is_name c = rw (c.in-Again.is, sym c.is_name.ensures ∙ c.if-is_name.true) c.again_step.ensures
+
+pub returns-else-is_name : goal.returns-else-is_name
+unfolding step step_at
+returns-else-is_name c = rw (c.in-Again.is, sym c.is_name.ensures ∙ c.if-is_name.false) refl
 
 pub returns-in-NextSign : goal.returns-in-NextSign
 unfolding step step_at
