@@ -4,7 +4,7 @@ ghost use Rattle.vl_check.specs.Scope.{number_at};
 ghost use Rattle.vl_check.specs.inner.Assigned.{IsNoted, places_after, reads_after};
 
 use crate::mentions::{Mentions, all_of, push_names};
-use crate::names::mentioned_name;
+use crate::names::{mentioned_name, put_at};
 use crate::scope::Scope;
 use fx_io::{OutOfMemory, Sequence, empty_rows};
 use std::alloc::Global;
@@ -48,16 +48,13 @@ fn note(
         ≡ places_after scope.now places.old.items at item.now) }
     ensures reads { OnOk result (reads.new.items ≡ reads_after scope.now reads.old.items item.now) }
 {
-    if let ModItem::Assign { name, value } = item {
-        let number = scope.number_or_count(name.bytes());
-        let read = numbers_read(alloc, scope, value)?;
-        if number < places.len() {
-            places[number] = Some(at);
-        }
-        if number < reads.len() {
-            reads[number] = read;
-        }
-    }
+    let ModItem::Assign { name, value } = item else {
+        return Ok(());
+    };
+    let number = scope.number_or_count(name.bytes());
+    let read = numbers_read(alloc, scope, value)?;
+    put_at(places, number, Some(at));
+    put_at(reads, number, read);
     Ok(())
 }
 

@@ -1,11 +1,11 @@
-ghost use Rattle.std.specs.Prelude.{◌≡◌, IfErr, IfOk};
+ghost use Rattle.std.specs.Prelude.{◌≡◌, IfErr, IfOk, MatchResult};
 ghost use Rattle.vl_ast.specs.declared.modules.Module.{Module};
 ghost use Rattle.vl_ast.specs.Conditions.{BreaksNone, IsFirstFault};
 ghost use Rattle.vl_ast.specs.Nets.{mentions};
 ghost use Rattle.vl_check.specs.Cause.{IsCause};
 ghost use Rattle.vl_check.specs.Ordering.{IsOrdering};
 ghost use Rattle.vl_check.specs.Scope.{IsScopeOf};
-ghost use Rattle.vl_check.specs.inner.Known.{IsKnown};
+ghost use Rattle.vl_check.specs.inner.Known.{IsKnown, IsSoundOrder};
 ghost use Rattle.vl_check.specs.inner.Mentioned.{shown};
 ghost use Rattle.vl_check.specs.inner.Rest.{IsFirstOfRest, fault_in};
 
@@ -105,10 +105,7 @@ fn order_of(
     known: &Known<'_>,
 ) -> Result<Found, VlFault>
     requires { IsKnown source.now text.now known.now.scope known.now.numbers.items }
-    ensures sound { IfOk result (λ found. BreaksNone source.now) }
-    ensures order { IfOk result (λ found.
-        IsOrdering source.now known.now.scope found.order.items found.places.items) }
-    ensures fault { IfErr result (IsCause source.now) }
+    ensures { MatchResult result (IsSoundOrder source.now known.now.scope) (IsCause source.now) }
 {
     let numbers = known.numbers.as_slice();
     if let Some(name) = first_undriven(alloc, text, numbers, known.scope.count())? {

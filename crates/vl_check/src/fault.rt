@@ -1,31 +1,45 @@
 use fx_io::{OutOfMemory, Text, Texts};
+use std::fmt::{self, Debug, Display, Formatter, Write};
 use thiserror::Error;
 
 /// The first condition on a module that is broken, with the name or the names that it shows (own).
-#[derive(Debug, Drop, Error)]
+#[derive(Drop, Error)]
 pub enum VlFault {
     /// A name is read or driven and isn't declared before, or needs a driver and has none.
-    #[error("undriven")]
     Undriven { name: Text },
     /// A name is declared or driven twice, or driven by what may not drive it.
-    #[error("doubly driven")]
     Doubly { name: Text },
     /// The assignments of these names read each other in a cycle, each the next, begun with the first
     /// in the text.
-    #[error("combinational loop")]
     CombLoop { names: Texts },
     /// A width isn't 1 to 128, or an item holds a faulty select, number, repetition or context.
-    #[error("too wide")]
     TooWide { name: Text },
     /// `clk` and `reset` aren't both unsigned inputs of one bit, or `clk` is read.
-    #[error("no reset")]
     NoReset { name: Text },
     /// The module or a port lacks an attribute in its range.
-    #[error("no attribute")]
     NoAttribute { name: Text },
     /// Memory is wanting.
-    #[error("out of memory")]
     OutOfMemory,
+}
+
+impl Display for VlFault {
+    fn fmt<W: Write>(&self, f: &mut Formatter<W>) -> fmt::Result {
+        f.write_str(match self {
+            VlFault::Undriven { .. } => "undriven",
+            VlFault::Doubly { .. } => "doubly driven",
+            VlFault::CombLoop { .. } => "combinational loop",
+            VlFault::TooWide { .. } => "too wide",
+            VlFault::NoReset { .. } => "no reset",
+            VlFault::NoAttribute { .. } => "no attribute",
+            VlFault::OutOfMemory => "out of memory",
+        })
+    }
+}
+
+impl Debug for VlFault {
+    fn fmt<W: Write>(&self, f: &mut Formatter<W>) -> fmt::Result {
+        Display::fmt(self, f)
+    }
 }
 
 impl From<OutOfMemory> for VlFault {

@@ -1,4 +1,4 @@
-ghost use Rattle.std.specs.Prelude.{◌≡◌, ◌++◌, ◌∷◌, [], IfOk, OnOk, map};
+ghost use Rattle.std.specs.Prelude.{◌≡◌, ◌++◌, ◌∷◌, [], IfOk, OnOk, map, slice_set};
 ghost use Rattle.vl_ast.specs.Conditions.{mentioned};
 ghost use Rattle.vl_check.specs.inner.Mentioned.{mention_of, shown, texts};
 ghost use Rattle.vl_check.specs.inner.Names.{HasPlaces, Numbered};
@@ -23,6 +23,15 @@ pub fn put<T: Drop>(items: &mut Vec<T>, item: T) -> Result<(), OutOfMemory>
 {
     items.push(item)?;
     Ok(())
+}
+
+/// Puts an item at a place, where there is one.
+pub fn put_at<T: Drop>(items: &mut Vec<T>, place: usize, item: T)
+    ensures { items.new.items ≡ slice_set items.old.items place item }
+{
+    if place < items.len() {
+        items[place] = item;
+    }
 }
 
 /// The name at a place. The `clk` and the `reset` of a clocked item stand under the first of them.

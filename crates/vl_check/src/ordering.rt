@@ -1,11 +1,9 @@
-ghost use Rattle.std.specs.Prelude.{◌≡◌, ◌<◌, IfErr, IfOk, ℕ, length, slice_index};
+ghost use Rattle.std.specs.Prelude.{◌≡◌, ◌<◌, IfOk, MatchResult, ℕ, length, slice_index};
 ghost use Rattle.vl_ast.specs.declared.modules.Module.{Module};
-ghost use Rattle.vl_ast.specs.Conditions.{IsAcyclic};
 ghost use Rattle.vl_ast.specs.Nets.{mentions};
 ghost use Rattle.vl_check.specs.Cause.{IsCause};
-ghost use Rattle.vl_check.specs.Ordering.{IsOrdering};
 ghost use Rattle.vl_check.specs.Scope.{IsScopeOf, names_in};
-ghost use Rattle.vl_check.specs.inner.Known.{IsOrderable};
+ghost use Rattle.vl_check.specs.inner.Known.{IsFound, IsOrderable};
 ghost use Rattle.vl_check.specs.inner.Looped.{AreMarked, AreNamed, IsBeginning, IsTurned, first_some, marked_at, marked_number};
 ghost use Rattle.vl_check.specs.inner.Mentioned.{mention_of, shown};
 
@@ -129,10 +127,7 @@ pub fn assignment_order(
     ghost of: { Module }
     requires of { of ≡ source.now }
     requires sound { IsOrderable of text.now scope.now }
-    ensures acyclic { IfOk result (λ found. IsAcyclic of) }
-    ensures order { IfOk result (λ found.
-        IsOrdering of scope.now found.order.items found.places.items) }
-    ensures fault { IfErr result (IsCause of) }
+    ensures { MatchResult result (IsFound of scope.now) (IsCause of) }
 {
     let Assigned { places, reads } = assignments_of(alloc, scope, source.items.as_slice())?;
     let sorted = sort(alloc, reads.as_slice());

@@ -1,10 +1,12 @@
 -- What is known of a module's names before its conditions are tried.
 use Rattle.std.specs.Prelude.{◌≡◌, ℕ, List, length, map, None}
 use Rattle.vl_ast.specs.declared.modules.Module.{Module}
-use Rattle.vl_ast.specs.Conditions.{doubly, mentioned, undriven}
+use Rattle.vl_ast.specs.Conditions.{BreaksNone, IsAcyclic, doubly, mentioned, undriven}
 use Rattle.vl_ast.specs.Nets.{mentions}
 use Rattle.vl_check.specs.declared.mentions.Mention.{Mention}
+use Rattle.vl_check.specs.declared.ordering.Found.{Found}
 use Rattle.vl_check.specs.declared.scope.Scope.{Scope}
+use Rattle.vl_check.specs.Ordering.{IsOrdering}
 use Rattle.vl_check.specs.Scope.{IsScopeOf}
 use Rattle.vl_check.specs.inner.Marks.{AreFirst, AreNumbered}
 use Rattle.vl_check.specs.inner.Mentioned.{shown}
@@ -23,3 +25,13 @@ pub record IsOrderable (m : Module) (text : List Mention) (names : Scope) : Type
   pub scope : IsScopeOf m names
   pub driven : undriven m ≡ None
   pub once : doubly m ≡ None
+
+-- an order of the assignments of a module, none of which are in a cycle
+pub record IsFound (m : Module) (names : Scope) (found : Found) : Type 0 where
+  pub acyclic : IsAcyclic m
+  pub order : IsOrdering m names found.order.items found.places.items
+
+-- and of a module that breaks no condition
+pub record IsSoundOrder (m : Module) (names : Scope) (found : Found) : Type 0 where
+  pub sound : BreaksNone m
+  pub order : IsOrdering m names found.order.items found.places.items

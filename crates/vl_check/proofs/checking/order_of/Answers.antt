@@ -8,12 +8,12 @@ use Rattle.vl_check.proofs.checking.order_of.Goals as goal
 abbrev names_of : Option (Bor (List ℕ)) → Option (List ℕ)
 names_of found = option_map (λ (name : Bor (List ℕ)). name.now) found
 
-pub returns-in-Some-clause-fault : goal.returns-in-Some-clause-fault
-returns-in-Some-clause-fault c =
+pub returns-in-Some : goal.returns-in-Some
+returns-in-Some c =
     c.fault_of.ensures c.args.source.now (sym (c.in_ok-name.ensures ∙ ap (λ (all : List Mention). first_fault (is_undriven all) [] all) c.requires.whole) ∙ ap names_of c.in-Some.is)
 
-pub returns-in-Some-2-clause-fault : goal.returns-in-Some-2-clause-fault
-returns-in-Some-2-clause-fault c = c.fault_of-in-Some-2.ensures c.args.source.now (
+pub returns-in-Some-2 : goal.returns-in-Some-2
+returns-in-Some-2 c = c.fault_of-in-Some-2.ensures c.args.source.now (
   sym (c.in_ok-name.ensures ∙ ap (λ (all : List Mention). first_fault (is_undriven all) [] all) c.requires.whole) ∙ ap names_of c.in_default.is,
   sym (c.in_ok-name-2.ensures c.args.source.now c.requires.whole) ∙ ap names_of c.in-Some-2.is,
 )
@@ -34,20 +34,20 @@ assignment_order-requires c = (
   },
 )
 
-pub returns-in-Some-first_of_rest-clause-fault : goal.returns-in-Some-first_of_rest-clause-fault
-returns-in-Some-first_of_rest-clause-fault c =
+pub returns-in-Some-first_of_rest : goal.returns-in-Some-first_of_rest
+returns-in-Some-first_of_rest c =
     let named = subst (IsFirstOfRest c.args.source.now) c.in-Some-first_of_rest.is c.first_of_rest.ensures in
     c.fault_of-in-Some-first_of_rest.ensures c.args.source.now (named c.in_ok-found.ensures.acyclic)
 
-pub returns-in-None-clause-sound : goal.returns-in-None-clause-sound
-returns-in-None-clause-sound c =
+pub returns-in-None : goal.returns-in-None
+returns-in-None c =
     let rest = subst (IsFirstOfRest c.args.source.now) c.in-None.is c.first_of_rest.ensures in
     record {
-      acyclic = c.in_ok-found.ensures.acyclic;
-      narrow = rest.narrow;
-      clocked = rest.clocked;
-      attributed = rest.attributed;
+      sound = record {
+        acyclic = c.in_ok-found.ensures.acyclic;
+        narrow = rest.narrow;
+        clocked = rest.clocked;
+        attributed = rest.attributed;
+      };
+      order = c.in_ok-found.ensures.order;
     }
-
-pub returns-in-None-clause-order : goal.returns-in-None-clause-order
-returns-in-None-clause-order c = c.in_ok-found.ensures.order

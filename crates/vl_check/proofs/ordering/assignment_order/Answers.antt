@@ -27,26 +27,22 @@ beginning-requires g c =
     let same = sym c.as_slice-in-Cycle.ensures.value in
     (c.requires.1.whole, (c.requires.1.scope, (subst (λ xs. 0 < length xs) same s.some, subst (λ xs. AreNamed g.of c.args.scope.now xs) same named)))
 
-pub returns-in-Order-clause-acyclic : goal.returns-in-Order-clause-acyclic
-returns-in-Order-clause-acyclic g c =
+pub returns-in-Order : goal.returns-in-Order
+returns-in-Order g c =
     let a = c.in_ok-places.field-0 in
     let n = subst (λ xs. IsNoted c.args.scope.now xs a.places.items a.reads.items) (c.as_slice.ensures ∙ ap (λ (m : Module). m.items) (sym c.requires.0)) c.in_ok-places.ensures in
     let s : IsOrder a.reads.items c.in-Order.order.items = sorted a.reads.items c.as_slice-2.result.now c.in_ok-order.field-0 _ c.as_slice-2.ensures.value c.in-Order.is c.in_ok-order.ensures in
     record {
-      driven = c.requires.1.driven;
-      once = c.requires.1.once;
-      acyclic = no-loop g.of c.args.scope.now a.places.items a.reads.items c.requires.1.scope c.requires.1.driven c.requires.1.once n c.in-Order.order.items s;
+      acyclic = record {
+        driven = c.requires.1.driven;
+        once = c.requires.1.once;
+        acyclic = no-loop g.of c.args.scope.now a.places.items a.reads.items c.requires.1.scope c.requires.1.driven c.requires.1.once n c.in-Order.order.items s;
+      };
+      order = ordering g.of c.args.scope.now a.places.items a.reads.items c.requires.1.scope c.requires.1.driven c.requires.1.once n c.in-Order.order.items s;
     }
 
-pub returns-in-Order-clause-order : goal.returns-in-Order-clause-order
-returns-in-Order-clause-order g c =
-    let a = c.in_ok-places.field-0 in
-    let n = subst (λ xs. IsNoted c.args.scope.now xs a.places.items a.reads.items) (c.as_slice.ensures ∙ ap (λ (m : Module). m.items) (sym c.requires.0)) c.in_ok-places.ensures in
-    let s : IsOrder a.reads.items c.in-Order.order.items = sorted a.reads.items c.as_slice-2.result.now c.in_ok-order.field-0 _ c.as_slice-2.ensures.value c.in-Order.is c.in_ok-order.ensures in
-    ordering g.of c.args.scope.now a.places.items a.reads.items c.requires.1.scope c.requires.1.driven c.requires.1.once n c.in-Order.order.items s
-
-pub returns-in_ok-names-in-Cycle-clause-fault : goal.returns-in_ok-names-in-Cycle-clause-fault
-returns-in_ok-names-in-Cycle-clause-fault g c =
+pub returns-in_ok-names-in-Cycle : goal.returns-in_ok-names-in-Cycle
+returns-in_ok-names-in-Cycle g c =
     let a = c.in_ok-places.field-0 in
     let n = subst (λ xs. IsNoted c.args.scope.now xs a.places.items a.reads.items) (c.as_slice.ensures ∙ ap (λ (m : Module). m.items) (sym c.requires.0)) c.in_ok-places.ensures in
     let s : IsCycle a.reads.items c.in-Cycle.cycle.items = sorted a.reads.items c.as_slice-2.result.now c.in_ok-order.field-0 _ c.as_slice-2.ensures.value c.in-Cycle.is c.in_ok-order.ensures in
