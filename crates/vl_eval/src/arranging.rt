@@ -1,4 +1,4 @@
-ghost use Rattle.std.specs.Prelude.{◌≡◌, ◌<◌, ◌≤◌, ◌+◌, ◌*◌, ◌^◌, ℕ, IfOk, length, map, slice_index};
+ghost use Rattle.std.specs.Prelude.{◌≡◌, ◌<◌, ◌≤◌, ◌+◌, ◌*◌, ◌^◌, ℕ, IfOk, OnOk, length, map, slice_index};
 ghost use Rattle.vl_eval.specs.inner.Arranged.{AreEntries, ArePlaces, IsArranged, moved, moved_capture, number_of, op_at, renamed};
 ghost use Rattle.vl_eval.specs.inner.Ops.{IsOrdered};
 
@@ -146,46 +146,33 @@ fn in_order(
     Ok(arranged)
 }
 
-fn moved_slots(
-    alloc: Global,
-    slots: &[usize],
-    base: usize,
-    places: &[usize],
-) -> Result<Vec<usize>, OutOfMemory>
-    ensures { IfOk result (λ arranged. arranged.items ≡ map (moved base places.now) slots.now) }
+/// Moves the places of names.
+fn move_slots(slots: &mut [usize], base: usize, places: &[usize])
+    ensures { slots.new ≡ map (moved base places.now) slots.old }
 {
-    let mut arranged = Vec::new(alloc);
-    for slot in slots {
-        arranged.push(new_place(*slot, base, places))?;
+    for k in 0..slots.len() {
+        slots[k] = new_place(slots[k], base, places);
     }
-    Ok(arranged)
 }
 
-fn moved_captures(
-    alloc: Global,
-    captures: &[Capture],
-    base: usize,
-    places: &[usize],
-) -> Result<Vec<Capture>, OutOfMemory>
-    ensures { IfOk result (λ arranged. arranged.items
-        ≡ map (moved_capture (moved base places.now)) captures.now) }
+/// Moves the places of captures.
+fn move_captures(captures: &mut [Capture], base: usize, places: &[usize])
+    ensures { captures.new ≡ map (moved_capture (moved base places.now)) captures.old }
 {
-    let mut arranged = Vec::new(alloc);
-    for capture in captures {
-        let Capture { from, to } = *capture;
-        arranged.push(Capture {
+    for k in 0..captures.len() {
+        let Capture { from, to } = captures[k];
+        captures[k] = Capture {
             from: new_place(from, base, places),
             to: new_place(to, base, places),
-        })?;
+        };
     }
-    Ok(arranged)
 }
 
-/// What `arrange` gives of operations that aren't too many for it.
-fn arranged_by(alloc: Global, base: usize, built: &Arranged) -> Result<Arranged, OutOfMemory>
-    requires ordered { IsOrdered base built.now.ops }
-    requires few { length built.now.ops ≤ 2 ^ 29 }
-    ensures { IfOk result (IsArranged base built.now) }
+/// Sorts operations that aren't too many for it.
+fn rearrange(alloc: Global, base: usize, built: &mut Arranged) -> Result<(), OutOfMemory>
+    requires ordered { IsOrdered base built.old.ops }
+    requires few { length built.old.ops ≤ 2 ^ 29 }
+    ensures { OnOk result (IsArranged base built.old built.new) }
 {
     let Some(_end) = base.checked_add(built.ops.len()) else {
         // word: words and operations are counted in 64 bits
@@ -194,8 +181,6 @@ fn arranged_by(alloc: Global, base: usize, built: &Arranged) -> Result<Arranged,
     let mut entries = entries(alloc, &built.ops, base)?;
     entries.sort_unstable();
     let places = places_of(alloc, entries.as_slice(), base)?;
-    let slots = moved_slots(alloc, built.slots.as_slice(), base, places.as_slice())?;
-    let captures = moved_captures(alloc, built.captures.as_slice(), base, places.as_slice())?;
     let ops = in_order(
         alloc,
         &built.ops,
@@ -203,23 +188,26 @@ fn arranged_by(alloc: Global, base: usize, built: &Arranged) -> Result<Arranged,
         base,
         places.as_slice(),
     )?;
-    Ok(Arranged {
-        ops,
-        slots,
-        captures,
-    })
+    move_slots(built.slots.as_mut_slice(), base, places.as_slice());
+    move_captures(built.captures.as_mut_slice(), base, places.as_slice());
+    built.ops = ops;
+    Ok(())
 }
 
 /// Sorts operations by level and, within a level, by kind, so that the jump on the kind of an operation
 /// is foreseen. An operation is of a level above those that it reads.
-pub fn arrange(alloc: Global, base: usize, built: Arranged) -> Result<Arranged, OutOfMemory>
+pub fn arrange(alloc: Global, base: usize, mut built: Arranged) -> Result<Arranged, OutOfMemory>
     requires { IsOrdered base built.ops }
     ensures { IfOk result (IsArranged base built) }
 {
     if built.ops.len() > MOST {
         return Ok(built);
     }
-    let arranged = arranged_by(alloc, base, &built);
-    drop(built);
-    arranged
+    match rearrange(alloc, base, &mut built) {
+        Ok(()) => Ok(built),
+        Err(wanting) => {
+            drop(built);
+            Err(wanting)
+        }
+    }
 }

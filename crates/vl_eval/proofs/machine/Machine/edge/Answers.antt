@@ -1,4 +1,4 @@
-use Rattle.std.proofs.Common.{◌≡◌, ◌<◌, ℕ, List, length, take, slice_index, Contains, sym, ap, subst, ◌∙◌}
+use Rattle.std.proofs.Common.{◌≡◌, ◌<◌, ℕ, List, length, take, slice_index, Contains, refl, sym, ap, subst, ◌∙◌}
 use Rattle.std.specs.Vec.{with_items}
 use Rattle.std.proofs.lemmas.List.{with_items_is}
 use Rattle.vl_eval.specs.inner.Edges.{IsPut, IsTaken}
@@ -94,3 +94,9 @@ returns-clause-ready c =
       still = edge-still-named c.meaning_by_layer.ensures.value self.source of.sound of.scope of.scope_is self.plan of.plan_is self.values.items c.capture.new.values c.put.new.values c.args.inputs.now (taken points.After-put) (put points.After-put) c.requires.fit
           (swept points.After-sweep) ready.settled ready.fits ready.still (kept points.After-sweep) (settled points.After-sweep);
     }
+
+pub returns-clause-source : goal.returns-clause-source
+returns-clause-source c = refl
+
+pub returns-clause-kept : goal.returns-clause-kept
+returns-clause-kept c = λ snapshot row kept. record { room = kept.room; row_is = kept.row_is }
