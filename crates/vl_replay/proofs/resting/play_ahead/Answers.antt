@@ -1,4 +1,4 @@
-use Rattle.std.proofs.Common.{◌≤◌, ◌-◌, ◌*◌, List, length, sym, subst, arith}
+use Rattle.std.proofs.Common.{◌≤◌, ◌-◌, ◌*◌, List, length, sym, subst, ◌∙◌, arith}
 use Rattle.std.proofs.Math.Nat.{mul-le-mul_right}
 use Rattle.vl_ast.proofs.Ranges.{clocks-some}
 use Rattle.vl_ast.specs.Control.{is_stallable}
@@ -40,3 +40,21 @@ returns-clause-played c =
     let more = c.if-span-quiet.false in
     rested score c.args.window quiet c.args.span c.play-2.new.machine c.rest.new.machine c.put_bits.new.bits c.play-2.new.cells c.play-2.ensures.played c.quiet_from-quiet.ensures.quiet (omega (arith, more)) are
     c.rest.ensures.source c.rest.ensures.ready c.rest.ensures.leads
+
+pub returns-then-span-quiet-clause-played : goal.returns-then-span-quiet-clause-played
+returns-then-span-quiet-clause-played c = c.play.ensures.played
+
+pub returns-then-span-quiet-clause-source : goal.returns-then-span-quiet-clause-source
+returns-then-span-quiet-clause-source c = c.play.ensures.source
+
+pub returns-in_err-kept-clause-source : goal.returns-in_err-kept-clause-source
+returns-in_err-kept-clause-source c = c.play-2.ensures.source
+
+pub returns-clause-source : goal.returns-clause-source
+returns-clause-source c = c.rest.ensures.source ∙ c.play-2.ensures.source
+
+pub rest-requires-clause-ready : goal.rest-requires-clause-ready
+rest-requires-clause-ready c = c.play-2.ensures.played.ready
+
+pub rest-requires-clause-room : goal.rest-requires-clause-room
+rest-requires-clause-room c = c.in_ok-kept.ensures.room
