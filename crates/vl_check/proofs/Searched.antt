@@ -1,12 +1,12 @@
 -- What a search over a text or over items finds.
-use Rattle.std.proofs.Common.{◌≡◌, ◌<◌, ◌≤◌, ◌+◌, ℕ, suc, min, Bool, true, false, not, ◌||◌, if◌then◌else◌, List, [], ◌∷◌, ◌++◌, length, map, take, drop, find, slice_index_or, Option, Some, None, refl, sym, ap, ◌∙◌, arith}
+use Rattle.std.proofs.Common.{◌≡◌, ◌<◌, ◌≤◌, ◌+◌, ℕ, suc, min, Bool, true, false, not, ◌||◌, if◌then◌else◌, List, [], ◌∷◌, ◌++◌, length, map, take, drop, find, slice_index_or, Option, Some, None, refl, sym, ap, ◌∙◌, arith, ◌&&◌, subst}
 use Rattle.std.specs.Prelude.{take_while}
 use Rattle.std.specs.List.{list_any, list_all, prefix_len}
 use Rattle.std.specs.Option.{option_or}
 use Rattle.std.proofs.Math.ListN.{drop_of_length-le}
 use Rattle.std.proofs.Math.Seq.{drop-cons}
-use Rattle.std.proofs.lemmas.Bool.{and_parts}
-use Rattle.std.proofs.lemmas.List.{get_or_default, take-append-drop, map-append, length-take, length-take-le, length-map}
+use Rattle.std.proofs.lemmas.Bool.{and_from, and_parts}
+use Rattle.std.proofs.lemmas.List.{get_or_default, take-append-drop, take_more, map-append, length-take, length-take-le, length-map}
 use Rattle.std.proofs.lemmas.List.Sums.{position_or_len_is}
 use Rattle.std.proofs.lemmas.List.Folds.{find-append}
 
@@ -67,6 +67,18 @@ while-map f p xs = take-shared f (prefix_len (λ x. p (f x)) xs) xs ∙ ap (λ n
 pub place-is : {X : Type 0} (q : X → Bool) (xs : List X) (i : ℕ) (d : X) → i ≤ length xs → ((k : ℕ) → k < i → q (slice_index_or xs k d) ≡ false) → (i < length xs → q (slice_index_or xs i d) ≡ true)
     → i ≡ length (take_while (λ x. not (q x)) xs)
 place-is q xs i d le none here = sym (ap (λ n. length (take n xs)) (position_or_len_is q xs i d le none here) ∙ length-take-le i xs le)
+
+all-push : {X : Type 0} (p : X → Bool) (xs : List X) (x : X) → list_all p xs ≡ true → p x ≡ true → list_all p (xs ++ x ∷ []) ≡ true
+all-push p [] x all holds = ap (λ t. t && true) holds
+all-push p (y ∷ ys) x all holds =
+    let both = and_parts (p y) (list_all p ys) all in
+    and_from (p y) (list_all p (ys ++ x ∷ [])) both.0 (all-push p ys x both.1 holds)
+
+-- all up to an item pass a test, and so does the item
+pub all-further : {X : Type 0} (p : X → Bool) (items xs : List X) (i : ℕ) (x : X) → items ≡ xs → i < length items → x ≡ slice_index_or items i x → p x ≡ true → list_all p (take i xs) ≡ true → list_all p (take (i + 1) xs) ≡ true
+all-further p items xs i x are below is holds all =
+    subst (λ ys. list_all p (take i ys) ≡ true → list_all p (take (i + 1) ys) ≡ true) are
+    (λ before. ap (list_all p) (take_more items i x below ∙ ap (λ y. take i items ++ y ∷ []) (sym is)) ∙ all-push p (take i items) x before holds) all
 
 -- items with a name and a test, the first of which fails it
 module _ {X : Type 0} (name : X → List ℕ) (test : X → Bool) where

@@ -1,4 +1,4 @@
-use Rattle.std.proofs.Common.{◌+◌, map, take, sym, subst, ◌∙◌, rules}
+use Rattle.std.proofs.Common.{◌+◌, map, take, sym, subst, ◌∙◌, rules, ◌<◌, length, arith}
 use Rattle.std.proofs.lemmas.List.{take_all}
 use Rattle.vl_ast.specs.Conditions.{mentioned}
 use Rattle.vl_check.specs.inner.Mentioned.{shown}
@@ -28,3 +28,15 @@ returns c =
       long = c.loop-i.invariant.long;
       first = subst (λ part. AreFirst (map mentioned (shown text)) c.args.numbers.now c.loop-i.first.items part) (take_all c.loop-i.i (shown text) (past-all text c.loop-i.i c.loop-i-test.false)) c.loop-i.invariant.first;
     }
+
+pub bounds-numbers-i : goal.bounds-numbers-i
+bounds-numbers-i c =
+    let long = c.requires.long in
+    let here : c.loop-i.i < length c.args.text.now = c.loop-i-test.true in
+    omega (arith, long, here)
+
+pub declare-requires : goal.declare-requires
+declare-requires c =
+    let low = c.requires.low c.loop-i.i c.loop-i-test.true in
+    let long = c.loop-i.invariant.long in
+    omega (arith, low, long)

@@ -1,4 +1,4 @@
-use Rattle.std.proofs.Common.{[], length, take, Some, None, refl, sym, ap, ◌∙◌, rules}
+use Rattle.std.proofs.Common.{[], length, take, Some, None, refl, sym, ap, ◌∙◌, rules, ◌<◌, arith}
 use Rattle.std.proofs.Math.ListN.{drop_of_length-le}
 use Rattle.vl_ast.specs.Conditions.{first_fault, is_declaration_of, is_double, is_driver_of}
 use Rattle.vl_check.specs.inner.Mentioned.{shown}
@@ -46,3 +46,38 @@ loop-i-init c = record {
   driven_marks = none-marked is_driver_of _ _ _ c.requires.numbers.known _ (c.in_ok-driven.ensures.items_if_clones_equal (search rules));
   fault = λ m whole. refl;
 }
+
+pub bounds-numbers-i : goal.bounds-numbers-i
+bounds-numbers-i c =
+    let long = c.requires.numbers.long in
+    let here : c.loop-i.i < length c.args.text.now = c.loop-i-test.true in
+    omega (arith, long, here)
+
+pub bounds-first-number : goal.bounds-first-number
+bounds-first-number c = c.requires.numbers.low c.loop-i.i c.loop-i-test.true
+
+pub index-requires : goal.index-requires
+index-requires c =
+    let low = c.requires.numbers.low c.loop-i.i c.loop-i-test.true in
+    let long = c.loop-i.invariant.long in
+    let own = c.loop-i.declared.ok.0 in
+    omega (arith, low, long, own)
+
+pub index-requires-in-loop-i : goal.index-requires-in-loop-i
+index-requires-in-loop-i c =
+    let low = c.requires.numbers.low c.loop-i.i c.loop-i-test.true in
+    let long = c.loop-i.invariant.driven_long in
+    let own = c.loop-i.driven.ok.0 in
+    omega (arith, low, long, own)
+
+pub mark-requires : goal.mark-requires
+mark-requires c =
+    let low = c.requires.numbers.low c.loop-i.i c.loop-i-test.true in
+    let long = c.loop-i.invariant.long in
+    omega (arith, low, long)
+
+pub mark-requires-in-loop-i : goal.mark-requires-in-loop-i
+mark-requires-in-loop-i c =
+    let low = c.requires.numbers.low c.loop-i.i c.loop-i-test.true in
+    let long = c.loop-i.invariant.driven_long in
+    omega (arith, low, long)

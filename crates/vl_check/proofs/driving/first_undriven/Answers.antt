@@ -1,4 +1,4 @@
-use Rattle.std.proofs.Common.{take, Some, refl, sym, ap, ◌∙◌, rules}
+use Rattle.std.proofs.Common.{take, Some, refl, sym, ap, ◌∙◌, rules, ◌<◌, length, arith}
 use Rattle.std.proofs.Math.ListN.{drop_of_length-le}
 use Rattle.vl_ast.specs.Conditions.{first_fault, is_declaration_of, is_driver_of, is_undriven}
 use Rattle.vl_check.specs.inner.Mentioned.{shown}
@@ -41,3 +41,29 @@ pub returns : goal.returns
 returns c =
     let text = c.args.text.now in
     sym (ap (first_fault (is_undriven (shown text)) (take c.loop-i.i (shown text))) (drop_of_length-le (shown text) (past-all text c.loop-i.i c.loop-i-test.false))) ∙ c.loop-i.invariant.fault
+
+pub bounds-numbers-i : goal.bounds-numbers-i
+bounds-numbers-i c =
+    let long = c.requires.long in
+    let here : c.loop-i.i < length c.args.text.now = c.loop-i-test.true in
+    omega (arith, long, here)
+
+pub index-requires : goal.index-requires
+index-requires c =
+    let low = c.requires.low c.loop-i.i c.loop-i-test.true in
+    let long = c.loop-i.invariant.long in
+    let own = c.loop-i.declared.ok.0 in
+    omega (arith, low, long, own)
+
+pub index-requires-in-loop-i : goal.index-requires-in-loop-i
+index-requires-in-loop-i c =
+    let low = c.requires.low c.loop-i.i c.loop-i-test.true in
+    let long = c.in_ok-driven.ensures.long in
+    let own = c.in_ok-driven.driven.ok.0 in
+    omega (arith, low, long, own)
+
+pub mark-requires : goal.mark-requires
+mark-requires c =
+    let low = c.requires.low c.loop-i.i c.loop-i-test.true in
+    let long = c.loop-i.invariant.long in
+    omega (arith, low, long)
