@@ -1,6 +1,7 @@
 pub mod Bits
 pub mod Cells
 pub mod Clocks
+pub mod Further
 pub mod OneResponse
 pub mod Putting
 pub mod Rested
