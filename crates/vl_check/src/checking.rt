@@ -14,12 +14,13 @@ use crate::clocking::no_reset;
 use crate::driving::{first_declarations, first_double, first_undriven};
 use crate::fault::VlFault;
 use crate::mentions::{Mention, mentions_of};
-use crate::names::{Numbers, numbers_of};
+use crate::names::{Numbers, mentioned_name};
 use crate::ordering::{Found, assignment_order};
 use crate::scope::Scope;
 use crate::widths::too_wide;
 use fx_io::{OutOfMemory, Text};
 use std::alloc::Global;
+use std::collections::BTreeMap;
 use vl_ast::Module;
 
 /// What a module that breaks no condition has.
@@ -61,11 +62,19 @@ fn known_of<'a>(alloc: Global, text: &[Mention<'a>]) -> Result<Known<'a>, OutOfM
     ensures { IfOk result (λ known. (m : Module) → shown text.now ≡ mentions m
         → IsKnown m text.now known.scope known.numbers.items) }
 {
+    let mut known = Numbers {
+        names: Vec::new(alloc),
+        by_name: BTreeMap::new(alloc),
+        numbers: Vec::new(alloc),
+    };
+    for mention in text {
+        known.add(mentioned_name(mention))?;
+    }
     let Numbers {
         names,
         by_name,
         numbers,
-    } = numbers_of(alloc, text)?;
+    } = known;
     let declared = first_declarations(alloc, text, numbers.as_slice(), names.len())?;
     let scope = Scope {
         names,

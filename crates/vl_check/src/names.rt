@@ -1,11 +1,10 @@
-ghost use Rattle.std.specs.Prelude.{◌≡◌, ◌++◌, ◌∷◌, [], IfOk, OnOk, map, slice_set};
+ghost use Rattle.std.specs.Prelude.{◌≡◌, ◌++◌, ◌∷◌, [], OnOk, slice_set};
 ghost use Rattle.vl_ast.specs.Conditions.{mentioned};
-ghost use Rattle.vl_check.specs.inner.Mentioned.{mention_of, shown, texts};
+ghost use Rattle.vl_check.specs.inner.Mentioned.{mention_of, texts};
 ghost use Rattle.vl_check.specs.inner.Names.{HasPlaces, Numbered};
 
 use crate::mentions::Mention;
 use fx_io::OutOfMemory;
-use std::alloc::Global;
 use std::collections::BTreeMap;
 
 /// The names that stand in a module's text, numbered in the order of their first places, the number
@@ -49,7 +48,7 @@ impl<'a> Numbers<'a> {
     ghost use Rattle.std.specs.Prelude.{ℕ, List};
 
     /// Gives the name at one more place its number, which is the next one where it has none yet.
-    fn add(&mut self, name: &'a [u8]) -> Result<(), OutOfMemory>
+    pub fn add(&mut self, name: &'a [u8]) -> Result<(), OutOfMemory>
         requires { HasPlaces self.old.names.items self.old.by_name }
         ensures numbered { OnOk result ((before : List (List ℕ))
             → Numbered before (texts self.old.names.items) self.old.numbers.items
@@ -65,21 +64,4 @@ impl<'a> Numbers<'a> {
         put(&mut self.names, name)?;
         put(&mut self.numbers, number)
     }
-}
-
-/// Numbers the names of a text.
-pub fn numbers_of<'a>(alloc: Global, mentions: &[Mention<'a>]) -> Result<Numbers<'a>, OutOfMemory>
-    ensures numbers { IfOk result (λ known. Numbered (map mentioned (shown mentions.now))
-        (texts known.names.items) known.numbers.items) }
-    ensures places { IfOk result (λ known. HasPlaces known.names.items known.by_name) }
-{
-    let mut known = Numbers {
-        names: Vec::new(alloc),
-        by_name: BTreeMap::new(alloc),
-        numbers: Vec::new(alloc),
-    };
-    for mention in mentions {
-        known.add(mentioned_name(mention))?;
-    }
-    Ok(known)
 }
