@@ -17,7 +17,8 @@ source_of machine = machine.source
 
 -- the place of a name's value
 abbrev pub slot_of : Machine → List ℕ → ℕ
-slot_of machine name = slot_at machine.plan.arranged.slots.items (position (bytes_eq name) (names_of machine.source))
+slot_of machine name =
+    slot_at machine.plan.arranged.slots.items (position (bytes_eq name) (names_of machine.source))
 
 -- the bits of each name
 abbrev pub row_of : Machine → Row
@@ -33,13 +34,17 @@ pub record AreFit (ports : List Port) (bits : List ℕ) : Type 0 where
 pub record IsReady (machine : Machine) : Type 0 where
   pub plan_is : IsPlanOf machine.source machine.plan
   pub room : length machine.values.items ≡ machine.plan.base + length machine.plan.arranged.ops
-  pub settled : IsSettled machine.plan.base machine.plan.arranged.ops (λ k. slice_index machine.values.items k)
-  pub fits : (declared : Declared) → Contains (declarations machine.source) declared → row_of machine declared.name < 2 ^ declared.net.width
-  pub still : (port : Port) → Contains machine.source.ports port → port.input ≡ true → bytes_eq port.name (codes "clk") ≡ true → row_of machine port.name ≡ 0
+  pub settled : IsSettled machine.plan.base machine.plan.arranged.ops
+      (λ k. slice_index machine.values.items k)
+  pub fits : (declared : Declared) → Contains (declarations machine.source) declared
+      → row_of machine declared.name < 2 ^ declared.net.width
+  pub still : (port : Port) → Contains machine.source.ports port → port.input ≡ true
+      → bytes_eq port.name (codes "clk") ≡ true → row_of machine port.name ≡ 0
 
 -- a snapshot has room for the values of the machine (own)
 abbrev pub HasRoom : Machine → Snapshot → Type 0
-HasRoom machine snapshot = length snapshot.values.items ≡ machine.plan.base + length machine.plan.arranged.ops
+HasRoom machine snapshot =
+    length snapshot.values.items ≡ machine.plan.base + length machine.plan.arranged.ops
 
 -- it has the values that the machine has in a row (own)
 pub record IsKept (machine : Machine) (snapshot : Snapshot) (row : Row) : Type 0 where

@@ -86,9 +86,11 @@ op_at base places ops entry =
 pub record IsArranged (base : ℕ) (built arranged : Arranged) : Type 0 where
   pub move : ℕ → ℕ
   pub fixed : (k : ℕ) → k < base → move k ≡ k
-  pub within : (k : ℕ) → base ≤ k → k < base + length built.ops → (base ≤ move k) × (move k < base + length built.ops)
+  pub within : (k : ℕ) → base ≤ k → k < base + length built.ops → (base ≤ move k)
+      × (move k < base + length built.ops)
   pub long : length arranged.ops ≡ length built.ops
   pub ordered : IsOrdered base arranged.ops
-  pub settled : (values : ℕ → ℕ) → IsSettled base arranged.ops values → IsSettled base built.ops (λ place. values (move place))
+  pub settled : (values : ℕ → ℕ) → IsSettled base arranged.ops values
+      → IsSettled base built.ops (λ place. values (move place))
   pub slots_are : arranged.slots.items ≡ map move built.slots.items
   pub captures_are : arranged.captures.items ≡ map (moved_capture move) built.captures.items

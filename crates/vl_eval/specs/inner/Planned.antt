@@ -157,10 +157,13 @@ pub record IsPlan (m : Module) (scope : Scope) (plan : Plan) : Type 0 where
   pub base : plan.base ≡ length (names_in scope)
   pub wires : List Op
   pub wired : AreWired m scope plan.arranged.slots.items wires
-  pub captured : AreCaptured m scope plan.arranged.slots.items m.items wires plan.arranged.ops plan.arranged.captures.items
+  pub captured : AreCaptured m scope plan.arranged.slots.items m.items wires plan.arranged.ops
+      plan.arranged.captures.items
   pub constants : AreConstants plan.constants plan.arranged.ops
-  pub inputs : plan.inputs.items ≡ map (slot_of_port scope plan.arranged.slots.items) (driven_ports m)
-  pub outputs : plan.outputs.items ≡ map (output_of scope plan.arranged.slots.items) (output_ports m)
+  pub inputs : plan.inputs.items
+      ≡ map (slot_of_port scope plan.arranged.slots.items) (driven_ports m)
+  pub outputs : plan.outputs.items
+      ≡ map (output_of scope plan.arranged.slots.items) (output_ports m)
 
 -- a plan of a module that breaks no condition
 pub record IsPlanOf (m : Module) (plan : Plan) : Type 0 where
