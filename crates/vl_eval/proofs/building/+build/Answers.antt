@@ -39,12 +39,8 @@ pub build_unary-returns : goal.build_unary-returns
 build_unary-returns t c = λ fine.
     let site = c.args.site.now in
     let p = c.push.ensures fine in
-    let b = c.build-slot.ensures p.0 in (
-      b.0,
-      built-unary c.requires.by_layer site.base site.scope.now site.slots.now c.args.op c.args.part.now c.args.ops.now.code c.build-slot.new.ops.code c.push.new.ops.code c.build-slot.result c.push.result c.args.context.length c.mask_of.result c.args.context.signed c.unary_context-inner.result
-          c.requires.sound c.requires.longer c.requires.most c.mask_of.ensures c.unary_context-inner.ensures b.1
-          (subst (λ o. Pushed site.base c.build-slot.new.ops.code c.push.new.ops.code c.push.result o) c.unary_op.ensures p.1),
-    )
+    let b = c.build-slot.ensures p.0 in
+    (b.0, built-unary c.requires.by_layer site.base site.scope.now site.slots.now c.args.op c.args.part.now c.args.ops.now.code c.build-slot.new.ops.code c.push.new.ops.code c.build-slot.result c.push.result c.args.context.length c.mask_of.result c.args.context.signed c.unary_context-inner.result c.requires.sound c.requires.longer c.requires.most c.mask_of.ensures c.unary_context-inner.ensures b.1 (subst (λ o. Pushed site.base c.build-slot.new.ops.code c.push.new.ops.code c.push.result o) c.unary_op.ensures p.1))
 
 pub build_as_signed-build_alone-own-requires : goal.build_as_signed-build_alone-own-requires
 build_as_signed-build_alone-own-requires t c =
@@ -55,11 +51,8 @@ pub build_as_signed-returns-then-not-context : goal.build_as_signed-returns-then
 build_as_signed-returns-then-not-context t c = λ fine.
     let site = c.args.site.now in
     let own = c.build_alone-own.ensures in
-    let b = own.built fine in (
-      b.0,
-      built-as-signed-plain c.requires.by_layer site.base site.scope.now site.slots.now c.args.part.now c.args.ops.now.code c.build_alone-own.new.ops.code c.build_alone-own.result.slot c.args.context.length c.args.context.signed c.build_alone-own.result.shape own.length own.sign
-          (not-true c.args.context.signed c.if-not-context.true) b.1,
-    )
+    let b = own.built fine in
+    (b.0, built-as-signed-plain c.requires.by_layer site.base site.scope.now site.slots.now c.args.part.now c.args.ops.now.code c.build_alone-own.new.ops.code c.build_alone-own.result.slot c.args.context.length c.args.context.signed c.build_alone-own.result.shape own.length own.sign (not-true c.args.context.signed c.if-not-context.true) b.1)
 
 pub build_as_signed-extend-requires-clause-longer : goal.build_as_signed-extend-requires-clause-longer
 build_as_signed-extend-requires-clause-longer t c = let l = length-as-signed (nets_in c.args.site.now.scope.now) c.args.part.now in let own = c.build_alone-own.ensures.length in omega (arith, l, own, c.requires.longer)
@@ -72,11 +65,8 @@ build_as_signed-returns t c = λ fine.
     let site = c.args.site.now in
     let own = c.build_alone-own.ensures in
     let x = c.extend.ensures fine in
-    let b = own.built x.0 in (
-      b.0,
-      built-as-signed c.requires.by_layer site.base site.scope.now site.slots.now c.args.part.now c.args.ops.now.code c.build_alone-own.new.ops.code c.extend.new.ops.code c.build_alone-own.result.slot c.extend.result c.args.context.length c.args.context.signed c.build_alone-own.result.shape
-          c.requires.sound c.requires.longer c.requires.most own.length own.sign (not-false c.args.context.signed c.if-not-context.false) b.1 x.1,
-    )
+    let b = own.built x.0 in
+    (b.0, built-as-signed c.requires.by_layer site.base site.scope.now site.slots.now c.args.part.now c.args.ops.now.code c.build_alone-own.new.ops.code c.extend.new.ops.code c.build_alone-own.result.slot c.extend.result c.args.context.length c.args.context.signed c.build_alone-own.result.shape c.requires.sound c.requires.longer c.requires.most own.length own.sign (not-false c.args.context.signed c.if-not-context.false) b.1 x.1)
 
 pub build_as_unsigned-build_alone-own-requires : goal.build_as_unsigned-build_alone-own-requires
 build_as_unsigned-build_alone-own-requires t c =
@@ -107,35 +97,16 @@ build_binary-build-first-requires t c =
     let site = c.args.site.now in
     let nets = nets_in site.scope.now in
     let room = room-in (own_length nets c.args.left.now) _ _ c.left_context-on_left.ensures (left-context-room nets c.args.op c.args.left.now c.args.right.now c.args.context.length c.args.context.signed c.requires.sound c.requires.longer c.requires.most) in
-    let all = placed site c.args.ops.now _ _ (names-binary nets c.args.op c.args.left.now c.args.right.now) c.requires.placed in (
-      omega arith,
-      record {
-        by_layer = c.requires.by_layer;
-        sound = (sound-binary nets c.args.op c.args.left.now c.args.right.now c.requires.sound).0;
-        longer = room.0;
-        most = room.1;
-        placed = λ fine. placed-left c.requires.by_layer site.base site.scope.now site.slots.now c.args.ops.now.code (names_read c.args.left.now) (names_read c.args.right.now) (all fine);
-      },
-    )
+    let all = placed site c.args.ops.now _ _ (names-binary nets c.args.op c.args.left.now c.args.right.now) c.requires.placed in
+    (omega arith, record { by_layer = c.requires.by_layer; sound = (sound-binary nets c.args.op c.args.left.now c.args.right.now c.requires.sound).0; longer = room.0; most = room.1; placed = λ fine. placed-left c.requires.by_layer site.base site.scope.now site.slots.now c.args.ops.now.code (names_read c.args.left.now) (names_read c.args.right.now) (all fine) })
 
 pub build_binary-build-second-requires : goal.build_binary-build-second-requires
 build_binary-build-second-requires t c =
     let site = c.args.site.now in
     let nets = nets_in site.scope.now in
     let room = room-in (own_length nets c.args.right.now) _ _ c.left_context-on_right.ensures (right-context-room nets c.args.op c.args.left.now c.args.right.now c.args.context.length c.args.context.signed c.requires.sound c.requires.longer c.requires.most) in
-    let all = placed site c.args.ops.now _ _ (names-binary nets c.args.op c.args.left.now c.args.right.now) c.requires.placed in (
-      omega arith,
-      record {
-        by_layer = c.requires.by_layer;
-        sound = (sound-binary nets c.args.op c.args.left.now c.args.right.now c.requires.sound).1;
-        longer = room.0;
-        most = room.1;
-        placed = λ fine.
-            let first = c.build-first.ensures fine in
-            placed-later c.requires.by_layer site.base site.scope.now site.slots.now c.args.ops.now.code c.build-first.new.ops.code (names_read c.args.right.now) first.1.grows
-            (placed-right c.requires.by_layer site.base site.scope.now site.slots.now c.args.ops.now.code (names_read c.args.left.now) (names_read c.args.right.now) (all first.0));
-      },
-    )
+    let all = placed site c.args.ops.now _ _ (names-binary nets c.args.op c.args.left.now c.args.right.now) c.requires.placed in
+    (omega arith, record { by_layer = c.requires.by_layer; sound = (sound-binary nets c.args.op c.args.left.now c.args.right.now c.requires.sound).1; longer = room.0; most = room.1; placed = λ fine. let first = c.build-first.ensures fine in placed-later c.requires.by_layer site.base site.scope.now site.slots.now c.args.ops.now.code c.build-first.new.ops.code (names_read c.args.right.now) first.1.grows (placed-right c.requires.by_layer site.base site.scope.now site.slots.now c.args.ops.now.code (names_read c.args.left.now) (names_read c.args.right.now) (all first.0)) })
 
 pub build_binary-half_in-requires : goal.build_binary-half_in-requires
 build_binary-half_in-requires t c =
@@ -152,60 +123,25 @@ build_binary-returns t c = λ fine.
     let site = c.args.site.now in
     let p = c.push.ensures fine in
     let second = c.build-second.ensures p.0 in
-    let first = c.build-first.ensures second.0 in (
-      first.0,
-      built-binary c.requires.by_layer site.base site.scope.now site.slots.now c.args.op c.args.left.now c.args.right.now c.args.ops.now.code c.build-first.new.ops.code c.build-second.new.ops.code c.push.new.ops.code
-          c.build-first.result c.build-second.result c.push.result c.args.context.length c.mask_of.result c.half_in.result c.args.context.signed
-          c.left_context-on_left.result c.left_context-on_right.result c.requires.sound c.requires.longer c.requires.most c.mask_of.ensures c.left_context-on_left.ensures c.left_context-on_right.ensures c.half_in.ensures first.1 second.1
-          (subst (λ o. Pushed site.base c.build-second.new.ops.code c.push.new.ops.code c.push.result o) c.binary_op.ensures p.1),
-    )
+    let first = c.build-first.ensures second.0 in
+    (first.0, built-binary c.requires.by_layer site.base site.scope.now site.slots.now c.args.op c.args.left.now c.args.right.now c.args.ops.now.code c.build-first.new.ops.code c.build-second.new.ops.code c.push.new.ops.code c.build-first.result c.build-second.result c.push.result c.args.context.length c.mask_of.result c.half_in.result c.args.context.signed c.left_context-on_left.result c.left_context-on_right.result c.requires.sound c.requires.longer c.requires.most c.mask_of.ensures c.left_context-on_left.ensures c.left_context-on_right.ensures c.half_in.ensures first.1 second.1 (subst (λ o. Pushed site.base c.build-second.new.ops.code c.push.new.ops.code c.push.result o) c.binary_op.ensures p.1))
 
 pub build_choice-build_alone-tested-requires : goal.build_choice-build_alone-tested-requires
 build_choice-build_alone-tested-requires t c =
-    let site = c.args.site.now in (
-      omega arith,
-      record {
-        by_layer = c.requires.by_layer;
-        sound = (sound-choose (nets_in site.scope.now) c.args.test.now c.args.chosen.now c.args.other.now c.requires.sound).0;
-        placed = λ fine. (placed-choose c.requires.by_layer site.base site.scope.now site.slots.now c.args.ops.now.code c.args.test.now c.args.chosen.now c.args.other.now (c.requires.placed fine)).0;
-      },
-    )
+    let site = c.args.site.now in
+    (omega arith, record { by_layer = c.requires.by_layer; sound = (sound-choose (nets_in site.scope.now) c.args.test.now c.args.chosen.now c.args.other.now c.requires.sound).0; placed = λ fine. (placed-choose c.requires.by_layer site.base site.scope.now site.slots.now c.args.ops.now.code c.args.test.now c.args.chosen.now c.args.other.now (c.requires.placed fine)).0 })
 
 pub build_choice-build-first-requires : goal.build_choice-build-first-requires
 build_choice-build-first-requires t c =
     let site = c.args.site.now in
-    let l = length-choose (nets_in site.scope.now) c.args.test.now c.args.chosen.now c.args.other.now in (
-      omega arith,
-      record {
-        by_layer = c.requires.by_layer;
-        sound = (sound-choose (nets_in site.scope.now) c.args.test.now c.args.chosen.now c.args.other.now c.requires.sound).1;
-        longer = omega (arith, l, c.requires.longer);
-        most = c.requires.most;
-        placed = λ fine.
-            let tested = c.build_alone-tested.ensures.built fine in
-            placed-later c.requires.by_layer site.base site.scope.now site.slots.now c.args.ops.now.code c.build_alone-tested.new.ops.code (names_read c.args.chosen.now) tested.1.grows
-            (placed-choose c.requires.by_layer site.base site.scope.now site.slots.now c.args.ops.now.code c.args.test.now c.args.chosen.now c.args.other.now (c.requires.placed tested.0)).1;
-      },
-    )
+    let l = length-choose (nets_in site.scope.now) c.args.test.now c.args.chosen.now c.args.other.now in
+    (omega arith, record { by_layer = c.requires.by_layer; sound = (sound-choose (nets_in site.scope.now) c.args.test.now c.args.chosen.now c.args.other.now c.requires.sound).1; longer = omega (arith, l, c.requires.longer); most = c.requires.most; placed = λ fine. let tested = c.build_alone-tested.ensures.built fine in placed-later c.requires.by_layer site.base site.scope.now site.slots.now c.args.ops.now.code c.build_alone-tested.new.ops.code (names_read c.args.chosen.now) tested.1.grows (placed-choose c.requires.by_layer site.base site.scope.now site.slots.now c.args.ops.now.code c.args.test.now c.args.chosen.now c.args.other.now (c.requires.placed tested.0)).1 })
 
 pub build_choice-build-second-requires : goal.build_choice-build-second-requires
 build_choice-build-second-requires t c =
     let site = c.args.site.now in
-    let l = length-choose (nets_in site.scope.now) c.args.test.now c.args.chosen.now c.args.other.now in (
-      omega arith,
-      record {
-        by_layer = c.requires.by_layer;
-        sound = (sound-choose (nets_in site.scope.now) c.args.test.now c.args.chosen.now c.args.other.now c.requires.sound).2;
-        longer = omega (arith, l, c.requires.longer);
-        most = c.requires.most;
-        placed = λ fine.
-            let first = c.build-first.ensures fine in
-            let tested = c.build_alone-tested.ensures.built first.0 in
-            placed-later c.requires.by_layer site.base site.scope.now site.slots.now c.args.ops.now.code c.build-first.new.ops.code (names_read c.args.other.now)
-            (grows-more site.base c.args.ops.now.code c.build_alone-tested.new.ops.code c.build-first.new.ops.code tested.1.grows first.1.grows)
-            (placed-choose c.requires.by_layer site.base site.scope.now site.slots.now c.args.ops.now.code c.args.test.now c.args.chosen.now c.args.other.now (c.requires.placed tested.0)).2;
-      },
-    )
+    let l = length-choose (nets_in site.scope.now) c.args.test.now c.args.chosen.now c.args.other.now in
+    (omega arith, record { by_layer = c.requires.by_layer; sound = (sound-choose (nets_in site.scope.now) c.args.test.now c.args.chosen.now c.args.other.now c.requires.sound).2; longer = omega (arith, l, c.requires.longer); most = c.requires.most; placed = λ fine. let first = c.build-first.ensures fine in let tested = c.build_alone-tested.ensures.built first.0 in placed-later c.requires.by_layer site.base site.scope.now site.slots.now c.args.ops.now.code c.build-first.new.ops.code (names_read c.args.other.now) (grows-more site.base c.args.ops.now.code c.build_alone-tested.new.ops.code c.build-first.new.ops.code tested.1.grows first.1.grows) (placed-choose c.requires.by_layer site.base site.scope.now site.slots.now c.args.ops.now.code c.args.test.now c.args.chosen.now c.args.other.now (c.requires.placed tested.0)).2 })
 
 pub build_choice-returns : goal.build_choice-returns
 build_choice-returns t c = λ fine.
@@ -214,11 +150,8 @@ build_choice-returns t c = λ fine.
     let second = c.build-second.ensures p.0 in
     let first = c.build-first.ensures second.0 in
     let own = c.build_alone-tested.ensures in
-    let tested = own.built first.0 in (
-      tested.0,
-      built-choice c.requires.by_layer site.base site.scope.now site.slots.now c.args.test.now c.args.chosen.now c.args.other.now c.args.ops.now.code c.build_alone-tested.new.ops.code c.build-first.new.ops.code c.build-second.new.ops.code c.push.new.ops.code
-          c.build_alone-tested.result.slot c.build-first.result c.build-second.result c.push.result c.args.context.length c.args.context.signed c.build_alone-tested.result.shape own.length own.sign tested.1 first.1 second.1 p.1,
-    )
+    let tested = own.built first.0 in
+    (tested.0, built-choice c.requires.by_layer site.base site.scope.now site.slots.now c.args.test.now c.args.chosen.now c.args.other.now c.args.ops.now.code c.build_alone-tested.new.ops.code c.build-first.new.ops.code c.build-second.new.ops.code c.push.new.ops.code c.build_alone-tested.result.slot c.build-first.result c.build-second.result c.push.result c.args.context.length c.args.context.signed c.build_alone-tested.result.shape own.length own.sign tested.1 first.1 second.1 p.1)
 
 pub build_shift-build-slot-requires : goal.build_shift-build-slot-requires
 build_shift-build-slot-requires t c =
@@ -236,12 +169,8 @@ pub build_shift-returns : goal.build_shift-returns
 build_shift-returns t c = λ fine.
     let site = c.args.site.now in
     let p = c.push.ensures fine in
-    let b = c.build-slot.ensures p.0 in (
-      b.0,
-      built-shift c.requires.by_layer site.base site.scope.now site.slots.now c.args.op c.args.part.now c.args.amount.now c.args.ops.now.code c.build-slot.new.ops.code c.push.new.ops.code c.build-slot.result c.push.result c.args.context.length c.args.context.signed
-          c.requires.sound c.requires.longer c.requires.most b.1
-          (subst (λ o. Pushed site.base c.build-slot.new.ops.code c.push.new.ops.code c.push.result o) (c.shift_op.ensures ∙ ap (λ (places : ℕ). shift_op c.args.op c.build-slot.result places c.args.context.length c.args.context.signed) c.get.ensures) p.1),
-    )
+    let b = c.build-slot.ensures p.0 in
+    (b.0, built-shift c.requires.by_layer site.base site.scope.now site.slots.now c.args.op c.args.part.now c.args.amount.now c.args.ops.now.code c.build-slot.new.ops.code c.push.new.ops.code c.build-slot.result c.push.result c.args.context.length c.args.context.signed c.requires.sound c.requires.longer c.requires.most b.1 (subst (λ o. Pushed site.base c.build-slot.new.ops.code c.push.new.ops.code c.push.result o) (c.shift_op.ensures ∙ ap (λ (places : ℕ). shift_op c.args.op c.build-slot.result places c.args.context.length c.args.context.signed) c.get.ensures) p.1))
 
 pub build_copies-build_alone-own-requires : goal.build_copies-build_alone-own-requires
 build_copies-build_alone-own-requires t c =
@@ -287,22 +216,13 @@ build_copies-loop-copy-preserved t c =
           let s = c.beside-joined.ensures fine in
           let later = c.loop-copy.invariant.later s.0 in
           let copied = (c.loop-copy.invariant.copied s.0).1 by_layer in
-          let value = value-at by_layer site.base site.scope.now site.slots.now c.args.ops.now.code c.build_alone-own.new.ops.code c.loop-copy.ops.code c.build_alone-own.result.slot c.args.part.now c.build_alone-own.result.shape ok.1 own.length own.sign (own.built later.0).1 later.1 in (
-            later.0,
-            grows-more site.base c.build_alone-own.new.ops.code c.loop-copy.ops.code c.beside-joined.new.ops.code later.1
-                (beside-grows by_layer site.base site.scope.now site.slots.now c.loop-copy.ops.code c.beside-joined.new.ops.code c.loop-copy.joined c.beside-joined.result c.build_alone-own.result.slot c.loop-copy.length c.build_alone-own.result.shape.length
-                copied.shows.below value.here.below (omega (arith, room, own.length)) s.1),
-          );
+          let value = value-at by_layer site.base site.scope.now site.slots.now c.args.ops.now.code c.build_alone-own.new.ops.code c.loop-copy.ops.code c.build_alone-own.result.slot c.args.part.now c.build_alone-own.result.shape ok.1 own.length own.sign (own.built later.0).1 later.1 in
+          (later.0, grows-more site.base c.build_alone-own.new.ops.code c.loop-copy.ops.code c.beside-joined.new.ops.code later.1 (beside-grows by_layer site.base site.scope.now site.slots.now c.loop-copy.ops.code c.beside-joined.new.ops.code c.loop-copy.joined c.beside-joined.result c.build_alone-own.result.slot c.loop-copy.length c.build_alone-own.result.shape.length copied.shows.below value.here.below (omega (arith, room, own.length)) s.1));
       copied = λ fine.
           let s = c.beside-joined.ensures fine in
           let later = c.loop-copy.invariant.later s.0 in
-          let b = own.built later.0 in (
-            b.0,
-            λ l. copied-more l site.base site.scope.now site.slots.now c.args.ops.now.code c.loop-copy.ops.code c.beside-joined.new.ops.code c.loop-copy.joined c.beside-joined.result c.build_alone-own.result.slot c.loop-copy.length c.loop-copy._copy
-                c.args.part.now c.build_alone-own.result.shape ok.1 few own.length
-                (value-at l site.base site.scope.now site.slots.now c.args.ops.now.code c.build_alone-own.new.ops.code c.loop-copy.ops.code c.build_alone-own.result.slot c.args.part.now c.build_alone-own.result.shape ok.1 own.length own.sign b.1 later.1)
-                ((c.loop-copy.invariant.copied s.0).1 l) s.1,
-          );
+          let b = own.built later.0 in
+          (b.0, λ l. copied-more l site.base site.scope.now site.slots.now c.args.ops.now.code c.loop-copy.ops.code c.beside-joined.new.ops.code c.loop-copy.joined c.beside-joined.result c.build_alone-own.result.slot c.loop-copy.length c.loop-copy._copy c.args.part.now c.build_alone-own.result.shape ok.1 few own.length (value-at l site.base site.scope.now site.slots.now c.args.ops.now.code c.build_alone-own.new.ops.code c.loop-copy.ops.code c.build_alone-own.result.slot c.args.part.now c.build_alone-own.result.shape ok.1 own.length own.sign b.1 later.1) ((c.loop-copy.invariant.copied s.0).1 l) s.1);
     }
 
 pub build_copies-returns-clause-built : goal.build_copies-returns-clause-built
@@ -310,12 +230,8 @@ build_copies-returns-clause-built t c = λ context fine.
     let site = c.args.site.now in
     let by_layer = c.requires.by_layer in
     let ok = sound-repeat (nets_in site.scope.now) c.args.count c.args.part.now c.requires.sound in
-    let copied = c.loop-copy.invariant.copied fine in (
-      copied.0,
-      subst (λ slot. Built site.base site.scope.now site.slots.now c.args.ops.now.code c.loop-copy.ops.code slot context.length context.signed (Repeat c.args.count c.args.part.now)) (sym c.unsigned_slot.ensures.slot)
-          (built-copies by_layer site.base site.scope.now site.slots.now c.args.count c.args.part.now c.args.ops.now.code c.loop-copy.ops.code c.loop-copy.joined c.loop-copy.length context.length context.signed
-          (subst (λ n. Copied by_layer site.base site.scope.now site.slots.now c.args.ops.now.code c.loop-copy.ops.code c.loop-copy.joined c.loop-copy.length n c.args.part.now) (omega (arith, ok.0)) (copied.1 by_layer))),
-    )
+    let copied = c.loop-copy.invariant.copied fine in
+    (copied.0, subst (λ slot. Built site.base site.scope.now site.slots.now c.args.ops.now.code c.loop-copy.ops.code slot context.length context.signed (Repeat c.args.count c.args.part.now)) (sym c.unsigned_slot.ensures.slot) (built-copies by_layer site.base site.scope.now site.slots.now c.args.count c.args.part.now c.args.ops.now.code c.loop-copy.ops.code c.loop-copy.joined c.loop-copy.length context.length context.signed (subst (λ n. Copied by_layer site.base site.scope.now site.slots.now c.args.ops.now.code c.loop-copy.ops.code c.loop-copy.joined c.loop-copy.length n c.args.part.now) (omega (arith, ok.0)) (copied.1 by_layer))))
 
 pub build_copies-returns-clause-own : goal.build_copies-returns-clause-own
 build_copies-returns-clause-own t c =
@@ -351,17 +267,8 @@ build_parts-build_alone-own-requires t c =
     let there = part-in by_layer site.base site.scope.now site.slots.now parts c.loop-part.part-index part c.loop-part-test.true c.part-item.is in
     let all = placed site c.args.ops.now _ _ (names-concat nets parts) c.requires.placed in
     let sizes : List Expr → ℕ = (λ (ps : List Expr). given.size-build_parts (record { the-lifetimes = ([], ([], ([], ([], ([], tt))))); ops = c.args.ops; site = c.args.site; parts = record { ref_ptr = c.args.parts.ref_ptr; now = ps } })) in
-    let less = part-size sizes (λ x xs. refl) parts c.loop-part.part-index part c.loop-part-test.true c.part-item.is in (
-      omega (arith, less),
-      record {
-        by_layer = by_layer;
-        sound = part-sound by_layer site.base site.scope.now site.slots.now parts c.loop-part.part-index part (sound-concat nets parts c.requires.sound).0 c.loop-part-test.true c.part-item.is;
-        placed = λ fine.
-            let joined = c.loop-part.invariant.joined fine in
-            placed-later by_layer site.base site.scope.now site.slots.now c.args.ops.now.code c.loop-part.ops.code (names_read part) (joined.1 by_layer).grows
-            (part-placed by_layer site.base site.scope.now site.slots.now c.args.ops.now.code parts part there (all joined.0));
-      },
-    )
+    let less = part-size sizes (λ x xs. refl) parts c.loop-part.part-index part c.loop-part-test.true c.part-item.is in
+    (omega (arith, less), record { by_layer = by_layer; sound = part-sound by_layer site.base site.scope.now site.slots.now parts c.loop-part.part-index part (sound-concat nets parts c.requires.sound).0 c.loop-part-test.true c.part-item.is; placed = λ fine. let joined = c.loop-part.invariant.joined fine in placed-later by_layer site.base site.scope.now site.slots.now c.args.ops.now.code c.loop-part.ops.code (names_read part) (joined.1 by_layer).grows (part-placed by_layer site.base site.scope.now site.slots.now c.args.ops.now.code parts part there (all joined.0)) })
 
 pub build_parts-overflow_add-length : goal.build_parts-overflow_add-length
 build_parts-overflow_add-length t c =
@@ -389,14 +296,8 @@ build_parts-loop-part-preserved t c =
       joined = λ fine.
           let s = c.beside-joined.ensures fine in
           let a = own.built s.0 in
-          let j = c.loop-part.invariant.joined a.0 in (
-            j.0,
-            λ b. subst (λ done. Joined b site.base site.scope.now site.slots.now c.args.ops.now.code c.beside-joined.new.ops.code c.beside-joined.result (c.loop-part.length + c.build_alone-own.result.shape.length) done parts) (sym next)
-                (joined-more b site.base site.scope.now site.slots.now c.args.ops.now.code c.loop-part.ops.code c.build_alone-own.new.ops.code c.beside-joined.new.ops.code c.loop-part.joined c.beside-joined.result c.build_alone-own.result.slot c.loop-part.length
-                (take i parts) parts part c.build_alone-own.result.shape (part-in b site.base site.scope.now site.slots.now parts i part c.loop-part-test.true c.part-item.is)
-                (part-sound b site.base site.scope.now site.slots.now parts i part ok.0 c.loop-part-test.true c.part-item.is)
-                (parts-few b site.base site.scope.now site.slots.now parts i part ok.1 c.loop-part-test.true c.part-item.is) own.length own.sign (j.1 b) a.1 s.1),
-          );
+          let j = c.loop-part.invariant.joined a.0 in
+          (j.0, λ b. subst (λ done. Joined b site.base site.scope.now site.slots.now c.args.ops.now.code c.beside-joined.new.ops.code c.beside-joined.result (c.loop-part.length + c.build_alone-own.result.shape.length) done parts) (sym next) (joined-more b site.base site.scope.now site.slots.now c.args.ops.now.code c.loop-part.ops.code c.build_alone-own.new.ops.code c.beside-joined.new.ops.code c.loop-part.joined c.beside-joined.result c.build_alone-own.result.slot c.loop-part.length (take i parts) parts part c.build_alone-own.result.shape (part-in b site.base site.scope.now site.slots.now parts i part c.loop-part-test.true c.part-item.is) (part-sound b site.base site.scope.now site.slots.now parts i part ok.0 c.loop-part-test.true c.part-item.is) (parts-few b site.base site.scope.now site.slots.now parts i part ok.1 c.loop-part-test.true c.part-item.is) own.length own.sign (j.1 b) a.1 s.1));
     }
 
 pub build_parts-returns-then-length-eq0-clause-built : goal.build_parts-returns-then-length-eq0-clause-built
@@ -406,12 +307,8 @@ build_parts-returns-then-length-eq0-clause-built t c = λ context fine.
     let parts = c.args.parts.now in
     let p = c.push-slot.ensures fine in
     let j = c.loop-part.invariant.joined p.0 in
-    let joined = joined-all by_layer site.base site.scope.now site.slots.now c.args.ops.now.code c.loop-part.ops.code c.loop-part.joined c.loop-part.length c.loop-part.part-index parts (omega (arith, c.loop-part-test.false)) (j.1 by_layer) in (
-      j.0,
-      subst (λ slot. Built site.base site.scope.now site.slots.now c.args.ops.now.code c.push-slot.new.ops.code slot context.length context.signed (Concat parts)) (sym c.unsigned_slot.ensures.slot)
-          (built-no-parts by_layer site.base site.scope.now site.slots.now parts c.args.ops.now.code c.loop-part.ops.code c.push-slot.new.ops.code c.push-slot.result c.loop-part.joined c.loop-part.length context.length context.signed
-          joined c.if-length-eq0.true p.1),
-    )
+    let joined = joined-all by_layer site.base site.scope.now site.slots.now c.args.ops.now.code c.loop-part.ops.code c.loop-part.joined c.loop-part.length c.loop-part.part-index parts (omega (arith, c.loop-part-test.false)) (j.1 by_layer) in
+    (j.0, subst (λ slot. Built site.base site.scope.now site.slots.now c.args.ops.now.code c.push-slot.new.ops.code slot context.length context.signed (Concat parts)) (sym c.unsigned_slot.ensures.slot) (built-no-parts by_layer site.base site.scope.now site.slots.now parts c.args.ops.now.code c.loop-part.ops.code c.push-slot.new.ops.code c.push-slot.result c.loop-part.joined c.loop-part.length context.length context.signed joined c.if-length-eq0.true p.1))
 
 pub build_parts-returns-then-length-eq0-clause-own : goal.build_parts-returns-then-length-eq0-clause-own
 build_parts-returns-then-length-eq0-clause-own t c =
@@ -427,11 +324,8 @@ build_parts-returns-clause-built t c = λ context fine.
     let by_layer = c.requires.by_layer in
     let parts = c.args.parts.now in
     let j = c.loop-part.invariant.joined fine in
-    let joined = joined-all by_layer site.base site.scope.now site.slots.now c.args.ops.now.code c.loop-part.ops.code c.loop-part.joined c.loop-part.length c.loop-part.part-index parts (omega (arith, c.loop-part-test.false)) (j.1 by_layer) in (
-      j.0,
-      subst (λ slot. Built site.base site.scope.now site.slots.now c.args.ops.now.code c.loop-part.ops.code slot context.length context.signed (Concat parts)) (sym c.unsigned_slot-2.ensures.slot)
-          (built-parts by_layer site.base site.scope.now site.slots.now parts c.args.ops.now.code c.loop-part.ops.code c.loop-part.joined c.loop-part.length context.length context.signed joined (omega (arith, c.if-length-eq0.false))),
-    )
+    let joined = joined-all by_layer site.base site.scope.now site.slots.now c.args.ops.now.code c.loop-part.ops.code c.loop-part.joined c.loop-part.length c.loop-part.part-index parts (omega (arith, c.loop-part-test.false)) (j.1 by_layer) in
+    (j.0, subst (λ slot. Built site.base site.scope.now site.slots.now c.args.ops.now.code c.loop-part.ops.code slot context.length context.signed (Concat parts)) (sym c.unsigned_slot-2.ensures.slot) (built-parts by_layer site.base site.scope.now site.slots.now parts c.args.ops.now.code c.loop-part.ops.code c.loop-part.joined c.loop-part.length context.length context.signed joined (omega (arith, c.if-length-eq0.false))))
 
 pub build_parts-returns-clause-own : goal.build_parts-returns-clause-own
 build_parts-returns-clause-own t c =
