@@ -1,13 +1,15 @@
 -- How many Systems stand in each section, with one more item.
-use Rattle.std.proofs.Common.{◌≡◌, ◌≢◌, ℕ, ◌+◌, ◌<◌, ◌≤◌, Bool, true, false, cond, List, [], ◌∷◌, length, set, Option, Some, None, get_or, refl, sym, ap, ◌∙◌, ⊎_elim, eq-eqb, ne_eqb, true≢false, arith}
+use Rattle.std.proofs.Common.{◌≡◌, ◌≢◌, ℕ, ◌+◌, ◌<◌, ◌≤◌, Bool, true, false, cond, List, [], ◌∷◌, length, drop, set, Option, Some, None, get_or, refl, sym, ap, ◌∙◌, ⊎_elim, eq-eqb, ne_eqb, true≢false, arith}
 use Rattle.std.specs.Prelude.{◌==◌, ◌&&◌, count_by, is_some}
 use Rattle.std.specs.Option.{option_map_or}
 use Rattle.std.specs.List.{range_with_len}
 use Rattle.std.proofs.lemmas.Bool.{cases_eq}
-use Rattle.std.proofs.lemmas.List.{get_or-set_same, get_or-set_other, length-set}
+use Rattle.std.specs.Int.{from_bool}
+use Rattle.std.proofs.lemmas.List.{at_drop_all, get_or-set_same, get_or-set_other, length-set}
 use Rattle.std.proofs.lemmas.List.FromFn.{length-range_with_len}
-use Rattle.std.proofs.lemmas.List.Sums.{sum_by-append, count_by-le-length}
+use Rattle.std.proofs.lemmas.List.Sums.{sum_by-append, sum_by-drop_more, count_by-le-length}
 use Rattle.mdl_text.specs.declared.tree.Item.{Item}
+use Rattle.mdl_build.specs.declared.roles.Role.{Role}
 use Rattle.mdl_build.specs.Blocks.{at}
 use Rattle.mdl_build.specs.Roles.{role_of}
 use Rattle.mdl_build.specs.Rules.{is_system, is_system_in}
@@ -86,3 +88,30 @@ none_level (Some l) e = absurd (true≢false e)
 pub some_level : (level : Option ℕ) → is_some level ≡ true → option_map_or (λ (l : ℕ). true) level false ≡ true
 some_level None e = absurd (true≢false (sym e))
 some_level (Some l) e = refl
+
+-- ---- what is counted of all roles
+
+pub and_true : (b : Bool) → (b && true) ≡ b
+and_true true = refl
+and_true false = refl
+
+abbrev one_if : Bool → ℕ
+one_if b = cond b 1 0
+
+pub few_more : (b : Bool) (n m i : ℕ) → n ≡ from_bool b → m ≤ i → m + n ≤ i + 1
+few_more true n m i is few = omega (arith, is, few)
+few_more false n m i is few = omega (arith, is, few)
+
+module _ (p : Role → Bool) (roles : List Role) (i : ℕ) where
+  pub counted : (d : Role) (b : Bool) (n m total : ℕ) → i < length roles → b ≡ p (get_or roles i d) → n ≡ from_bool b → m + count_by p (drop i roles) ≡ total → m + n + count_by p (drop (i + 1) roles) ≡ total
+  counted d b n m total inside is one before = by b is one
+    where
+      here : count_by p (drop i roles) ≡ one_if (p (get_or roles i d)) + count_by p (drop (i + 1) roles)
+      here = sum_by-drop_more (λ (role : Role). cond (p role) 1 0) roles i d inside
+
+      by : (b : Bool) → b ≡ p (get_or roles i d) → n ≡ from_bool b → m + n + count_by p (drop (i + 1) roles) ≡ total
+      by true e f = let g : 1 ≡ one_if (p (get_or roles i d)) = ap one_if e in omega (arith, here, f, g, before)
+      by false e f = let g : 0 ≡ one_if (p (get_or roles i d)) = ap one_if e in omega (arith, here, f, g, before)
+
+  pub all_counted : (m total : ℕ) → length roles ≤ i → m + count_by p (drop i roles) ≡ total → m ≡ total
+  all_counted m total past before = let none : count_by p (drop i roles) ≡ 0 = at_drop_all (count_by p) roles i past in omega (arith, none, before)

@@ -1,6 +1,6 @@
 -- The rule of structure, by its parts.
-use Rattle.std.proofs.Common.{suc, zero, ◌≤◌, ◌∷◌, true≢false, le-leb, ◌≡◌, ℕ, Bool, true, false, cond, List, [], Option, Some, None, refl, sym, ap, ◌∙◌, length}
-use Rattle.std.specs.Prelude.{◌&&◌, find, not, option_map, slice_get, is_some, is_none, codes, nat_le}
+use Rattle.std.proofs.Common.{suc, zero, ◌∷◌, inl, true≢false, le-leb, ◌≡◌, ℕ, Bool, true, false, cond, List, [], Option, Some, None, refl, sym, ap, ◌∙◌, length}
+use Rattle.std.specs.Prelude.{◌&&◌, find, not, option_map, slice_get, is_some, is_none, codes, nat_le, MatchBool}
 use Rattle.std.proofs.lemmas.Option.{none-some, same_Some}
 use Rattle.std.specs.List.{position_or_len}
 use Rattle.std.proofs.lemmas.List.Folds.{find_at}
@@ -9,12 +9,16 @@ use Rattle.dg_model.specs.declared.fault.Shown.TheVariants.{Nothing}
 use Rattle.dg_model.specs.declared.rule.Rule.{Rule}
 use Rattle.dg_model.specs.Faults.{fault_of}
 use Rattle.mdl_text.specs.declared.tree.Item.{Item}
+use Rattle.mdl_text.specs.declared.tree.Tree.{Tree}
+use Rattle.mdl_build.specs.declared.known.Known.{Known}
+use Rattle.mdl_build.specs.declared.names.Blocks.{Blocks}
 use Rattle.mdl_build.specs.Blocks.{at, path_of}
 use Rattle.mdl_build.specs.Roles.{role_of, roles_of, blocks_of}
 use Rattle.mdl_build.specs.Sections.{holder_of, value_of}
-use Rattle.mdl_build.specs.Rules.{has_root, are_shallow, has_own_name, has_one_system, is_first_named, keeps_structure, keeps_model, structure_fault, library_fault, type_at}
-use Rattle.mdl_build.specs.inner.Known.{keeps_sizes}
+use Rattle.mdl_build.specs.Rules.{has_root, are_shallow, has_own_name, has_one_system, is_first_named, keeps_structure, keeps_model, structure_fault, library_fault, type_at, Breaks}
+use Rattle.mdl_build.specs.inner.Known.{keeps_sizes, IsFound}
 use Rattle.mdl_build.specs.inner.Lines.{are_joined_before}
+use Rattle.mdl_build.specs.inner.Names.{AreBlocks}
 use Rattle.mdl_build.proofs.BlockPlaces.{IsBlockOf, block_of}
 use Rattle.std.proofs.lemmas.Bool.{not-false}
 
@@ -30,15 +34,40 @@ module _ (items : List Item) where
   unfolding choice
   model_keeps e f = ap (λ (b : Bool). choice (b && are_joined_before items (length items))) e ∙ ap choice f
 
+  pub model_breaks : keeps_sizes items ≡ true → are_joined_before items (length items) ≡ false → structure_fault items ≡ Some (fault_of Rule.Structure [] Nothing)
+  unfolding choice
+  model_breaks e f = ap (λ (b : Bool). choice (b && are_joined_before items (length items))) e ∙ ap choice f
+
 -- what is found among the blocks is one
 pub found_block : (items : List Item) (p : ℕ → Bool) (place : ℕ) → find p (blocks_of items) ≡ Some place → IsBlockOf items (position_or_len p (blocks_of items)) place
 found_block items p place e = block_of items (position_or_len p (blocks_of items)) place (sym (find_at p (blocks_of items)) ∙ e)
 
-pub sizes_kept : (items : List Item) → has_root (roles_of items) ≡ true → are_shallow (roles_of items) ≡ true → length (blocks_of items) ≤ 20000 → keeps_sizes items ≡ true
-sizes_kept items root shallow few =
-    ap (λ (b : Bool). b && are_shallow (roles_of items) && nat_le (length (blocks_of items)) 20000) root
-    ∙ ap (λ (b : Bool). b && nat_le (length (blocks_of items)) 20000) shallow
-    ∙ le-leb (length (blocks_of items)) 20000 few
+-- ---- what is found of the items
+
+sizes_of : (items : List Item) (shape few : Bool) → (has_root (roles_of items) && are_shallow (roles_of items)) ≡ shape → nat_le (length (blocks_of items)) 20000 ≡ few → keeps_sizes items ≡ (shape && few)
+sizes_of items shape few is are =
+    ap (λ (b : Bool). b && nat_le (length (blocks_of items)) 20000) is
+    ∙ ap (λ (b : Bool). shape && b) are
+
+-- without a root, or too deep
+pub no_shape : (known : Known) → (has_root (roles_of known.layout.items.now) && are_shallow (roles_of known.layout.items.now)) ≡ false → IsFound known.layout.items.now false known
+no_shape known none = record { items_are = refl; kept_is = sizes_of known.layout.items.now false (nat_le (length (blocks_of known.layout.items.now)) 20000) none refl; is_known = λ e. absurd (true≢false (sym e)) }
+
+-- with these blocks, which may be too many
+pub blocks_found : (known : Known) (blocks : Blocks) (few : Bool) → known.roles.items ≡ roles_of known.layout.items.now → (has_root (roles_of known.layout.items.now) && are_shallow (roles_of known.layout.items.now)) ≡ true
+    → MatchBool few (AreBlocks known.layout.items.now blocks) (nat_le (length (blocks_of known.layout.items.now)) 20000 ≡ false) → IsFound known.layout.items.now few (record known { blocks = blocks })
+blocks_found known blocks true roles shape are = record {
+  items_are = refl;
+  kept_is = sizes_of known.layout.items.now true true shape (le-leb (length (blocks_of known.layout.items.now)) 20000 are.few);
+  is_known = λ e. record { roles = roles; blocks = are; few = are.few };
+}
+blocks_found known blocks false roles shape many = record { items_are = refl; kept_is = sizes_of known.layout.items.now true false shape many; is_known = λ e. absurd (true≢false (sym e)) }
+
+-- sizes that aren't kept break the rule of structure
+pub broken_sizes : (tree : Tree) → keeps_sizes tree.items ≡ false → Breaks tree (fault_of Rule.Structure [] Nothing)
+unfolding choice
+broken_sizes tree broken =
+    inl (ap (λ (b : Bool). choice tree.items (b && are_joined_before tree.items (length tree.items))) broken)
 
 -- ---- where nothing is told
 

@@ -1,26 +1,23 @@
 -- The tables that blocks are made by, and the blocks that are made.
-use Rattle.std.proofs.Common.{◌≡◌, ◌≢◌, ℕ, zero, suc, ◌+◌, ◌<◌, ◌≤◌, ⊎_elim, Bool, true, false, cond, List, [], ◌∷◌, ◌++◌, length, filter, map, set, get_or, Option, Some, None, refl, sym, ap, subst, ◌∙◌, true≢false, arith}
-use Rattle.std.specs.Prelude.{slice_get, option_map, is_some}
+use Rattle.std.proofs.Common.{◌≡◌, ◌≢◌, ℕ, zero, suc, ◌+◌, ◌<◌, ◌≤◌, ⊎_elim, Bool, true, false, cond, List, [], ◌∷◌, ◌++◌, length, filter, set, get_or, Option, Some, None, refl, sym, ap, subst, ◌∙◌, true≢false, arith}
+use Rattle.std.specs.Prelude.{slice_get, is_some}
 use Rattle.std.specs.List.{range_with_len, AllZip}
 use Rattle.std.specs.Option.{unwrap_or}
 use Rattle.std.proofs.lemmas.Bool.{cases_lt, cases_eq}
-use Rattle.std.proofs.lemmas.List.{get_or-set_same, get_or-set_other, get_or_default, length-set, length-append, length-map}
-use Rattle.std.proofs.lemmas.Option.{none-some, same_Some, slice_get-map, slice_get-get_or, slice_get_within}
+use Rattle.std.proofs.lemmas.List.{get_or-set_same, get_or-set_other, get_or_default, length-set, length-append}
+use Rattle.std.proofs.lemmas.Option.{none-some, same_Some, slice_get_within}
 use Rattle.dg_model.specs.declared.fault.RuleFault.{RuleFault}
 use Rattle.dg_model.specs.declared.nested.NestedBlock.{NestedBlock}
 use Rattle.mdl_text.specs.declared.tree.Item.{Item}
 use Rattle.mdl_build.specs.declared.library.BlockType.{BlockType}
-use Rattle.mdl_build.specs.declared.library.BlockType.TheVariants.{Inport, Outport, Constant, Ground, Terminator, Sum, Gain, Product, UnitDelay, Delay, Switch, RelationalOperator, Logic, DataTypeConversion, Mux, Demux, RateTransition, SubSystem, EnablePort}
 use Rattle.mdl_build.specs.declared.parts.Standing.{Standing}
 use Rattle.mdl_build.specs.Blocks.{number_at, has_enable, standing_in}
-use Rattle.mdl_build.specs.Library.{number_of, block_types}
 use Rattle.mdl_build.specs.Nested.{IsBlockAt}
 use Rattle.mdl_build.specs.Roles.{role_of, is_block, blocks_of}
 use Rattle.mdl_build.specs.Rules.{IsWrongFirst, AllRead, type_at}
 use Rattle.mdl_build.specs.Sections.{holder_of}
 use Rattle.mdl_build.specs.inner.Known.{AreEnabled, AreNumbersTo, AreNumbers, IsWrongAt}
 use Rattle.mdl_build.specs.inner.Makers.{AreMade}
-use Rattle.mdl_build.specs.inner.Texts.{fallbacks_of}
 use Rattle.mdl_build.proofs.BlockPlaces.{block_of}
 use Rattle.mdl_build.proofs.ReadingLemmas.{read_each}
 use Rattle.mdl_build.proofs.RoleLemmas.{holder_before}
@@ -87,46 +84,6 @@ standing_read items place parent system enabled own b inner there within are rea
     let inside : system < length enabled = omega (arith, below, are.long) in
     standing_is items parent (holder_of items place) system b inner there (sym (read ∙ get_or_default enabled system own false inside ∙ are.each system below) ∙ is)
 
--- ---- the defaults of a type
-
-pub type_here : (block_type : BlockType) → slice_get block_types (number_of block_type) ≡ Some block_type
-type_here Inport = refl
-type_here Outport = refl
-type_here Constant = refl
-type_here Ground = refl
-type_here Terminator = refl
-type_here Sum = refl
-type_here Gain = refl
-type_here Product = refl
-type_here UnitDelay = refl
-type_here Delay = refl
-type_here Switch = refl
-type_here RelationalOperator = refl
-type_here Logic = refl
-type_here DataTypeConversion = refl
-type_here Mux = refl
-type_here Demux = refl
-type_here RateTransition = refl
-type_here SubSystem = refl
-type_here EnablePort = refl
-
-pub number_there : {V : Type 0} (view : V → List (List ℕ)) (items : List Item) (defaults : List V) (block_type : BlockType) (number : ℕ)
-    → map view defaults ≡ map (fallbacks_of items) block_types → number ≡ number_of block_type → number < length defaults
-number_there {V} view items defaults block_type number all is =
-    let there : slice_get block_types number ≡ Some block_type = ap (slice_get block_types) is ∙ type_here block_type in
-    let long : length defaults ≡ length block_types = sym (length-map defaults view) ∙ ap length all ∙ length-map block_types (fallbacks_of items) in
-    omega (arith, slice_get_within block_types number block_type there, long)
-
-pub defaults_here : {V : Type 0} (view : V → List (List ℕ)) (items : List Item) (defaults : List V) (block_type : BlockType) (number : ℕ) (d : V)
-    → map view defaults ≡ map (fallbacks_of items) block_types → number ≡ number_of block_type → view (get_or defaults number d) ≡ fallbacks_of items block_type
-defaults_here {V} view items defaults block_type number d all is =
-    let there : slice_get block_types number ≡ Some block_type = ap (slice_get block_types) is ∙ type_here block_type in
-    let below = number_there view items defaults block_type number all is in
-    same_Some (view (get_or defaults number d)) (fallbacks_of items block_type)
-    (sym (slice_get-map view defaults number ∙ ap (option_map view) (slice_get-get_or defaults number d below))
-    ∙ ap (λ (list : List (List (List ℕ))). slice_get list number) all
-    ∙ slice_get-map (fallbacks_of items) block_types number ∙ ap (option_map (fallbacks_of items)) there)
-
 -- ---- the name of a block
 
 pub some_text : (found : Option (List ℕ)) (text : List ℕ) → is_some found ≡ true → text ≡ unwrap_or found [] → found ≡ Some text
@@ -141,6 +98,9 @@ push_before (z ∷ zs) y zero x at = at
 push_before (z ∷ zs) y (suc k) x at = push_before zs y k x at
 
 module _ (items : List Item) where
+  pub none_made : AreMade items 0 []
+  none_made = record { long = refl; each = λ k place less there. absurd (omega (arith, less)) }
+
   pub made_next : (count place : ℕ) (blocks : List NestedBlock) (block : NestedBlock) → slice_get (blocks_of items) count ≡ Some place → AreMade items count blocks → IsBlockAt items place block → AreMade items (count + 1) (blocks ++ block ∷ [])
   made_next count place blocks block at before is = record {
     long = length-append blocks (block ∷ []) ∙ ap (λ (n : ℕ). n + 1) before.long;

@@ -6,40 +6,39 @@ use Rattle.std.specs.Cmp.Lexicographic.{slice_cmp, texts_ties}
 use Rattle.std.specs.Ordering.{is_eq, nat_cmp}
 use Rattle.std.proofs.lemmas.Slice.Eq.{bytes_eq-Decides}
 use Rattle.mdl_text.specs.declared.tree.Item.{Item}
-use Rattle.mdl_build.specs.declared.names.Key.{Key}
 use Rattle.mdl_build.specs.Blocks.{is_named_in}
-use Rattle.mdl_build.specs.inner.Names.{IsKeyAt, compare_keys, key_eq}
+use Rattle.mdl_build.specs.inner.Names.{Key, IsKeyAt, compare_keys, key_eq}
 use Rattle.mdl_build.proofs.Ranges.{pushed, pushed-false, position-push}
 use Rattle.std.proofs.lemmas.Bool.{and_parts}
 
 -- the order of keys tells them apart as they are
 pub tied_keys : (key other : Key) → is_eq (compare_keys key other) ≡ key_eq key other
 tied_keys key other =
-    sym (both_tied _ _ (nat_cmp key.system other.system) (slice_cmp nat_cmp key.name.now other.name.now)
-    (unsigned_ties key.system other.system) (texts_ties key.name.now other.name.now))
+    sym (both_tied _ _ (nat_cmp key.0 other.0) (slice_cmp nat_cmp key.1.now other.1.now)
+    (unsigned_ties key.0 other.0) (texts_ties key.1.now other.1.now))
 
 module _ (items : List Item) (places : List ℕ) (place : ℕ) (found : Key → Option ℕ)
-    (old : (key : Key) → found key ≡ position (is_named_in items key.system key.name.now) places) where
+    (old : (key : Key) → found key ≡ position (is_named_in items key.0 key.1.now) places) where
   abbrev pub first_of_name : Key → Option ℕ
-  first_of_name key = position (is_named_in items key.system key.name.now) (places ++ place ∷ [])
+  first_of_name key = position (is_named_in items key.0 key.1.now) (places ++ place ∷ [])
 
   -- a block of another name changes nothing
-  pub other_name : (key : Key) → is_named_in items key.system key.name.now place ≡ false → found key ≡ first_of_name key
+  pub other_name : (key : Key) → is_named_in items key.0 key.1.now place ≡ false → found key ≡ first_of_name key
   other_name key other =
       old key
-      ∙ sym (position-push (is_named_in items key.system key.name.now) places place
-      ∙ ap (λ (b : Bool). pushed b (length places) (position (is_named_in items key.system key.name.now) places)) other
-      ∙ pushed-false (length places) (position (is_named_in items key.system key.name.now) places))
+      ∙ sym (position-push (is_named_in items key.0 key.1.now) places place
+      ∙ ap (λ (b : Bool). pushed b (length places) (position (is_named_in items key.0 key.1.now) places)) other
+      ∙ pushed-false (length places) (position (is_named_in items key.0 key.1.now) places))
 
   module _ (own : Key) (is : IsKeyAt items place (Some own)) where
     -- equal keys have the same number
     same_key : (key : Key) → key_eq own key ≡ true → found key ≡ found own
     same_key key e =
-        let t = and_parts (own.system == key.system) (bytes_eq own.name.now key.name.now) e in
-        let system : own.system ≡ key.system = eqb-true own.system key.system t.0 in
-        let name : own.name.now ≡ key.name.now = (bytes_eq-Decides own.name.now key.name.now).0 t.1 in
+        let t = and_parts (own.0 == key.0) (bytes_eq own.1.now key.1.now) e in
+        let system : own.0 ≡ key.0 = eqb-true own.0 key.0 t.0 in
+        let name : own.1.now ≡ key.1.now = (bytes_eq-Decides own.1.now key.1.now).0 t.1 in
         old key
-        ∙ sym (ap (λ (n : ℕ). position (is_named_in items n own.name.now) places) system ∙ ap (λ (text : List ℕ). position (is_named_in items key.system text) places) name)
+        ∙ sym (ap (λ (n : ℕ). position (is_named_in items n own.1.now) places) system ∙ ap (λ (text : List ℕ). position (is_named_in items key.0 text) places) name)
         ∙ sym (old own)
 
     -- the first block of its name
@@ -48,10 +47,10 @@ module _ (items : List Item) (places : List ℕ) (place : ℕ) (found : Key → 
       where
         by : (b : Bool) → key_eq own key ≡ b → cond b (Some (length places)) (found key) ≡ first_of_name key
         by true e =
-            sym (position-push (is_named_in items key.system key.name.now) places place
-            ∙ ap (λ (b : Bool). pushed b (length places) (position (is_named_in items key.system key.name.now) places)) (is key.system key.name.now ∙ e)
+            sym (position-push (is_named_in items key.0 key.1.now) places place
+            ∙ ap (λ (b : Bool). pushed b (length places) (position (is_named_in items key.0 key.1.now) places)) (is key.0 key.1.now ∙ e)
             ∙ ap (pushed true (length places)) (sym (old key) ∙ same_key key e ∙ none))
-        by false e = other_name key (is key.system key.name.now ∙ e)
+        by false e = other_name key (is key.0 key.1.now ∙ e)
 
     -- a further one
     pub known_name : (k : ℕ) → found own ≡ Some k → (key : Key) → found key ≡ first_of_name key
@@ -59,10 +58,10 @@ module _ (items : List Item) (places : List ℕ) (place : ℕ) (found : Key → 
       where
         by : (b : Bool) → key_eq own key ≡ b → found key ≡ first_of_name key
         by true e =
-            let there : position (is_named_in items key.system key.name.now) places ≡ Some k = sym (old key) ∙ same_key key e ∙ some in
+            let there : position (is_named_in items key.0 key.1.now) places ≡ Some k = sym (old key) ∙ same_key key e ∙ some in
             same_key key e ∙ some
-            ∙ sym (position-push (is_named_in items key.system key.name.now) places place
-            ∙ ap (pushed (is_named_in items key.system key.name.now place) (length places)) there)
-        by false e = other_name key (is key.system key.name.now ∙ e)
+            ∙ sym (position-push (is_named_in items key.0 key.1.now) places place
+            ∙ ap (pushed (is_named_in items key.0 key.1.now place) (length places)) there)
+        by false e = other_name key (is key.0 key.1.now ∙ e)
 
 -- ---- whether a name is known

@@ -5,9 +5,30 @@ use Rattle.std.proofs.lemmas.List.{length-map}
 use Rattle.std.proofs.lemmas.Option.{same_Some, slice_get-map, slice_get-get_or, slice_get_within}
 use Rattle.std.proofs.lemmas.Slice.Eq.{bytes_eq-Decides}
 use Rattle.mdl_build.specs.declared.library.BlockType.{BlockType}
+use Rattle.mdl_build.specs.declared.library.BlockType.TheVariants.{Inport, Outport, Constant, Ground, Terminator, Sum, Gain, Product, UnitDelay, Delay, Switch, RelationalOperator, Logic, DataTypeConversion, Mux, Demux, RateTransition, SubSystem, EnablePort}
 use Rattle.mdl_build.specs.Library.{block_types, number_of, type_name}
-use Rattle.mdl_build.proofs.MakingLemmas.{type_here}
 use Rattle.mdl_values.specs.Words.{value_beside}
+
+type_here : (block_type : BlockType) → slice_get block_types (number_of block_type) ≡ Some block_type
+type_here Inport = refl
+type_here Outport = refl
+type_here Constant = refl
+type_here Ground = refl
+type_here Terminator = refl
+type_here Sum = refl
+type_here Gain = refl
+type_here Product = refl
+type_here UnitDelay = refl
+type_here Delay = refl
+type_here Switch = refl
+type_here RelationalOperator = refl
+type_here Logic = refl
+type_here DataTypeConversion = refl
+type_here Mux = refl
+type_here Demux = refl
+type_here RateTransition = refl
+type_here SubSystem = refl
+type_here EnablePort = refl
 
 -- what a table has of a type at its number, where it has it of all of them
 module _ {V W : Type 0} (view : V → W) (f : BlockType → W) (table : List V) (all : map view table ≡ map f block_types) (block_type : BlockType) (number : ℕ) (is : number ≡ number_of block_type) where

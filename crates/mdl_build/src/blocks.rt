@@ -1,10 +1,12 @@
 //! The blocks of a tree, each with what its parameters say.
-ghost use Rattle.std.specs.Prelude.{◌≡◌, ◌<◌, length, unwrap_or, IfOk};
+ghost use Rattle.std.specs.Prelude.{◌≡◌, ◌<◌, length, unwrap_or, IfOk, MatchOption};
 ghost use Rattle.mdl_values.specs.Reads.{Finds};
-ghost use Rattle.mdl_build.specs.Blocks.{is_single};
-ghost use Rattle.mdl_build.specs.Library.{row_of};
+ghost use Rattle.mdl_build.specs.Blocks.{is_single, HasSettings};
+ghost use Rattle.mdl_build.specs.Library.{row_of, parameters_of};
 ghost use Rattle.mdl_build.specs.Lookup.{value_under};
-ghost use Rattle.mdl_build.specs.inner.Readings.{IsReadAs, IsReading};
+ghost use Rattle.mdl_build.specs.Rules.{IsFirstWrong};
+ghost use Rattle.mdl_build.specs.Settings.{unset};
+ghost use Rattle.mdl_build.specs.inner.Readings.{IsReadAs};
 ghost use Rattle.mdl_build.specs.inner.Texts.{contents_of, fallbacks_of};
 
 use crate::layout::Layout;
@@ -14,15 +16,6 @@ use crate::reading::read_setting;
 use crate::settings::{Setting, Settings};
 use fx_io::OutOfMemory;
 use std::alloc::Global;
-
-/// What the parameters of a block are read as (own).
-#[derive(Drop)]
-pub enum Reading {
-    /// What they say.
-    Read(Settings),
-    /// The first one that isn't read, by its name.
-    Wrong(&'static str),
-}
 
 /// The value of the first parameter that the block at a place has, else the other.
 fn text_of<'a>(layout: &Layout<'a>, place: usize, name: &str, other: &'a [u8]) -> &'a [u8]
@@ -68,28 +61,30 @@ fn read_parameter<'a>(
     read_setting(alloc, parameter, single, text)
 }
 
-/// Reads the parameters of the block at a place in the order of the table.
+/// Reads the parameters of the block at a place in the order of the table, and puts what they say.
+/// Tells the first one that isn't read, by its name.
 pub fn read_block<'a>(
     alloc: Global,
     layout: &Layout<'a>,
     defaults: &[&'a [u8]],
     block_type: BlockType,
     place: usize,
-) -> Result<Reading, OutOfMemory>
+    settings: &mut Settings,
+) -> Result<Option<&'static str>, OutOfMemory>
     requires within { place < length layout.now.items.now }
     requires texts { contents_of defaults.now ≡ fallbacks_of layout.now.items.now block_type }
-    ensures { IfOk result (IsReading layout.now.items.now block_type place) }
+    requires unset { settings.old ≡ unset }
+    ensures { IfOk result (λ wrong. MatchOption wrong
+        (HasSettings layout.now.items.now block_type place settings.new)
+        (λ name. IsFirstWrong layout.now.items.now block_type place (parameters_of block_type)
+        name.now)) }
 {
     let single = is_single(layout, defaults, block_type, place);
-    let mut settings = Settings::unset(alloc);
     for (number, parameter) in parameters(block_type).iter().enumerate() {
         match read_parameter(alloc, layout, place, single, *parameter, defaults[number])? {
-            None => {
-                drop(settings);
-                return Ok(Reading::Wrong(parameter.name()));
-            }
+            None => return Ok(Some(parameter.name())),
             Some(setting) => settings.put(setting),
         }
     }
-    Ok(Reading::Read(settings))
+    Ok(None)
 }

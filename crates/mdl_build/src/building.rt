@@ -1,18 +1,19 @@
 //! The blocks and lines of a tree, or the first broken rule.
-ghost use Rattle.std.specs.Prelude.{◌≡◌, None, IfOk, IfErr, OnOk};
+ghost use Rattle.std.specs.Prelude.{◌≡◌, true, [], None, IfOk, IfErr, OnOk};
 ghost use Rattle.std.specs.List.{AllZip};
 ghost use Rattle.dg_model.specs.Faults.{IsRefusal};
 ghost use Rattle.dg_model.specs.Sound.{IsSound};
 ghost use Rattle.mdl_build.specs.Nested.{IsBlockAt, IsNestedOf};
 ghost use Rattle.mdl_build.specs.Roles.{blocks_of};
 ghost use Rattle.mdl_build.specs.Rules.{structure_fault, library_fault, IsWrongFirst, Breaks};
-ghost use Rattle.mdl_build.specs.inner.Known.{IsKnown, BreaksNext};
+ghost use Rattle.mdl_build.specs.inner.Known.{IsKnown, keeps_sizes};
 ghost use Rattle.mdl_build.specs.inner.Makers.{IsMaker, items_of};
 
-use crate::known::{Known, Structured, structure_of};
+use crate::known::{Known, broken_model, known_of};
+use crate::lines::put_lines;
 use crate::making::{Maker, text_or_empty};
 use crate::structure::{first_unknown, type_at};
-use dg_model::{CheckFault, Nested, NestedBlocks, Rule, RuleFault};
+use dg_model::{CheckFault, Nested, NestedBlocks, NestedLines, Rule, RuleFault};
 use fx_io::OutOfMemory;
 use mdl_text::Tree;
 use std::alloc::Global;
@@ -30,16 +31,16 @@ fn library_fault(alloc: Global, known: &Known) -> Result<Option<RuleFault>, OutO
     Ok(Some(fault))
 }
 
-/// The blocks of a tree that keeps the rules of structure and of library.
-fn blocks(alloc: Global, maker: &Maker) -> Result<NestedBlocks, CheckFault>
+/// Puts the blocks of a tree that keeps the rules of structure and of library.
+fn put_blocks(alloc: Global, maker: &Maker, blocks: &mut NestedBlocks) -> Result<(), CheckFault>
     requires maker { IsMaker maker.now }
     requires structured { structure_fault (items_of maker.now) ≡ None }
     requires known { library_fault (items_of maker.now) ≡ None }
-    ensures ok { IfOk result
-        (AllZip (IsBlockAt (items_of maker.now)) (blocks_of (items_of maker.now))) }
+    requires none { blocks.old ≡ [] }
+    ensures ok { OnOk result
+        (AllZip (IsBlockAt (items_of maker.now)) (blocks_of (items_of maker.now)) blocks.new) }
     ensures err { IfErr result (IsRefusal (IsWrongFirst (items_of maker.now))) }
 {
-    let mut blocks = NestedBlocks::new(alloc);
     for place in maker.known.blocks.places() {
         let Some(block_type) = type_at(&maker.known.layout, *place) else {
             unreachable!()
@@ -47,25 +48,55 @@ fn blocks(alloc: Global, maker: &Maker) -> Result<NestedBlocks, CheckFault>
         let block = maker.block(alloc, *place, block_type)?;
         blocks.push(block)?;
     }
-    Ok(blocks)
+    Ok(())
 }
 
-/// The blocks of a tree that keeps the rule of structure.
-fn known_blocks(alloc: Global, known: &Known) -> Result<NestedBlocks, CheckFault>
+/// Puts the blocks and lines of a tree whose sizes are kept.
+fn put_nested(alloc: Global, known: &Known, nested: &mut Nested) -> Result<(), CheckFault>
     requires known { IsKnown known.now }
-    requires structured { structure_fault known.now.layout.items.now ≡ None }
-    ensures known { OnOk result (library_fault known.now.layout.items.now ≡ None) }
-    ensures ok { IfOk result (AllZip (IsBlockAt known.now.layout.items.now)
-        (blocks_of known.now.layout.items.now)) }
-    ensures err { IfErr result (IsRefusal (BreaksNext known.now.layout.items.now)) }
+    requires sizes { keeps_sizes known.now.layout.items.now ≡ true }
+    requires no_blocks { nested.old.blocks ≡ [] }
+    requires no_lines { nested.old.lines ≡ [] }
+    ensures ok { OnOk result
+        (IsNestedOf (record { items = known.now.layout.items.now }) nested.new) }
+    ensures err { IfErr result
+        (IsRefusal (Breaks (record { items = known.now.layout.items.now }))) }
 {
-    if let Some(fault) = library_fault(alloc, known)? {
-        return Err(CheckFault::Broken(fault));
+    let lines = &mut nested.lines;
+    if !put_lines(alloc, lines, &known.layout, &known.roles, &known.blocks)? {
+        return Err(broken_model());
+    }
+    if let Some(misshapen) = known.block_fault(alloc)? {
+        return Err(CheckFault::Broken(misshapen));
+    }
+    if let Some(unknown) = library_fault(alloc, known)? {
+        return Err(CheckFault::Broken(unknown));
     }
     let maker = Maker::new(alloc, known)?;
-    let blocks = blocks(alloc, &maker);
+    let put = put_blocks(alloc, &maker, &mut nested.blocks);
     drop(maker);
-    blocks
+    put
+}
+
+/// The blocks and lines of a tree whose sizes are kept.
+fn nested_of(alloc: Global, known: &Known) -> Result<Nested, CheckFault>
+    requires known { IsKnown known.now }
+    requires sizes { keeps_sizes known.now.layout.items.now ≡ true }
+    ensures ok { IfOk result (IsNestedOf (record { items = known.now.layout.items.now })) }
+    ensures err { IfErr result
+        (IsRefusal (Breaks (record { items = known.now.layout.items.now }))) }
+{
+    let mut nested = Nested {
+        blocks: NestedBlocks::new(alloc),
+        lines: NestedLines::new(alloc),
+    };
+    match put_nested(alloc, known, &mut nested) {
+        Ok(()) => Ok(nested),
+        Err(fault) => {
+            drop(nested);
+            Err(fault)
+        }
+    }
 }
 
 /// The blocks and lines of a tree. Source: Simulink reference, model files.
@@ -77,11 +108,10 @@ pub fn build(alloc: Global, tree: &Tree) -> Result<Nested, CheckFault>
     ensures ok { IfOk result (λ nested. IsNestedOf tree.now nested × IsSound nested) }
     ensures err { IfErr result (IsRefusal (Breaks tree.now)) }
 {
-    let Structured { known, lines } = structure_of(alloc, tree.items.as_slice())?;
-    let blocks = known_blocks(alloc, &known);
+    let Some(known) = known_of(alloc, tree.items.as_slice())? else {
+        return Err(broken_model());
+    };
+    let nested = nested_of(alloc, &known);
     drop(known);
-    Ok(Nested {
-        blocks: blocks?,
-        lines,
-    })
+    nested
 }

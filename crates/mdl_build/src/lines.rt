@@ -1,5 +1,5 @@
 //! The lines of a tree.
-ghost use Rattle.std.specs.Prelude.{◌≡◌, ◌<◌, ◌++◌, false, true, length, IfOk, IfSome, MatchOption};
+ghost use Rattle.std.specs.Prelude.{◌≡◌, ◌<◌, ◌++◌, [], true, length, IfOk};
 ghost use Rattle.std.specs.Option.{option_copied};
 ghost use Rattle.mdl_build.specs.Lines.{port_of, target_of, named_by, source_of, goal_of, is_joined, line_from, branch_of, keeps_line, line_at, lines_of};
 ghost use Rattle.mdl_build.specs.Roles.{role_of, roles_of};
@@ -221,28 +221,28 @@ fn add_line<'a>(
     push_line(lines, sources[line], goal)
 }
 
-/// The lines of a tree, one for each of their ends, in the order of these. None where an end names no
-/// block of its System, or has no port's number.
-pub fn lines<'a>(
+/// Puts the lines of a tree, one for each of their ends, in the order of these. Tells whether each end
+/// names a block of its System, and has a port's number.
+pub fn put_lines<'a>(
     alloc: Global,
+    lines: &mut NestedLines,
     layout: &Layout<'a>,
     roles: &[Role],
     blocks: &Blocks<'a>,
-) -> Result<Option<NestedLines>, OutOfMemory>
+) -> Result<bool, OutOfMemory>
+    requires none { lines.old ≡ [] }
     requires roles { roles.now ≡ roles_of layout.now.items.now }
     requires known { AreBlocks layout.now.items.now blocks.now }
-    ensures joined { IfOk result (λ found. MatchOption found
-        (are_joined_before layout.now.items.now (length layout.now.items.now) ≡ false)
-        (λ lines. are_joined_before layout.now.items.now (length layout.now.items.now) ≡ true)) }
-    ensures lines { IfOk result (λ found. IfSome found
-        (λ lines. lines ≡ lines_of layout.now.items.now)) }
+    ensures joined { IfOk result (λ joined. joined
+        ≡ are_joined_before layout.now.items.now (length layout.now.items.now)) }
+    ensures lines { IfOk result (λ joined. joined ≡ true
+        → lines.new ≡ lines_of layout.now.items.now) }
 {
     let sources = sources(alloc, layout, roles, blocks)?;
-    let mut lines = NestedLines::new(alloc);
     for (place, role) in roles.iter().enumerate() {
-        if !add_line(&mut lines, layout, blocks, &sources, place, *role)? {
-            return Ok(None);
+        if !add_line(lines, layout, blocks, &sources, place, *role)? {
+            return Ok(false);
         }
     }
-    Ok(Some(lines))
+    Ok(true)
 }

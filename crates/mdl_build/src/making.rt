@@ -2,14 +2,15 @@
 ghost use Rattle.std.specs.Prelude.{◌≡◌, ℕ, ◌<◌, ◌++◌, ◌∷◌, [], true, Some, List, length, option_map, unwrap_or, is_some, codes, IfOk, IfErr};
 ghost use Rattle.std.specs.Option.{ForSome};
 ghost use Rattle.dg_model.specs.Faults.{IsRefusal};
-ghost use Rattle.mdl_build.specs.Blocks.{number_at, standing_in, HasSettings};
+ghost use Rattle.mdl_build.specs.Blocks.{number_at, standing_in};
 ghost use Rattle.mdl_build.specs.Nested.{IsBlockAt};
 ghost use Rattle.mdl_build.specs.Roles.{role_of, is_block, blocks_of};
 ghost use Rattle.mdl_build.specs.Rules.{type_at};
 ghost use Rattle.mdl_build.specs.Sections.{holder_of, value_of};
-ghost use Rattle.mdl_build.specs.inner.Known.{IsKnown, AreEnabled, AreNumbers, IsWrongAt};
+ghost use Rattle.mdl_build.specs.Settings.{unset};
+ghost use Rattle.mdl_build.specs.inner.Known.{IsKnown, AreEnabled, AreNumbersTo, AreNumbers, IsWrongAt};
 
-use crate::blocks::{Reading, read_block};
+use crate::blocks::read_block;
 use crate::known::Known;
 use crate::layout::Layout;
 use crate::library::{BlockType, number_of};
@@ -61,29 +62,19 @@ fn add_enable(enabled: &mut Vec<bool>, layout: &Layout, place: usize)
     enabled[system] = true;
 }
 
-/// Of each item whether it is a System that has an EnablePort.
-fn enable_marks(alloc: Global, known: &Known) -> Result<Vec<bool>, OutOfMemory>
-    requires { IsKnown known.now }
-    ensures { IfOk result (λ enabled. AreEnabled known.now.layout.items.now
-        (blocks_of known.now.layout.items.now) enabled.items) }
+/// Notes of each block its number, and its System, if it is an EnablePort.
+fn note_blocks(enabled: &mut Vec<bool>, numbers: &mut Vec<u32>, known: &Known)
+    requires known { IsKnown known.now }
+    requires enabled { AreEnabled known.now.layout.items.now [] enabled.old.items }
+    requires numbers { AreNumbersTo known.now.layout.items.now 0 numbers.old.items }
+    ensures enabled { AreEnabled known.now.layout.items.now
+        (blocks_of known.now.layout.items.now) enabled.new.items }
+    ensures numbers { AreNumbers known.now.layout.items.now numbers.new.items }
 {
-    let mut enabled = vec![in alloc; false; known.layout.count()]?;
-    for place in known.blocks.places() {
-        add_enable(&mut enabled, &known.layout, *place);
-    }
-    Ok(enabled)
-}
-
-/// Of each item that is a block its number.
-fn numbers(alloc: Global, known: &Known) -> Result<Vec<u32>, OutOfMemory>
-    requires { IsKnown known.now }
-    ensures { IfOk result (λ numbers. AreNumbers known.now.layout.items.now numbers.items) }
-{
-    let mut numbers = vec![in alloc; 0; known.layout.count()]?;
     for (number, place) in known.blocks.places().iter().enumerate() {
         numbers[*place] = number as u32;
+        add_enable(enabled, &known.layout, *place);
     }
-    Ok(numbers)
 }
 
 impl<'k, 'a> Maker<'k, 'a> {
@@ -95,8 +86,10 @@ impl<'k, 'a> Maker<'k, 'a> {
         ensures maker { IfOk result IsMaker }
         ensures items { IfOk result (λ maker. items_of maker ≡ known.now.layout.items.now) }
     {
-        let enabled = enable_marks(alloc, known)?;
-        let numbers = numbers(alloc, known)?;
+        let count = known.layout.count();
+        let mut enabled = vec![in alloc; false; count]?;
+        let mut numbers = vec![in alloc; 0; count]?;
+        note_blocks(&mut enabled, &mut numbers, known);
         let defaults = defaults(alloc, &known.layout, &known.roles)?;
         Ok(Maker {
             known,
@@ -140,22 +133,31 @@ impl<'k, 'a> Maker<'k, 'a> {
         }
     }
 
-    /// The block at a place with these settings, whose lists are taken out of them.
-    fn block_with(
+    /// The block at a place, whose settings are put and then have their lists taken out.
+    fn block_by(
         &self,
         alloc: Global,
         place: usize,
         block_type: BlockType,
         settings: &mut Settings,
-    ) -> Result<NestedBlock, OutOfMemory>
+    ) -> Result<NestedBlock, CheckFault>
         requires maker { IsMaker self.now }
         requires within { place < length (items_of self.now) }
+        requires counts { is_block (role_of (items_of self.now) place) ≡ true }
         requires named { is_some (value_of (items_of self.now) place (codes "Name")) ≡ true }
         requires typed { type_at (items_of self.now) place ≡ Some block_type }
-        requires has { HasSettings (items_of self.now) block_type place settings.old }
-        ensures { IfOk result (IsBlockAt (items_of self.now) place) }
+        requires unset { settings.old ≡ unset }
+        ensures ok { IfOk result (IsBlockAt (items_of self.now) place) }
+        ensures err { IfErr result (IsRefusal (IsWrongAt (items_of self.now) block_type place)) }
     {
         let layout = &self.known.layout;
+        let defaults = &self.defaults[number_of(block_type)];
+        if let Some(wrong) = read_block(alloc, layout, defaults, block_type, place, settings)? {
+            let fault = self
+                .known
+                .broken_at(alloc, Rule::Parameter, place, wrong.as_bytes())?;
+            return Err(CheckFault::Broken(fault));
+        }
         let name = Text::copy(alloc, text_or_empty(layout, place, b"Name"))?;
         let parent = parent(layout, &self.known.roles, place);
         let part = part_of(alloc, self.standing(place, parent), block_type, settings)?;
@@ -181,19 +183,9 @@ impl<'k, 'a> Maker<'k, 'a> {
         ensures ok { IfOk result (IsBlockAt (items_of self.now) place) }
         ensures err { IfErr result (IsRefusal (IsWrongAt (items_of self.now) block_type place)) }
     {
-        let defaults = &self.defaults[number_of(block_type)];
-        match read_block(alloc, &self.known.layout, defaults, block_type, place)? {
-            Reading::Read(mut settings) => {
-                let block = self.block_with(alloc, place, block_type, &mut settings);
-                drop(settings);
-                Ok(block?)
-            }
-            Reading::Wrong(name) => {
-                let fault = self
-                    .known
-                    .broken_at(alloc, Rule::Parameter, place, name.as_bytes())?;
-                Err(CheckFault::Broken(fault))
-            }
-        }
+        let mut settings = Settings::unset(alloc);
+        let block = self.block_by(alloc, place, block_type, &mut settings);
+        drop(settings);
+        block
     }
 }

@@ -1,5 +1,5 @@
 //! The blocks of a tree, and their names.
-ghost use Rattle.std.specs.Prelude.{◌≡◌, ◌<◌, ◌++◌, ◌∷◌, [], length, vec_len, IfOk, OnOk, MatchOption};
+ghost use Rattle.std.specs.Prelude.{◌≡◌, ◌<◌, ◌++◌, ◌∷◌, [], length, vec_len, IfOk, OnOk, MatchBool};
 ghost use Rattle.mdl_build.specs.Roles.{is_block};
 ghost use Rattle.mdl_build.specs.inner.Names.{IsKeyAt};
 
@@ -12,12 +12,8 @@ use std::collections::BTreeMap;
 /// The most blocks of a model.
 const MOST: usize = 20000;
 
-/// A name in the System at a place.
-#[derive(Clone, Copy, PartialEq, Eq, PartialOrd, Ord)]
-pub struct Key<'a> {
-    system: usize,
-    name: &'a [u8],
-}
+/// The place of a System, and a name in it.
+type Key<'a> = (usize, &'a [u8]);
 
 /// The blocks of a tree in file order, and their numbers by name.
 #[derive(Drop)]
@@ -45,7 +41,7 @@ fn key_of<'a>(layout: &Layout<'a>, place: usize) -> Option<Key<'a>>
     };
     match layout.value(place, b"Name") {
         None => None,
-        Some(name) => Some(Key { system, name }),
+        Some(name) => Some((system, name)),
     }
 }
 
@@ -57,7 +53,7 @@ impl<'a> Blocks<'a> {
     ghost use Rattle.mdl_build.specs.inner.Names.{AreNumbered, AreBlocks};
 
     /// No blocks.
-    fn none(alloc: Global) -> Blocks<'a>
+    pub fn none(alloc: Global) -> Blocks<'a>
         ensures { (items : List Item) → (result.places.items ≡ []) × AreNumbered items result }
     {
         Blocks {
@@ -83,27 +79,23 @@ impl<'a> Blocks<'a> {
         Ok(())
     }
 
-    /// The blocks among the items. None where there are more than a model may have.
-    pub fn new(
-        alloc: Global,
-        layout: &Layout<'a>,
-        roles: &[Role],
-    ) -> Result<Option<Blocks<'a>>, OutOfMemory>
-        requires { roles.now ≡ roles_of layout.now.items.now }
-        ensures { IfOk result (λ found. MatchOption found
-            (nat_le (length (blocks_of layout.now.items.now)) 20000 ≡ false)
-            (AreBlocks layout.now.items.now)) }
+    /// Puts the blocks among the items. Tells whether there are no more than a model may have.
+    pub fn add_all(&mut self, layout: &Layout<'a>, roles: &[Role]) -> Result<bool, OutOfMemory>
+        requires roles { roles.now ≡ roles_of layout.now.items.now }
+        requires none { self.old.places.items ≡ [] }
+        requires numbered { AreNumbered layout.now.items.now self.old }
+        ensures { IfOk result (λ few. MatchBool few (AreBlocks layout.now.items.now self.new)
+            (nat_le (length (blocks_of layout.now.items.now)) 20000 ≡ false)) }
     {
-        let mut blocks = Blocks::none(alloc);
         for (place, role) in roles.iter().enumerate() {
             if is_block(*role) {
-                if blocks.places.len() == MOST {
-                    return Ok(None);
+                if self.places.len() == MOST {
+                    return Ok(false);
                 }
-                blocks.add(layout, place)?;
+                self.add(layout, place)?;
             }
         }
-        Ok(Some(blocks))
+        Ok(true)
     }
 
     /// The places of their sections.
@@ -118,7 +110,7 @@ impl<'a> Blocks<'a> {
         ensures { (items : List Item) → AreBlocks items self.now
             → result ≡ number_of items system name.now }
     {
-        match self.numbers.get(&Key { system, name }) {
+        match self.numbers.get(&(system, name)) {
             None => None,
             Some(number) => Some(*number),
         }

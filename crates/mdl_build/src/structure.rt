@@ -1,5 +1,5 @@
 //! The rules of structure and of library.
-ghost use Rattle.std.specs.Prelude.{◌≡◌, ℕ, ◌<◌, ◌+◌, ◌==◌, not, nat_le, true, length, count_by, find, is_none, All, IfOk, Some, List, Bool, false};
+ghost use Rattle.std.specs.Prelude.{◌≡◌, ℕ, ◌<◌, ◌+◌, ◌==◌, ◌&&◌, not, nat_le, true, length, count_by, find, is_none, All, IfOk, Some, List, Bool, false};
 ghost use Rattle.std.specs.Option.{option_map_or};
 ghost use Rattle.mdl_text.specs.declared.tree.Item.{Item};
 ghost use Rattle.mdl_build.specs.Blocks.{number_at};
@@ -53,32 +53,27 @@ fn is_shallow(role: Role) -> bool
     }
 }
 
-/// How many Models there are.
-fn model_count(roles: &[Role]) -> usize
-    ensures { result ≡ count_by is_model roles.now }
+/// Whether there is one Model, and one System of the first level.
+fn is_root(models: usize, firsts: usize) -> bool
+    ensures { result ≡ ((models == 1) && (firsts == 1)) }
 {
-    roles.iter().filter(|role| is_model(**role)).count()
+    models == 1 && firsts == 1
 }
 
-/// How many Systems of the first level there are.
-fn first_count(roles: &[Role]) -> usize
-    ensures { result ≡ count_by (is_system (λ level. level == 1)) roles.now }
+/// Whether there is one Model, with one System directly in it, and no System is too deep.
+pub fn has_shape(roles: &[Role]) -> bool
+    ensures { result ≡ (has_root roles.now && are_shallow roles.now) }
 {
-    roles.iter().filter(|role| is_first(**role)).count()
-}
-
-/// Whether there is one Model, with one System directly in it.
-pub fn has_root(roles: &[Role]) -> bool
-    ensures { result ≡ has_root roles.now }
-{
-    model_count(roles) == 1 && first_count(roles) == 1
-}
-
-/// Whether no System is too deep.
-pub fn are_shallow(roles: &[Role]) -> bool
-    ensures { result ≡ are_shallow roles.now }
-{
-    roles.iter().all(|role| is_shallow(*role))
+    let mut models = 0;
+    let mut firsts = 0;
+    for role in roles {
+        if !is_shallow(*role) {
+            return false;
+        }
+        models += usize::from(is_model(*role));
+        firsts += usize::from(is_first(*role));
+    }
+    is_root(models, firsts)
 }
 
 /// Counts the item at a place in the section that it stands in, if it is a System.

@@ -1,5 +1,5 @@
 -- What is known of the items of a tree (own).
-use Rattle.std.specs.Prelude.{◌≡◌, ℕ, ◌<◌, ◌≤◌, ◌==◌, ◌&&◌, ◌⊎◌, nat_le, Bool, true, false, List, length, slice_get, slice_index, slice_index_or, Some, None}
+use Rattle.std.specs.Prelude.{◌≡◌, ℕ, ◌<◌, ◌≤◌, ◌==◌, ◌&&◌, nat_le, Bool, true, false, List, length, slice_get, slice_index, slice_index_or, Option, Some, None}
 use Rattle.std.specs.List.{list_any}
 use Rattle.dg_model.specs.declared.fault.RuleFault.{RuleFault}
 use Rattle.dg_model.specs.declared.fault.Shown.TheVariants.{Word}
@@ -8,14 +8,12 @@ use Rattle.dg_model.specs.Faults.{fault_of}
 use Rattle.dg_model.specs.Limits.{most_blocks}
 use Rattle.mdl_text.specs.declared.tree.Item.{Item}
 use Rattle.mdl_build.specs.declared.known.Known.{Known}
-use Rattle.mdl_build.specs.declared.known.Structured.{Structured}
 use Rattle.mdl_build.specs.declared.library.BlockType.{BlockType}
 use Rattle.mdl_build.specs.declared.library.BlockType.TheVariants.{EnablePort}
 use Rattle.mdl_build.specs.Blocks.{at, is_of, number_at, path_of}
 use Rattle.mdl_build.specs.Library.{parameters_of}
-use Rattle.mdl_build.specs.Lines.{lines_of}
 use Rattle.mdl_build.specs.Roles.{role_of, roles_of, is_block, blocks_of}
-use Rattle.mdl_build.specs.Rules.{has_root, are_shallow, structure_fault, library_fault, IsFirstWrong, IsWrongFirst}
+use Rattle.mdl_build.specs.Rules.{has_root, are_shallow, IsFirstWrong}
 use Rattle.mdl_build.specs.Sections.{holder_of}
 use Rattle.mdl_build.specs.inner.Names.{AreBlocks}
 
@@ -31,12 +29,16 @@ pub record IsKnown (known : Known) : Type 0 where
   pub blocks : AreBlocks known.layout.items.now known.blocks
   pub few : length (blocks_of known.layout.items.now) ≤ most_blocks
 
--- these items keep the rule of structure, and these are their lines
-pub record IsStructured (items : List Item) (structured : Structured) : Type 0 where
-  pub items_are : structured.known.layout.items.now ≡ items
-  pub known : IsKnown structured.known
-  pub lines : structured.lines ≡ lines_of items
-  pub keeps : structure_fault items ≡ None
+-- these are the items, and it tells whether they keep their sizes, and then is known
+pub record IsFound (items : List Item) (kept : Bool) (known : Known) : Type 0 where
+  pub items_are : known.layout.items.now ≡ items
+  pub kept_is : keeps_sizes items ≡ kept
+  pub is_known : kept ≡ true → IsKnown known
+
+-- what is known of items that keep their sizes
+abbrev pub IsKnownOf : List Item → Option Known → Type 0
+IsKnownOf items None = keeps_sizes items ≡ false
+IsKnownOf items (Some known) = IsFound items true known
 
 -- the block at a place is an EnablePort of the System at another
 abbrev pub is_enable_in : List Item → ℕ → ℕ → Bool
@@ -67,8 +69,3 @@ pub record IsWrongAt (items : List Item) (block_type : BlockType) (place : ℕ)
   pub name : List ℕ
   pub wrong : IsFirstWrong items block_type place (parameters_of block_type) name
   pub fault_is : fault ≡ fault_of Rule.Parameter (path_of items place) (Word name)
-
--- the first broken rule of items that keep the rule of structure
-abbrev pub BreaksNext : List Item → RuleFault → Type 0
-BreaksNext items fault =
-    (library_fault items ≡ Some fault) ⊎ ((library_fault items ≡ None) × IsWrongFirst items fault)

@@ -1,15 +1,12 @@
 -- What the parameters of a block are read as (own).
 use Rattle.std.specs.Prelude.{◌≡◌, ℕ, ◌<◌, Bool, List, drop, slice_get, Some}
 use Rattle.mdl_text.specs.declared.tree.Item.{Item}
-use Rattle.mdl_build.specs.declared.blocks.Reading.{Reading}
-use Rattle.mdl_build.specs.declared.blocks.Reading.TheVariants.{Read, Wrong}
 use Rattle.mdl_build.specs.declared.library.BlockType.{BlockType}
 use Rattle.mdl_build.specs.declared.library.Parameter.{Parameter}
 use Rattle.mdl_build.specs.declared.settings.Setting.{Setting}
 use Rattle.mdl_build.specs.declared.settings.Settings.{Settings}
 use Rattle.mdl_build.specs.Blocks.{HasSettings, AreRead, IsReadable}
 use Rattle.mdl_build.specs.Library.{ParameterRow, row_of, parameters_of}
-use Rattle.mdl_build.specs.Rules.{IsFirstWrong}
 use Rattle.mdl_build.specs.Settings.{ReadsAs}
 
 -- a parameter with this text is read as a setting; `single` says that the block is a gate of one
@@ -17,12 +14,6 @@ use Rattle.mdl_build.specs.Settings.{ReadsAs}
 abbrev pub IsReadAs : Bool → Parameter → List ℕ → Setting → Type 0
 IsReadAs single parameter text =
     ReadsAs single (row_of parameter).reader (row_of parameter).default text
-
--- all are read so, or one is the first that isn't read
-abbrev pub IsReading : List Item → BlockType → ℕ → Reading → Type 0
-IsReading items block_type place (Read settings) = HasSettings items block_type place settings
-IsReading items block_type place (Wrong name) =
-    IsFirstWrong items block_type place (parameters_of block_type) name.now
 
 -- so many parameters are read, and these are the settings so far
 pub record AreReadTo (items : List Item) (block_type : BlockType) (place number : ℕ)

@@ -7,7 +7,7 @@ use Rattle.mdl_build.proofs.ReadingLemmas.{none_read, one_read, all_read, first_
 use Rattle.mdl_build.proofs.blocks.read_block.Goals as goal
 
 pub loop-number-init : goal.loop-number-init
-loop-number-init c = subst (AreReadTo c.args.layout.now.items.now c.args.block_type c.args.place 0) (sym c.unset-settings.ensures) (none_read c.args.layout.now.items.now c.args.block_type c.args.place)
+loop-number-init c = subst (AreReadTo c.args.layout.now.items.now c.args.block_type c.args.place 0) (sym c.requires.unset) (none_read c.args.layout.now.items.now c.args.block_type c.args.place)
 
 pub returns-in-None : goal.returns-in-None
 returns-in-None c =

@@ -1,28 +1,40 @@
-use Rattle.std.proofs.Common.{List, subst, sym, ap, ◌∙◌}
-use Rattle.std.specs.List.{AllZip}
-use Rattle.dg_model.specs.declared.nested.Nested.{Nested}
+use Rattle.std.proofs.Common.{List, Option, true, refl, subst, sym, ap, ◌∙◌}
+use Rattle.std.specs.Prelude.{IfOk, IfErr}
+use Rattle.std.proofs.lemmas.Result.{IfOk-weaker}
+use Rattle.dg_model.specs.declared.fault.CheckFault.{CheckFault}
+use Rattle.dg_model.specs.Faults.{IsRefusal}
 use Rattle.mdl_text.specs.declared.tree.Item.{Item}
-use Rattle.mdl_build.specs.Nested.{IsBlockAt, IsNestedOf}
-use Rattle.mdl_build.specs.Roles.{blocks_of}
-use Rattle.mdl_build.specs.Rules.{library_fault, structure_fault}
-use Rattle.mdl_build.specs.inner.Known.{IsStructured}
+use Rattle.mdl_build.specs.declared.known.Known.{Known}
+use Rattle.mdl_build.specs.Nested.{IsNestedOf}
+use Rattle.mdl_build.specs.Rules.{Breaks}
+use Rattle.mdl_build.specs.inner.Known.{IsFound, IsKnownOf, keeps_sizes}
+use Rattle.mdl_build.proofs.KnownLemmas.{broken_sizes}
 use Rattle.mdl_build.proofs.Sound.{sound}
 use Rattle.mdl_build.proofs.building.build.Goals as goal
+use Rattle.mdl_build.proofs.building.build.Goals.{In-Some}
 
-pub known_blocks-blocks-requires-clause-known : goal.known_blocks-blocks-requires-clause-known
-known_blocks-blocks-requires-clause-known c = c.in_ok-known.ensures.ok.known
+-- what is found of the tree
+found : (c : In-Some) → IsFound c.args.tree.now.items true c.in-Some.known
+found c = subst (λ (items : List Item). IsFound items true c.in-Some.known) c.as_slice.ensures (subst (λ (f : Option Known). IsKnownOf c.as_slice.result.now f) c.in-Some.is c.in_ok-known.ensures)
 
-pub known_blocks-blocks-requires-clause-structured : goal.known_blocks-blocks-requires-clause-structured
-known_blocks-blocks-requires-clause-structured c = ap structure_fault c.in_ok-known.ensures.ok.items_are ∙ c.in_ok-known.ensures.ok.keeps
+pub nested_of-nested-requires-clause-known : goal.nested_of-nested-requires-clause-known
+nested_of-nested-requires-clause-known c = (found (goal.at.nested_of-nested-requires-clause-known c).In-Some).is_known refl
+
+pub nested_of-nested-requires-clause-sizes : goal.nested_of-nested-requires-clause-sizes
+nested_of-nested-requires-clause-sizes c = let are = found (goal.at.nested_of-nested-requires-clause-sizes c).In-Some in ap keeps_sizes are.items_are ∙ are.kept_is
+
+pub returns-in_default-clause-err : goal.returns-in_default-clause-err
+returns-in_default-clause-err c =
+    let broken = broken_sizes c.args.tree.now (ap keeps_sizes (sym c.as_slice.ensures) ∙ subst (λ (f : Option Known). IsKnownOf c.as_slice.result.now f) c.in_default.is c.in_ok-known.ensures) in
+    subst (λ (fault : CheckFault). IsRefusal (Breaks c.args.tree.now) fault) (sym c.broken_model.ensures) broken
 
 pub returns-clause-ok : goal.returns-clause-ok
 returns-clause-ok c =
-    let structured = subst (λ (items : List Item). IsStructured items c.in_ok-known.field-0) c.as_slice.ensures c.in_ok-known.ensures.ok in
-    let nested : Nested = record { blocks = c.in_ok-blocks.field-0; lines = c.in_ok-known.field-0.lines } in
-    let is : IsNestedOf c.args.tree.now nested = record {
-      structured = structured.keeps;
-      known = ap library_fault (sym structured.items_are) ∙ c.in_ok-blocks.ensures.known;
-      blocks = subst (λ (items : List Item). AllZip (IsBlockAt items) (blocks_of items) c.in_ok-blocks.field-0) structured.items_are c.in_ok-blocks.ensures.ok;
-      lines = structured.lines;
-    } in
-    (is, sound c.args.tree.now nested is)
+    let are = found (goal.at.returns-clause-ok c).In-Some in
+    IfOk-weaker c.nested_of-nested.result _ _ (λ nested is. (is, sound c.args.tree.now nested is))
+    (subst (λ (items : List Item). IfOk c.nested_of-nested.result (IsNestedOf (record { items = items }))) are.items_are c.nested_of-nested.ensures.ok)
+
+pub returns-clause-err : goal.returns-clause-err
+returns-clause-err c =
+    let are = found (goal.at.returns-clause-err c).In-Some in
+    subst (λ (items : List Item). IfErr c.nested_of-nested.result (IsRefusal (Breaks (record { items = items })))) are.items_are c.nested_of-nested.ensures.err

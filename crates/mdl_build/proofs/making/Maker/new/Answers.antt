@@ -7,8 +7,8 @@ defaults-requires c = c.deref.ensures.value ∙ c.requires.roles
 pub returns-clause-maker : goal.returns-clause-maker
 returns-clause-maker c = record {
   known = c.requires;
-  enabled = c.in_ok-enabled.ensures;
-  numbers = c.in_ok-numbers.ensures;
+  enabled = c.note_blocks.ensures.enabled;
+  numbers = c.note_blocks.ensures.numbers;
   defaults = c.in_ok-defaults.ensures;
 }
 

@@ -22,7 +22,7 @@ returns-clause-numbered c = elim c.match-key_of.branch [
       ∙ ap (λ (same : Bool). cond same (Some w.len.result) (get compare_keys c.args.self.now.numbers key)) (tied_keys own key)
       ∙ ap (λ (n : ℕ). cond (key_eq own key) (Some n) (get compare_keys c.args.self.now.numbers key)) (w.len.ensures ∙ c.args.self.now.places.ok.0)
       ∙ new_name items places c.args.place (get compare_keys c.args.self.now.numbers) c.requires.numbered own w.in-Some.ensures none key
-      ∙ ap (position (is_named_in items key.system key.name.now)) (ap (λ (b : Blocks). b.places.items ++ c.args.place ∷ []) (sym w.self-is) ∙ sym c.in_ok-push.ensures.items)
+      ∙ ap (position (is_named_in items key.0 key.1.now)) (ap (λ (b : Blocks). b.places.items ++ c.args.place ∷ []) (sym w.self-is) ∙ sym c.in_ok-push.ensures.items)
   | in-Some+else-not-contains_key w ↦
       let items = c.args.layout.now.items.now in
       let places = c.args.self.now.places.items in
@@ -31,11 +31,11 @@ returns-clause-numbered c = elim c.match-key_of.branch [
       λ key.
       ap (λ (b : Blocks). get compare_keys b.numbers key) w.self-is
       ∙ known_name items places c.args.place (get compare_keys c.args.self.now.numbers) c.requires.numbered own w.in-Some.ensures some.0 some.1 key
-      ∙ ap (position (is_named_in items key.system key.name.now)) (ap (λ (b : Blocks). b.places.items ++ c.args.place ∷ []) (sym w.self-is) ∙ sym c.in_ok-push.ensures.items)
+      ∙ ap (position (is_named_in items key.0 key.1.now)) (ap (λ (b : Blocks). b.places.items ++ c.args.place ∷ []) (sym w.self-is) ∙ sym c.in_ok-push.ensures.items)
   | in_default w ↦
       let items = c.args.layout.now.items.now in
       λ key.
       ap (λ (b : Blocks). get compare_keys b.numbers key) w.self-is
-      ∙ other_name items c.args.self.now.places.items c.args.place (get compare_keys c.args.self.now.numbers) c.requires.numbered key (w.in_default.ensures key.system key.name.now)
-      ∙ ap (position (is_named_in items key.system key.name.now)) (ap (λ (b : Blocks). b.places.items ++ c.args.place ∷ []) (sym w.self-is) ∙ sym c.in_ok-push.ensures.items)
+      ∙ other_name items c.args.self.now.places.items c.args.place (get compare_keys c.args.self.now.numbers) c.requires.numbered key (w.in_default.ensures key.0 key.1.now)
+      ∙ ap (position (is_named_in items key.0 key.1.now)) (ap (λ (b : Blocks). b.places.items ++ c.args.place ∷ []) (sym w.self-is) ∙ sym c.in_ok-push.ensures.items)
 ]

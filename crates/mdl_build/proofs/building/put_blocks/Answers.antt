@@ -6,8 +6,11 @@ use Rattle.mdl_build.specs.inner.Makers.{AreMade, items_of}
 use Rattle.mdl_build.proofs.BlockPlaces.{listed, block_here}
 use Rattle.mdl_build.proofs.KnownLemmas.{structure_kept, name_kept, type_kept}
 use Rattle.dg_model.proofs.Refused.{refused_as}
-use Rattle.mdl_build.proofs.MakingLemmas.{made_next, made_all, wrong_first}
-use Rattle.mdl_build.proofs.building.blocks.Goals as goal
+use Rattle.mdl_build.proofs.MakingLemmas.{none_made, made_next, made_all, wrong_first}
+use Rattle.mdl_build.proofs.building.put_blocks.Goals as goal
+
+pub loop-place-init : goal.loop-place-init
+loop-place-init c = subst (AreMade (items_of c.args.maker.now) 0) (sym c.requires.none) (none_made (items_of c.args.maker.now))
 
 pub type_at-requires : goal.type_at-requires
 type_at-requires c =
