@@ -3,7 +3,7 @@
 //! A new block type is a variant of `BlockType`, a row here, the same row in `specs/Library.antt`,
 //! and a row of its kind in `dg_model`.
 ghost use Rattle.std.specs.Prelude.{◌≡◌, map};
-ghost use Rattle.mdl_build.specs.Library.{row_of, parameters_of, number_of, type_name, type_of_name};
+ghost use Rattle.mdl_build.specs.Library.{row_of, parameters_of, block_types, number_of, type_name, type_of_name};
 
 use mdl_values::value_beside;
 
@@ -342,13 +342,22 @@ const PARAMETERS: &[&[Parameter]] = &[
     ENABLE_PORT,
 ];
 
+/// The parameters of all block types.
+fn all_parameters() -> &'static [&'static [Parameter]]
+    ensures { map (λ parameters. map row_of parameters.now) result.now
+        ≡ map parameters_of block_types }
+{
+    PARAMETERS
+}
+
 /// The parameters that are read of a block type, in the order in which they are tried (Simulink
 /// reference, each block's page; the defaults are own).
 pub fn parameters(block_type: BlockType) -> &'static [Parameter]
     ensures { map row_of result.now ≡ parameters_of block_type }
 {
     let number = number_of(block_type);
-    PARAMETERS[number]
+    let all = all_parameters();
+    all[number]
 }
 
 /// The place of a block type among all of them.

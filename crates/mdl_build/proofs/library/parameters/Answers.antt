@@ -1,13 +1,13 @@
-use Rattle.std.proofs.Common.{◌≡◌, ℕ, List, Bor, map, get_or}
-use Rattle.mdl_build.specs.declared.library.BlockType.{BlockType}
+use Rattle.std.proofs.Common.{List, Bor, map}
 use Rattle.mdl_build.specs.declared.library.Parameter.{Parameter}
-use Rattle.mdl_build.specs.Library.{row_of, parameters_of, number_of, block_types}
-use Rattle.mdl_build.proofs.TypeNumbers.{at_number}
+use Rattle.mdl_build.specs.Library.{row_of, parameters_of}
+use Rattle.mdl_build.proofs.TypeNumbers.{number_below, at_number}
 use Rattle.mdl_build.proofs.library.parameters.Goals as goal
 
-there : (table : List (Bor (List Parameter))) (past : Bor (List Parameter)) (block_type : BlockType) (number : ℕ) → number ≡ number_of block_type → map (λ (list : Bor (List Parameter)). map row_of list.now) table ≡ map parameters_of block_types
-    → map row_of (get_or table number past).now ≡ parameters_of block_type
-there table past block_type number is all = at_number (λ (list : Bor (List Parameter)). map row_of list.now) parameters_of table all block_type number is past
+pub bounds-all-number : goal.bounds-all-number
+bounds-all-number c =
+    number_below (λ (list : Bor (List Parameter)). map row_of list.now) parameters_of c.all_parameters-all.result.now c.all_parameters-all.ensures c.args.block_type c.number_of-number.result c.number_of-number.ensures
 
 pub returns : goal.returns
-returns c = search (c.number_of-number.ensures, there)
+returns c =
+    at_number (λ (list : Bor (List Parameter)). map row_of list.now) parameters_of c.all_parameters-all.result.now c.all_parameters-all.ensures c.args.block_type c.number_of-number.result c.number_of-number.ensures _

@@ -1,4 +1,4 @@
-use Rattle.std.proofs.Common.{ℕ, true, false, not, refl, sym, ap, ◌∙◌, arith}
+use Rattle.std.proofs.Common.{ℕ, not, refl, sym, ap, ◌∙◌, arith}
 use Rattle.std.specs.Prelude.{is_none, is_some}
 use Rattle.mdl_build.specs.Rules.{type_at}
 use Rattle.mdl_build.proofs.FindSteps.{find_next, find_here, find_end}
