@@ -1,5 +1,5 @@
 -- The numbers of a stimulus without a fault fit their columns.
-use Rattle.std.proofs.Common.{◌≡◌, ℕ, zero, suc, ◌+◌, ◌*◌, ◌<◌, Bool, true, false, not, None, Some, Option, List, [], ◌∷◌, ◌++◌, length, map, eqb, refl, sym, ap, subst, ◌∙◌, arith, rules}
+use Rattle.std.proofs.Common.{◌≡◌, ℕ, zero, suc, ◌+◌, ◌*◌, ◌<◌, ◌≤◌, Bool, true, false, not, None, Some, Option, List, [], ◌∷◌, ◌++◌, length, map, eqb, refl, sym, ap, subst, ◌∙◌, arith, rules}
 use Rattle.std.specs.Prelude.{ℤ, pos, slice_get, if◌then◌else◌}
 use Rattle.std.specs.List.{flat_map}
 use Rattle.std.specs.Option.{option_or}
@@ -8,6 +8,7 @@ use Rattle.std.proofs.lemmas.Bool.{false≢true, cond-true, cond-false}
 use Rattle.std.proofs.lemmas.Bool.Decides.{nat_tests}
 use Rattle.std.proofs.lemmas.List.{length-map}
 use Rattle.std.proofs.Math.Nat.{suc-mul}
+use Rattle.std.proofs.lemmas.Nat.{mul-le}
 use Rattle.std.proofs.lemmas.Option.{slice_get_within, none-some}
 use Rattle.fx_tables.specs.Fields.{fields_of}
 use Rattle.fx_tables.specs.Whole.{is_whole, whole_value}
@@ -97,3 +98,14 @@ stimulus_cell columns outputs count sample k text cells column value is counted 
     subst (λ (s : ℕ). IsCell column s value) (let same : 0 + sample ≡ sample = omega arith in same)
     (lines_cell columns outputs 0 sample k (lines text) column value is (omega arith) at
     (ap (λ all. slice_get all (sample * length columns + k)) (sym numbers) ∙ reads))
+
+-- where a cell stands
+pub cell_within : (row column count columns : ℕ) → row < count → column < columns → row * columns + column < count * columns
+cell_within row column count columns row_in column_in =
+    let whole : suc row * columns ≤ count * columns = mul-le (suc row) columns count columns (omega (arith, row_in)) (omega arith) in
+    omega (arith, whole, suc-mul row columns, column_in)
+
+pub more_cells : (count columns : ℕ) → (count + 1) * columns ≡ count * columns + columns
+more_cells count columns =
+    let one : count + 1 ≡ suc count = omega arith in
+    ap (λ (n : ℕ). n * columns) one ∙ omega (arith, suc-mul count columns)

@@ -1,5 +1,5 @@
 -- The faults of a stimulus, one field and one line on.
-use Rattle.std.proofs.Common.{◌≡◌, ℕ, ◌+◌, ◌-◌, ◌<◌, ⊎_elim, true, None, Some, List, ◌∷◌, length, get_or, drop, cond, eqb, sym, ap, ◌∙◌, arith}
+use Rattle.std.proofs.Common.{◌≡◌, ℕ, ◌+◌, ◌-◌, ◌<◌, ⊎_elim, true, false, None, Some, List, ◌∷◌, length, get_or, drop, cond, eqb, sym, ap, ◌∙◌, arith}
 use Rattle.std.specs.Option.{option_or}
 use Rattle.std.proofs.Math.Seq.{drop-length}
 use Rattle.std.proofs.lemmas.List.{drop_more}
@@ -25,6 +25,14 @@ lines_fault-too_many columns outputs sample line later all is large =
     ap (lines_fault columns outputs sample) is
     ∙ ap (λ fault. fault_or fault (sample + 1) (lines_fault columns outputs (sample + 1) later))
     (cond-true (is_too_large (length columns) outputs (sample + 1)) (Some TooManyRows) (count_or_fields_fault columns sample (fields_of line)) large)
+
+-- a good line leaves it to the later ones
+pub lines_fault-good : (columns : List Column) (outputs sample : ℕ) (line : List ℕ) (later all : List (List ℕ)) → all ≡ line ∷ later → is_too_large (length columns) outputs (sample + 1) ≡ false → count_or_fields_fault columns sample (fields_of line) ≡ None
+    → lines_fault columns outputs (sample + 1) later ≡ lines_fault columns outputs sample all
+lines_fault-good columns outputs sample line later all is small good =
+    sym (ap (lines_fault columns outputs sample) is
+    ∙ ap (λ fault. fault_or fault (sample + 1) (lines_fault columns outputs (sample + 1) later))
+    (cond-false (is_too_large (length columns) outputs (sample + 1)) (Some TooManyRows) (count_or_fields_fault columns sample (fields_of line)) small ∙ good))
 
 -- a line with another count of fields
 pub wrong_count : (columns : List Column) (sample : ℕ) (fields : List (List ℕ)) (fault : TableFault) → (length fields ≡ length columns → ⊥) → fault ≡ Bad (sample + 1) FieldCount

@@ -1,7 +1,6 @@
-ghost use Rattle.std.specs.Prelude.{◌≡◌, ◌≢◌, Some, IfOk, IfErr};
+ghost use Rattle.std.specs.Prelude.{◌≢◌, IfOk, IfErr};
 ghost use Rattle.dg_model.specs.PlanRange.{IsPlanInRange};
 ghost use Rattle.fx_tables.specs.Plan.{IsPlan, IsPlanFault};
-ghost use Rattle.fx_tables.specs.inner.PlanReading.{ReadsPlan, plan_fault};
 
 use crate::cut::cut_line;
 use crate::draft::Draft;
@@ -19,16 +18,6 @@ pub fn read_plan(alloc: Global, bytes: &[u8]) -> Result<Plan, TableFault>
     ensures in_range { IfOk result IsPlanInRange }
     ensures refused { IfErr result (λ fault.
         fault ≢ TableFault.OutOfMemory → IsPlanFault bytes.now fault) }
-{
-    read_lines(alloc, bytes)
-}
-
-/// Reads a plan line by line.
-fn read_lines(alloc: Global, bytes: &[u8]) -> Result<Plan, TableFault>
-    ensures plan { IfOk result (ReadsPlan bytes.now) }
-    ensures in_range { IfOk result IsPlanInRange }
-    ensures refused { IfErr result (λ fault.
-        fault ≢ TableFault.OutOfMemory → plan_fault bytes.now ≡ Some fault) }
 {
     let mut draft = Draft::new(alloc);
     let mut rest = bytes;

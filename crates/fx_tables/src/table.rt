@@ -1,6 +1,7 @@
 ghost use Rattle.std.specs.Prelude.{◌≡◌, ◌+◌, ◌*◌, ◌<◌, length, slice_get};
 
 use fx_io::{Cells, Sequence};
+use std::fmt::{self, Display, Formatter, Write};
 use thiserror::Error;
 
 /// What one field of each line holds: an element of an input or an output (own).
@@ -64,29 +65,36 @@ pub enum TableFault {
 }
 
 /// What is wrong with a line (own).
-#[derive(Clone, Copy, Debug, Error)]
+#[derive(Clone, Copy, Debug)]
 pub enum TableCause {
     /// The lines up to this one, times the fields of a line, are above 50,000,000.
-    #[error("too many rows")]
     TooManyRows,
     /// The line has not one field per column.
-    #[error("field count")]
     FieldCount,
     /// A field is neither `-` nor a minus that may lack and 1 to 64 digits.
-    #[error("not a whole number")]
     NotWhole,
     /// A number is outside the range of its column.
-    #[error("out of range")]
     OutOfRange,
     /// A field is `-` at a sample where its column has a number.
-    #[error("dash at a hit")]
     DashAtHit,
     /// A number stands at a sample where its column has none.
-    #[error("number off a hit")]
     NumberOffHit,
     /// A line of a plan has no form, or says again what an earlier line says.
-    #[error("plan line")]
     PlanLine,
+}
+
+impl Display for TableCause {
+    fn fmt<W: Write>(&self, f: &mut Formatter<W>) -> fmt::Result {
+        f.write_str(match self {
+            TableCause::TooManyRows => "too many rows",
+            TableCause::FieldCount => "field count",
+            TableCause::NotWhole => "not a whole number",
+            TableCause::OutOfRange => "out of range",
+            TableCause::DashAtHit => "dash at a hit",
+            TableCause::NumberOffHit => "number off a hit",
+            TableCause::PlanLine => "plan line",
+        })
+    }
 }
 
 impl From<fx_io::OutOfMemory> for TableFault {

@@ -4,7 +4,7 @@ use Rattle.std.specs.Str.Lines.{lines}
 use Rattle.fx_tables.specs.inner.PlanReading.{entry_of, entries_of, entries_fault, plan_fault}
 use Rattle.fx_tables.specs.inner.Draft.{Describes, IsDraftInRange}
 use Rattle.fx_tables.specs.declared.entry.PlanEntry.{PlanEntry}
-use Rattle.fx_tables.proofs.plan.read_lines.Given as goal
+use Rattle.fx_tables.proofs.plan.read_plan.Given as goal
 
 abbrev pub invariant-loop-rest : goal.invariant-loop-rest
 invariant-loop-rest l = record {

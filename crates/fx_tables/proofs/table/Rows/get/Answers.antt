@@ -1,0 +1,22 @@
+use Rattle.std.proofs.Common.{◌+◌, ◌*◌, ◌<◌, length, ap, arith, rules}
+use Rattle.fx_tables.proofs.CellsLemmas.{cell_within}
+use Rattle.fx_tables.proofs.table.Rows.get.Goals as goal
+use Rattle.fx_tables.proofs.table.Rows.get.Goals.{After-as_slice}
+
+-- the cell stands among those of the table
+inside : (c : After-as_slice) → c.args.row * c.args.self.now.columns + c.args.column < length c.as_slice.result.now
+inside c =
+    let at = cell_within c.args.row c.args.column c.args.self.now.lines c.args.self.now.columns c.requires.row_is_there c.requires.column_is_there in
+    omega (arith, at, c.args.self.now.full, ap length c.as_slice.ensures)
+
+pub overflow_mul-result : goal.overflow_mul-result
+overflow_mul-result c = let low = inside (goal.at.overflow_mul-result c).After-as_slice in search rules
+
+pub overflow_add-result : goal.overflow_add-result
+overflow_add-result c = let low = inside (goal.at.overflow_add-result c).After-as_slice in search rules
+
+pub offset_bounds-as_slice-row : goal.offset_bounds-as_slice-row
+offset_bounds-as_slice-row c = let low = inside (goal.at.offset_bounds-as_slice-row c).After-as_slice in search rules
+
+pub bounds-as_slice-row : goal.bounds-as_slice-row
+bounds-as_slice-row c = inside (goal.at.bounds-as_slice-row c).After-as_slice
