@@ -6,7 +6,7 @@ use Rattle.std.proofs.lemmas.List.Concat.{flat_map-append}
 use Rattle.std.proofs.lemmas.List.Sums.{sum_by_push}
 use Rattle.fx_sample.specs.Chain.{word_of}
 use Rattle.fx_sample.specs.ModelText.{parameter_text, block_head, section_end, source_text, target_text, type_parameter, model_head, input_text, ends_text, end_lines, line_text, block_text, chain_name, chain_text, parameters_of}
-use Rattle.fx_sample.specs.Summary.{number_line, made_lines}
+use Rattle.fx_sample.specs.Summary.{number_line, made_lines, equal_line, summary_text}
 use Rattle.fx_sample.specs.declared.chain.ChainKind.{ChainKind}
 use Rattle.fx_sample.specs.declared.summing.Made.{Made}
 use Rattle.fx_io.proofs.Places.{three_appended}
@@ -63,10 +63,32 @@ pub six_appended : (old a b c d e f one two three four five six : List ℕ) → 
     six ≡ old ++ (a ++ b ++ c ++ d ++ e ++ f)
 six_appended old a b c d e f one two three four five six p q r s t u = rw (u, t, s, r, q, p) (simp append_assoc)
 
-pub made_appended : (old : List ℕ) (made : Made) (one two three : List ℕ) → one ≡ old ++ number_line (codes "multiplications ") made.multiplications →
-    two ≡ one ++ number_line (codes "latency Out ") made.out_latency → three ≡ two ++ number_line (codes "latency Slow ") made.slow_latency → three ≡ old ++ made_lines made
-unfolding made_lines
-made_appended old made = three_appended old (number_line (codes "multiplications ") made.multiplications) (number_line (codes "latency Out ") made.out_latency) (number_line (codes "latency Slow ") made.slow_latency)
+-- the pieces of a summary
+summary_pieces : (first blocks end second eight third multiplications fourth out fifth slow last equal of : List ℕ)
+    → first ++ (blocks ++ ((end ++ second) ++ (eight ++ ((end ++ third) ++ (multiplications ++ ((end ++ fourth) ++ (out ++ ((end ++ fifth) ++ (slow ++ ((end ++ last) ++ (equal ++ (of ++ [])))))))))))) ≡
+    (first ++ blocks ++ end) ++ (second ++ eight ++ end) ++ ((third ++ multiplications ++ end) ++ (fourth ++ out ++ end) ++ (fifth ++ slow ++ end)) ++ (last ++ equal ++ of)
+summary_pieces first blocks end second eight third multiplications fourth out fifth slow last equal of = simp (append_assoc, append-nil)
+
+abbrev summary_of : (blocks samples multiplications out slow equal : List ℕ) → List ℕ
+summary_of blocks samples multiplications out slow equal =
+    (codes "blocks " ++ blocks ++ codes "\n") ++ (codes "samples " ++ samples ++ codes "\n")
+    ++ ((codes "multiplications " ++ multiplications ++ codes "\n") ++ (codes "latency Out " ++ out ++ codes "\n") ++ (codes "latency Slow " ++ slow ++ codes "\n"))
+    ++ (codes "equal " ++ equal ++ codes " of 12\n")
+
+pub summary_put : (old blocks samples multiplications out slow equal new : List ℕ) (count : ℕ) (made : Made) (fields : ℕ) → blocks ≡ decimal (count + 4) → samples ≡ decimal 8 → multiplications ≡ decimal made.multiplications → out ≡ decimal made.out_latency
+    → slow ≡ decimal made.slow_latency → equal ≡ decimal fields
+    → new ≡ old ++ (codes "blocks " ++ (blocks ++ (codes "\nsamples " ++ (samples ++ (codes "\nmultiplications " ++ (multiplications ++ (codes "\nlatency Out " ++ (out ++ (codes "\nlatency Slow " ++ (slow ++ (codes "\nequal " ++ (equal ++ (codes " of 12\n" ++ [])))))))))))))
+    → new ≡ old ++ summary_text count made fields
+unfolding number_line made_lines equal_line
+summary_put old blocks samples multiplications out slow equal new count made fields p eight q r s t put =
+    put
+    ∙ ap (λ text. old ++ text) (summary_pieces (codes "blocks ") blocks (codes "\n") (codes "samples ") samples (codes "multiplications ") multiplications (codes "latency Out ") out (codes "latency Slow ") slow (codes "equal ") equal (codes " of 12\n"))
+    ∙ ap (λ (n : List ℕ). old ++ summary_of n samples multiplications out slow equal) p
+    ∙ ap (λ (n : List ℕ). old ++ summary_of (decimal (count + 4)) n multiplications out slow equal) eight
+    ∙ ap (λ (n : List ℕ). old ++ summary_of (decimal (count + 4)) (decimal 8) n out slow equal) q
+    ∙ ap (λ (n : List ℕ). old ++ summary_of (decimal (count + 4)) (decimal 8) (decimal made.multiplications) n slow equal) r
+    ∙ ap (λ (n : List ℕ). old ++ summary_of (decimal (count + 4)) (decimal 8) (decimal made.multiplications) (decimal made.out_latency) n equal) s
+    ∙ ap (λ (n : List ℕ). old ++ summary_of (decimal (count + 4)) (decimal 8) (decimal made.multiplications) (decimal made.out_latency) (decimal made.slow_latency) n) t
 
 -- a range with the number behind it
 range_further : (from count : ℕ) → range_with_len from (suc count) ≡ range_with_len from count ++ (from + count) ∷ []

@@ -4,7 +4,7 @@ ghost use Rattle.fx_sample.specs.Stimulus.{sample_stimulus};
 ghost use Rattle.fx_sample.specs.Summary.{equal_count as equal_count_of, summary_text as summary_text_of};
 
 use crate::fields::equal_count;
-use crate::stimulus::stimulus_text;
+use crate::stimulus::push_all;
 use crate::summing::{Made, summary_text};
 use fx_io::{OutOfMemory, Text};
 use std::alloc::Global;
@@ -45,7 +45,8 @@ pub fn summary<B: Bench>(
     ensures told { OnOk result (B.may_tell verilog.now (sample_stimulus count)
         (B.tells bench.new)) }
 {
-    let stimulus = stimulus_text(alloc, count)?;
-    bench.replay(alloc, verilog, stimulus.bytes())?;
+    let mut stimulus = Vec::new(alloc);
+    push_all(&mut stimulus, count)?;
+    bench.replay(alloc, verilog, &stimulus)?;
     summary_text(alloc, count, made, equal_count(response, bench.told()))
 }

@@ -2,10 +2,9 @@
 ghost use Rattle.std.specs.Prelude.{◌≡◌, ◌++◌, OnOk};
 ghost use Rattle.std.specs.List.{flat_map};
 ghost use Rattle.fx_sample.specs.ModelText.{line_text};
-ghost use Rattle.fx_sample.specs.Summary.{number_line};
 
 use fx_io::OutOfMemory;
-use fx_text::{push, push_number};
+use fx_text::push;
 use itoa::Buffer;
 
 /// Puts pieces, one after another.
@@ -18,16 +17,6 @@ pub fn push_each(text: &mut Vec<u8>, pieces: &[&[u8]]) -> Result<(), OutOfMemory
     };
     push(text, piece)?;
     push_each(text, more)
-}
-
-/// Puts a line with a number behind its word.
-#[tactic(auto, unfolding(crate::specs::Summary::number_line))]
-pub fn push_number_line(text: &mut Vec<u8>, word: &[u8], number: u64) -> Result<(), OutOfMemory>
-    ensures { OnOk result (text.new.items ≡ text.old.items ++ number_line word.now number) }
-{
-    push(text, word)?;
-    push_number(text, number)?;
-    push(text, b"\n")
 }
 
 /// Puts a line from output port 1 of a block to a port of another.

@@ -45,7 +45,7 @@ fn push_stimulus(text: &mut Vec<u8>, number: u64) -> Result<(), OutOfMemory>
 }
 
 /// Puts the stimulus that follows the last number of a chain of so many blocks.
-fn push_all(text: &mut Vec<u8>, count: u32) -> Result<(), OutOfMemory>
+pub fn push_all(text: &mut Vec<u8>, count: u32) -> Result<(), OutOfMemory>
     requires { count ≤ greatest_sample }
     ensures { OnOk result (text.new.items ≡ text.old.items ++ sample_stimulus count) }
 {

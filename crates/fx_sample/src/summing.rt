@@ -1,10 +1,10 @@
 ghost use Rattle.std.specs.Prelude.{◌≡◌, ◌≤◌, ◌++◌, IfOk, OnOk};
 ghost use Rattle.fx_sample.specs.Numbers.{greatest_sample};
-ghost use Rattle.fx_sample.specs.Summary.{equal_line, made_lines, summary_text as summary_text_of};
+ghost use Rattle.fx_sample.specs.Summary.{summary_text as summary_text_of};
 
-use crate::pushing::push_number_line;
+use crate::pushing::push_each;
 use fx_io::{OutOfMemory, Text};
-use fx_text::{push, push_number};
+use itoa::Buffer;
 use std::alloc::Global;
 
 /// What a sample's module says of itself.
@@ -18,21 +18,35 @@ pub struct Made {
     pub slow_latency: u64,
 }
 
-fn push_made(text: &mut Vec<u8>, made: Made) -> Result<(), OutOfMemory>
-    ensures { OnOk result (text.new.items ≡ text.old.items ++ made_lines made) }
+/// Puts the summary of the sample of so many blocks, where so many fields are equal.
+fn push_summary(text: &mut Vec<u8>, count: u32, made: Made, equal: u64) -> Result<(), OutOfMemory>
+    requires { count ≤ greatest_sample }
+    ensures { OnOk result (text.new.items ≡ text.old.items ++ summary_text_of count made equal) }
 {
-    push_number_line(text, b"multiplications ", made.multiplications)?;
-    push_number_line(text, b"latency Out ", made.out_latency)?;
-    push_number_line(text, b"latency Slow ", made.slow_latency)
-}
-
-#[tactic(auto, unfolding(crate::specs::Summary::equal_line))]
-fn push_equal(text: &mut Vec<u8>, equal: u64) -> Result<(), OutOfMemory>
-    ensures { OnOk result (text.new.items ≡ text.old.items ++ equal_line equal) }
-{
-    push(text, b"equal ")?;
-    push_number(text, equal)?;
-    push(text, b" of 12\n")
+    let mut blocks = Buffer::new();
+    let mut samples = Buffer::new();
+    let mut multiplications = Buffer::new();
+    let mut out = Buffer::new();
+    let mut slow = Buffer::new();
+    let mut fields = Buffer::new();
+    push_each(
+        text,
+        &[
+            b"blocks ",
+            blocks.format(u64::from(count) + 4).as_bytes(),
+            b"\nsamples ",
+            samples.format(8u64).as_bytes(),
+            b"\nmultiplications ",
+            multiplications.format(made.multiplications).as_bytes(),
+            b"\nlatency Out ",
+            out.format(made.out_latency).as_bytes(),
+            b"\nlatency Slow ",
+            slow.format(made.slow_latency).as_bytes(),
+            b"\nequal ",
+            fields.format(equal).as_bytes(),
+            b" of 12\n",
+        ],
+    )
 }
 
 /// The summary of the sample of so many blocks, where so many fields are equal. The only error is want
@@ -42,9 +56,6 @@ pub fn summary_text(alloc: Global, count: u32, made: Made, equal: u64) -> Result
     ensures { IfOk result (λ text. text ≡ summary_text_of count made equal) }
 {
     let mut text = Vec::new(alloc);
-    push_number_line(&mut text, b"blocks ", u64::from(count) + 4)?;
-    push_number_line(&mut text, b"samples ", 8)?;
-    push_made(&mut text, made)?;
-    push_equal(&mut text, equal)?;
+    push_summary(&mut text, count, made, equal)?;
     Text::from_vec(alloc, text)
 }
