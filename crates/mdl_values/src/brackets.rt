@@ -58,11 +58,16 @@ fn alone(alloc: Global, text: &[u8]) -> Result<Option<Texts>, OutOfMemory>
     ensures { IfOk result (λ found. found ≡ alone (words_of text.now)) }
 {
     let mut words = Texts::new(alloc);
-    push_words(alloc, &mut words, text)?;
-    if words.as_slice().len() == 1 {
-        Ok(Some(words))
-    } else {
-        Ok(None)
+    match push_words(alloc, &mut words, text) {
+        Ok(()) if words.as_slice().len() == 1 => Ok(Some(words)),
+        Ok(()) => {
+            drop(words);
+            Ok(None)
+        }
+        Err(wanting) => {
+            drop(words);
+            Err(wanting)
+        }
     }
 }
 

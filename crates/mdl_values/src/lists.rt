@@ -62,7 +62,9 @@ pub fn read_list(alloc: Global, text: &[u8]) -> Result<Option<Decimals>, OutOfMe
     let Some(elements) = elements_within(list_elements(alloc, text)?, 1, LONGEST) else {
         return Ok(None);
     };
-    decimals(alloc, &elements)
+    let list = decimals(alloc, &elements);
+    drop(elements);
+    list
 }
 
 /// Reads 1 to 1024 sizes from 1 to 1024 in brackets. Source: Simulink reference, Mux and Demux.
@@ -72,5 +74,7 @@ pub fn read_sizes(alloc: Global, text: &[u8]) -> Result<Option<Sizes>, OutOfMemo
     let Some(elements) = elements_within(bracket_elements(alloc, text)?, 1, LONGEST) else {
         return Ok(None);
     };
-    sizes(alloc, &elements)
+    let list = sizes(alloc, &elements);
+    drop(elements);
+    list
 }

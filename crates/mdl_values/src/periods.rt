@@ -43,14 +43,17 @@ fn above_zero(text: &[u8]) -> Option<Decimal>
 fn with_offset(alloc: Global, text: &[u8]) -> Result<Option<Decimal>, OutOfMemory>
     ensures { IfOk result (λ found. Finds (IsWithOffset text.now) found) }
 {
-    let Some(elements) = elements_within(bracket_elements(alloc, text)?, 2, 2) else {
+    let Some(texts) = elements_within(bracket_elements(alloc, text)?, 2, 2) else {
         return Ok(None);
     };
-    let elements = elements.as_slice();
+    let elements = texts.as_slice();
     if !is_zero(elements[1].bytes()) {
+        drop(texts);
         return Ok(None);
     }
-    Ok(above_zero(elements[0].bytes()))
+    let period = above_zero(elements[0].bytes());
+    drop(texts);
+    Ok(period)
 }
 
 /// Reads a period: a decimal above 0, or in brackets such a decimal and a zero. Source: Simulink
@@ -96,11 +99,13 @@ pub fn read_constant_time(alloc: Global, text: &[u8]) -> Result<Option<PeriodSpe
 fn bracketed_number(alloc: Global, text: &[u8]) -> Result<Option<u32>, OutOfMemory>
     ensures { IfOk result (λ found. Finds (IsBracketedNumber text.now) found) }
 {
-    let Some(elements) = elements_within(bracket_elements(alloc, text)?, 1, 1) else {
+    let Some(texts) = elements_within(bracket_elements(alloc, text)?, 1, 1) else {
         return Ok(None);
     };
-    let elements = elements.as_slice();
-    Ok(read_number(elements[0].bytes(), 1, 1024))
+    let elements = texts.as_slice();
+    let number = read_number(elements[0].bytes(), 1, 1024);
+    drop(texts);
+    Ok(number)
 }
 
 /// Reads a number from 1 to 1024, which may stand in brackets.

@@ -145,10 +145,17 @@ pub fn elements(alloc: Global, text: &[u8]) -> Result<Option<Texts>, OutOfMemory
     let mut rest = Some(text);
     while let Some(pieces) = rest {
         let (piece, after) = cut(pieces, separator);
-        if !push_piece(alloc, &mut elements, piece, separator)? {
-            return Ok(None);
+        match push_piece(alloc, &mut elements, piece, separator) {
+            Ok(true) => rest = after,
+            Ok(false) => {
+                drop(elements);
+                return Ok(None);
+            }
+            Err(wanting) => {
+                drop(elements);
+                return Err(wanting);
+            }
         }
-        rest = after;
     }
     Ok(Some(elements))
 }

@@ -7,4 +7,4 @@ pub returns-in_default : goal.returns-in_default
 returns-in_default c = λ list. no_size IsDecimal (list_elements c.args.text.now) list (rw c.in_ok-list_elements.ensures at c.in_default.ensures)
 
 pub returns : goal.returns
-returns c = list_found IsDecimal (list_elements c.args.text.now) c.in-Some.elements c.decimals.result (rw c.in_ok-list_elements.ensures at c.in-Some.ensures) c.decimals.ensures
+returns c = list_found IsDecimal (list_elements c.args.text.now) c.in-Some.elements c.decimals-list.result (rw c.in_ok-list_elements.ensures at c.in-Some.ensures) c.decimals-list.ensures

@@ -7,4 +7,4 @@ pub returns-in_default : goal.returns-in_default
 returns-in_default c = λ list. no_size IsSizeText (bracket_elements c.args.text.now) list (rw c.in_ok-bracket_elements.ensures at c.in_default.ensures)
 
 pub returns : goal.returns
-returns c = list_found IsSizeText (bracket_elements c.args.text.now) c.in-Some.elements c.sizes.result (rw c.in_ok-bracket_elements.ensures at c.in-Some.ensures) c.sizes.ensures
+returns c = list_found IsSizeText (bracket_elements c.args.text.now) c.in-Some.elements c.sizes-list.result (rw c.in_ok-bracket_elements.ensures at c.in-Some.ensures) c.sizes-list.ensures
