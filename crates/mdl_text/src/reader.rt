@@ -148,11 +148,7 @@ impl<'a> Reader<'a> {
     {
         let (_, rest) = line.split_at(begun);
         match list_end(nesting, rest) {
-            ListEnd::Closed { taken } => {
-                if !are_blanks(&rest[taken..]) {
-                    drop(said);
-                    return Ok(false);
-                }
+            ListEnd::Closed { taken } if are_blanks(&rest[taken..]) => {
                 let list = said.with(alloc, &line[..begun + taken])?;
                 self.draft.add(alloc, name.bytes(), Kind::List, list)?;
                 Ok(true)
@@ -166,7 +162,7 @@ impl<'a> Reader<'a> {
                 });
                 Ok(true)
             }
-            ListEnd::Broken => {
+            ListEnd::Closed { .. } | ListEnd::Broken => {
                 drop(said);
                 Ok(false)
             }

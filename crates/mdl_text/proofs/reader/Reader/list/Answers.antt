@@ -29,4 +29,4 @@ closed_list draft made pending name own said line rest left list begun taken nes
 pub returns-in_ok-add-in-Closed : goal.returns-in_ok-add-in-Closed
 returns-in_ok-add-in-Closed c =
     closed_list c.args.self.now.draft c.add.new.self c.args.self.now.pending c.args.name c.bytes.result.now c.args.said c.args.line.now c.split_at.result.1.now _ c.in_ok-list-in-Closed.list c.args.begun c.in-Closed.taken c.args.nesting
-    c.split_at.ensures.back c.in-Closed.ensures.value (take_rest c.split_at.result.1.now c.in-Closed.taken) (sym c.are_blanks.ensures ∙ c.if-not-are_blanks.false) c.in_ok-list-in-Closed.ensures c.bytes.ensures c.in_ok-add-in-Closed.ensures c.requires.free
+    c.split_at.ensures.back c.in-Closed.ensures.value (take_rest c.split_at.result.1.now c.in-Closed.taken) (sym c.are_blanks.ensures ∙ c.if-are_blanks.true) c.in_ok-list-in-Closed.ensures c.bytes.ensures c.in_ok-add-in-Closed.ensures c.requires.free
