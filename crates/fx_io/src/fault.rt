@@ -2,7 +2,7 @@ use std::alloc::{AllocError, AllocFailed};
 use thiserror::Error;
 
 /// Memory is wanting (own). It is the one answer that no clause ties to a cause.
-#[derive(Clone, Copy, Debug, PartialEq, Eq, Error)]
+#[derive(Clone, Copy, Debug, Error)]
 #[error("out of memory")]
 pub struct OutOfMemory;
 

@@ -27,6 +27,5 @@ pub fn push_at<E: Drop>(rows: &mut Vec<Sequence<E>>, row: u32, item: E) -> Resul
     requires { row < length rows.old.items }
     ensures { OnOk result (rows.new.items ≡ noted rows.old.items row item) }
 {
-    rows[row as usize].push(item)?;
-    Ok(())
+    rows[row as usize].push(item)
 }

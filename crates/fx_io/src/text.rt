@@ -2,6 +2,7 @@ ghost use Rattle.std.specs.Prelude.{◌≡◌, ◌+◌, ◌≤◌, [], ◌++◌,
 
 use crate::fault::OutOfMemory;
 use std::alloc::Global;
+use std::fmt::{self, Debug, Formatter, Write};
 use std::marker::Model;
 
 /// So many bytes stand in the text itself, which then takes no memory of its own. The text is of 24
@@ -9,14 +10,14 @@ use std::marker::Model;
 const SHORT: usize = 22;
 
 /// Where the bytes stand.
-#[derive(Debug, Drop)]
+#[derive(Drop)]
 enum Held {
     Short { length: u8, bytes: [u8; 22] },
     Long(Box<Vec<u8>>),
 }
 
 /// A list of bytes (own), of which up to 22 take no memory of their own. Contracts see the list.
-#[derive(Debug, Drop)]
+#[derive(Drop)]
 pub struct Text {
     held: Held,
 }
@@ -30,6 +31,12 @@ impl Model for Text {
     ghost view = { λ text. held_bytes text.held };
 
     ghost invariant = { λ text. IsHeld text.held };
+}
+
+impl Debug for Text {
+    fn fmt<W: Write>(&self, f: &mut Formatter<W>) -> fmt::Result {
+        self.bytes().fmt(f)
+    }
 }
 
 impl Text {
