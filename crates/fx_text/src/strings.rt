@@ -2,6 +2,7 @@ ghost use Rattle.std.specs.Prelude.{ℕ, List, ◌≡◌, ◌≢◌, ◌<◌, �
 ghost use Rattle.std.specs.List.{prefix_len};
 ghost use Rattle.fx_text.specs.Strings.{quote_mark, string_behind, prepend, escaped, is_plain, IsString};
 
+use crate::pushing::push;
 use fx_io::{OutOfMemory, Text};
 use std::alloc::Global;
 
@@ -59,15 +60,11 @@ pub fn push_escaped(content: &mut Vec<u8>, byte: u8) -> Result<(), OutOfMemory>
     ensures { OnOk result (content.new.items ≡ content.old.items ++ escaped byte) }
 {
     match byte {
-        b'n' => content.push(b'\n')?,
-        b't' => content.push(b'\t')?,
-        b'"' | b'\\' => content.push(byte)?,
-        _ => {
-            content.push(b'\\')?;
-            content.push(byte)?;
-        }
+        b'n' => push(content, b"\n"),
+        b't' => push(content, b"\t"),
+        b'"' | b'\\' => push(content, &[byte]),
+        _ => push(content, &[b'\\', byte]),
     }
-    Ok(())
 }
 
 /// How many bytes from the front on stand for themselves in a string.
