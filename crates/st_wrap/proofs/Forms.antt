@@ -1,5 +1,5 @@
 -- What is made of the renamed parts of an expression is the expression renamed.
-use Rattle.std.proofs.Common.{◌≡◌, ◌∙◌, ℕ, List, map, refl, ap, sym}
+use Rattle.std.proofs.Common.{◌≡◌, ◌∙◌, ℕ, IfOk, List, Ok, Result, map, refl, ap, subst, sym}
 use Rattle.vl_ast.specs.declared.expressions.UnOp.{UnOp}
 use Rattle.vl_ast.specs.declared.expressions.BinOp.{BinOp}
 use Rattle.vl_ast.specs.declared.expressions.ShiftOp.{ShiftOp}
@@ -94,3 +94,8 @@ over-cast part e no-repeat no-signed no-unary no-shift = by (out-Expr e) (sym (r
   by (Expr-F.Unary op old) is = absurd (no-unary op old (is ∙ rolls-Unary op old))
   by (Expr-F.Shift op old amount) is = absurd (no-shift op old amount (is ∙ rolls-Shift op old amount))
   by other is = refl
+
+-- ---- what was made
+
+pub made-is : {A E : Type 0} (r : Result A E) (x y : A) → r ≡ Ok x → IfOk r (λ made. made ≡ y) → x ≡ y
+made-is r x y is made = subst (λ (r : Result _ _). IfOk r (λ made. made ≡ y)) is made

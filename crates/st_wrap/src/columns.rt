@@ -1,14 +1,14 @@
 //! The columns of the core, each with the name of the wrapper's port.
-ghost use Rattle.std.specs.Prelude.{◌≡◌, ◌++◌, ◌∷◌, [], filter, map, IfOk, OnOk};
+ghost use Rattle.std.specs.Prelude.{◌≡◌, filter, map, IfOk};
 ghost use Rattle.std.specs.List.{zip};
 ghost use Rattle.vl_ast.specs.Control.{is_stallable};
 ghost use Rattle.vl_ast.specs.Attributes.{clocks_of};
 ghost use Rattle.st_wrap.specs.inner.Columns.{column_of, is_column, output_column};
 
 use crate::pace::samples_late;
-use fx_io::{OutOfMemory, Sequence, Text};
+use fx_io::{Sequence, Text};
 use std::alloc::Global;
-use vl_ast::{Module, Port, clocks_of};
+use vl_ast::{Made, Module, Port, begin, both, clocks_of, finish, put};
 use vl_check::{is_number_input, is_number_output, is_stallable};
 
 /// A port of the core that carries numbers.
@@ -27,19 +27,13 @@ pub struct Column {
 /// Columns in order.
 pub type Columns = Sequence<Column>;
 
-/// Puts the column of a port with this name behind the others.
-fn put_column(
-    alloc: Global,
-    port: &Port,
-    name: &Text,
-    late: u64,
-    columns: &mut Columns,
-) -> Result<(), OutOfMemory>
-    ensures { OnOk result (columns.new ≡ columns.old ++ column_of late (port.now, name.now) ∷ []) }
+/// The column of a port with this name.
+fn column_for(alloc: Global, port: &Port, name: &Text, late: u64) -> Made<Column>
+    ensures { IfOk result (λ column. column ≡ column_of late (port.now, name.now)) }
 {
-    let inner = Text::copy(alloc, port.name.bytes())?;
-    let name = Text::copy(alloc, name.bytes())?;
-    columns.push(Column {
+    let inner = Text::copy(alloc, port.name.bytes());
+    let (inner, name) = both(inner, Text::copy(alloc, name.bytes()))?;
+    Ok(Column {
         inner,
         name,
         signed: port.signed,
@@ -67,23 +61,22 @@ pub fn columns(
     input: bool,
     latest: u64,
     names: &[Text],
-) -> Result<Columns, OutOfMemory>
+) -> Made<Columns>
     ensures { IfOk result (λ columns. columns ≡ map (output_column (clocks_of core.now) latest)
         (zip (filter (is_column input (is_stallable core.now)) core.now.ports) names.now)) }
 {
     let stalls = is_stallable(core);
     let cycles = clocks_of(core);
-    let mut columns = Columns::new(alloc);
+    let mut out = begin(alloc);
     let mut left = names;
     for port in core.ports.as_slice() {
         if is_column(port, input, stalls) {
-            let Some((name, others)) = left.split_first() else {
-                return Ok(columns);
-            };
-            let late = latest.saturating_sub(samples_late(cycles, port));
-            put_column(alloc, port, name, late, &mut columns)?;
-            left = others;
+            if let Some((name, others)) = left.split_first() {
+                let late = latest.saturating_sub(samples_late(cycles, port));
+                put(&mut out, column_for(alloc, port, name, late));
+                left = others;
+            }
         }
     }
-    Ok(columns)
+    finish(out)
 }

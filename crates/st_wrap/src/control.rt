@@ -1,149 +1,106 @@
 //! The wrapper's counters, and what it makes of them.
-ghost use Rattle.std.specs.Prelude.{◌≡◌, ◌++◌, ◌∷◌, [], false, IfOk, OnOk};
+ghost use Rattle.std.specs.Prelude.{◌≡◌, ◌∷◌, [], false, if◌then◌else◌, IfOk};
 ghost use Rattle.vl_ast.specs.declared.expressions.Expr.TheVariants.{Name, Binary};
 ghost use Rattle.vl_ast.specs.declared.modules.ModItem.TheVariants.{Wire, Reg};
-ghost use Rattle.st_wrap.specs.inner.Control.{control_declared, control_driven, handshake_driven, signals_driven};
+ghost use Rattle.vl_ast.specs.Listing.{Lists};
+ghost use Rattle.st_wrap.specs.inner.Control.{control_declared, control_driven, signals_driven};
 ghost use Rattle.st_wrap.specs.inner.Control.{next_phase, next_wait, number, unless};
 
-use crate::expressions::{binary_of_names, boxed_name, is_zero, moving, name_of, number, plain};
-use crate::items::{assign, put};
+use crate::expressions::{assign, binary_of_names, is_zero, moving, name_of, number, plain};
 use crate::pace::{Counter, Counters};
-use fx_io::{OutOfMemory, Text};
+use fx_io::Text;
 use std::alloc::Global;
-use vl_ast::{BinOp, Expr, ModItem, ModItems, binary, choose, in_box, register};
+use vl_ast::{BinOp, Expr, Listing, Made, ModItem, binary, choose, put_declaration, put_register};
 
-fn declare_wire(alloc: Global, name: &[u8], items: &mut ModItems) -> Result<(), OutOfMemory>
-    ensures { OnOk result (items.new ≡ items.old ++ Wire false 1 name.now ∷ []) }
+/// Declares an unsigned register, or else a wire.
+fn declare_net(alloc: Global, out: &mut Listing<ModItem>, is_reg: bool, width: u32, name: &[u8])
+    ensures { Lists out.old out.new
+        ((if is_reg then Reg false width name.now else Wire false width name.now) ∷ []) }
 {
-    let name = Text::copy(alloc, name)?;
-    items.push(ModItem::Wire {
-        signed: false,
-        width: 1,
-        name,
-    })
-}
-
-fn declare_reg(
-    alloc: Global,
-    name: &[u8],
-    width: u32,
-    items: &mut ModItems,
-) -> Result<(), OutOfMemory>
-    ensures { OnOk result (items.new ≡ items.old ++ Reg false width name.now ∷ []) }
-{
-    let name = Text::copy(alloc, name)?;
-    items.push(ModItem::Reg {
-        signed: false,
-        width,
-        name,
-    })
+    put_declaration(out, is_reg, false, width, Text::copy(alloc, name));
 }
 
 /// Declares the signals and the counters.
-pub fn declare(alloc: Global, counters: Counters, items: &mut ModItems) -> Result<(), OutOfMemory>
-    ensures { OnOk result (items.new ≡ items.old ++ control_declared counters) }
+pub fn declare(alloc: Global, out: &mut Listing<ModItem>, counters: Counters)
+    ensures { Lists out.old out.new (control_declared counters) }
 {
-    declare_wire(alloc, b"fx_begin", items)?;
-    declare_wire(alloc, b"fx_end", items)?;
-    declare_wire(alloc, b"fx_due", items)?;
-    declare_wire(alloc, b"fx_fed", items)?;
-    declare_wire(alloc, b"fx_open", items)?;
-    declare_reg(alloc, b"fx_phase", counters.phase.width, items)?;
-    declare_reg(alloc, b"fx_wait", counters.wait.width, items)
+    declare_net(alloc, out, false, 1, b"fx_begin");
+    declare_net(alloc, out, false, 1, b"fx_end");
+    declare_net(alloc, out, false, 1, b"fx_due");
+    declare_net(alloc, out, false, 1, b"fx_fed");
+    declare_net(alloc, out, false, 1, b"fx_open");
+    declare_net(alloc, out, true, counters.phase.width, b"fx_phase");
+    declare_net(alloc, out, true, counters.wait.width, b"fx_wait");
 }
 
 /// A name and a number, with an operator between them.
-fn with_number(
-    alloc: Global,
-    op: BinOp,
-    name: &[u8],
-    width: u32,
-    bits: u64,
-) -> Result<Expr, OutOfMemory>
+fn with_number(alloc: Global, op: BinOp, name: &[u8], width: u32, bits: u64) -> Made<Expr>
     ensures { IfOk result (λ e. e ≡ Binary op (Name name.now) (number width bits)) }
 {
-    binary(op, boxed_name(alloc, name), number(alloc, width, bits))
+    binary(alloc, op, name_of(alloc, name), Ok(number(width, bits)))
 }
 
-fn unless(alloc: Global, name: &[u8], signal: &[u8]) -> Result<Expr, OutOfMemory>
+fn unless(alloc: Global, name: &[u8], signal: &[u8]) -> Made<Expr>
     ensures { IfOk result (λ e. e ≡ unless name.now signal.now) }
 {
-    let other = in_box(alloc, is_zero(alloc, name));
-    binary(BinOp::Either, other, boxed_name(alloc, signal))
+    let other = is_zero(alloc, name);
+    binary(alloc, BinOp::Either, other, name_of(alloc, signal))
 }
 
-fn next_phase(alloc: Global, phase: Counter) -> Result<Expr, OutOfMemory>
+fn next_phase(alloc: Global, phase: Counter) -> Made<Expr>
     ensures { IfOk result (λ e. e ≡ next_phase phase) }
 {
-    let more = in_box(
-        alloc,
-        with_number(alloc, BinOp::Add, b"fx_phase", phase.width, 1),
-    );
-    choose(
-        boxed_name(alloc, b"fx_end"),
-        number(alloc, phase.width, 0),
-        more,
-    )
+    let end = name_of(alloc, b"fx_end");
+    let more = with_number(alloc, BinOp::Add, b"fx_phase", phase.width, 1);
+    choose(alloc, end, Ok(number(phase.width, 0)), more)
 }
 
-fn next_wait(alloc: Global, wait: Counter) -> Result<Expr, OutOfMemory>
+fn next_wait(alloc: Global, wait: Counter) -> Made<Expr>
     ensures { IfOk result (λ e. e ≡ next_wait wait) }
 {
-    let fewer = in_box(
-        alloc,
-        with_number(alloc, BinOp::Subtract, b"fx_wait", wait.width, 1),
-    );
-    choose(
-        boxed_name(alloc, b"fx_wait"),
-        fewer,
-        number(alloc, wait.width, 0),
-    )
+    let left = name_of(alloc, b"fx_wait");
+    let fewer = with_number(alloc, BinOp::Subtract, b"fx_wait", wait.width, 1);
+    choose(alloc, left, fewer, Ok(number(wait.width, 0)))
 }
 
-fn put_assignments(alloc: Global, phase: Counter, items: &mut ModItems) -> Result<(), OutOfMemory>
-    ensures { OnOk result (items.new ≡ items.old ++ signals_driven phase) }
+fn put_signals(alloc: Global, out: &mut Listing<ModItem>, phase: Counter)
+    ensures { Lists out.old out.new (signals_driven phase) }
 {
-    assign(alloc, b"fx_begin", is_zero(alloc, b"fx_phase"), items)?;
+    assign(alloc, out, b"fx_begin", is_zero(alloc, b"fx_phase"));
     let last = with_number(alloc, BinOp::Equal, b"fx_phase", phase.width, phase.most);
-    assign(alloc, b"fx_end", last, items)?;
-    let waited = in_box(alloc, is_zero(alloc, b"fx_wait"));
-    let due = binary(BinOp::Both, boxed_name(alloc, b"fx_end"), waited);
-    assign(alloc, b"fx_due", due, items)?;
+    assign(alloc, out, b"fx_end", last);
+    let waited = is_zero(alloc, b"fx_wait");
+    let due = binary(alloc, BinOp::Both, name_of(alloc, b"fx_end"), waited);
+    assign(alloc, out, b"fx_due", due);
     let fed = unless(alloc, b"fx_begin", b"in_valid");
-    assign(alloc, b"fx_fed", fed, items)?;
+    assign(alloc, out, b"fx_fed", fed);
     let open = unless(alloc, b"fx_due", b"out_ready");
-    assign(alloc, b"fx_open", open, items)
+    assign(alloc, out, b"fx_open", open);
 }
 
-fn put_handshake(alloc: Global, items: &mut ModItems) -> Result<(), OutOfMemory>
-    ensures { OnOk result (items.new ≡ items.old ++ handshake_driven) }
+/// Drives the signals, the handshake and the counters.
+pub fn drive(alloc: Global, out: &mut Listing<ModItem>, counters: Counters)
+    ensures { Lists out.old out.new (control_driven counters) }
 {
+    put_signals(alloc, out, counters.phase);
     let moves = binary_of_names(alloc, BinOp::Both, b"fx_fed", b"fx_open");
-    assign(alloc, b"fx_core_clk_enable", moves, items)?;
+    assign(alloc, out, b"fx_core_clk_enable", moves);
     let ready = binary_of_names(alloc, BinOp::Both, b"fx_begin", b"fx_open");
-    assign(alloc, b"in_ready", ready, items)?;
+    assign(alloc, out, b"in_ready", ready);
     let valid = binary_of_names(alloc, BinOp::Both, b"fx_due", b"fx_fed");
-    assign(alloc, b"out_valid", valid, items)
-}
-
-/// Drives the signals and the counters.
-pub fn drive(alloc: Global, counters: Counters, items: &mut ModItems) -> Result<(), OutOfMemory>
-    ensures { OnOk result (items.new ≡ items.old ++ control_driven counters) }
-{
-    put_assignments(alloc, counters.phase, items)?;
-    put_handshake(alloc, items)?;
-    let phase = register(
+    assign(alloc, out, b"out_valid", valid);
+    put_register(
+        out,
         Text::copy(alloc, b"fx_phase"),
         plain(counters.phase.width, 0),
-        name_of(Text::copy(alloc, b"fx_core_clk_enable")),
+        name_of(alloc, b"fx_core_clk_enable"),
         next_phase(alloc, counters.phase),
     );
-    put(items, phase)?;
-    let wait = register(
+    put_register(
+        out,
         Text::copy(alloc, b"fx_wait"),
         plain(counters.wait.width, counters.wait.most),
         moving(alloc, b"fx_end"),
         next_wait(alloc, counters.wait),
     );
-    put(items, wait)
 }

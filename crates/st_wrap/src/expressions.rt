@@ -1,26 +1,23 @@
-//! Expressions from their parts.
-ghost use Rattle.std.specs.Prelude.{◌≡◌, ℕ, List, IfOk};
+//! Expressions from their parts, and items from names as bytes.
+ghost use Rattle.std.specs.Prelude.{◌≡◌, ◌∷◌, [], IfOk};
+ghost use Rattle.vl_ast.specs.declared.expressions.Expr.{Expr};
 ghost use Rattle.vl_ast.specs.declared.expressions.Expr.TheVariants.{Name, Binary};
+ghost use Rattle.vl_ast.specs.declared.modules.ModItem.TheVariants.{Assign};
+ghost use Rattle.vl_ast.specs.Listing.{Lists};
 ghost use Rattle.st_wrap.specs.inner.Columns.{moving, plain};
 ghost use Rattle.st_wrap.specs.inner.Control.{is_zero, number};
 
-use fx_io::{Boxed, OutOfMemory, Text};
+use fx_io::Text;
 use std::alloc::Global;
-use vl_ast::{BinOp, Bits128, Expr, Sized, UnOp, binary};
-
-/// A name, which may have wanted memory.
-pub fn name_of(name: Result<Text, OutOfMemory>) -> Result<Expr, OutOfMemory>
-    ensures { (text : List ℕ) → IfOk name (λ made. made ≡ text)
-        → IfOk result (λ e. e ≡ Name text) }
-{
-    Ok(Expr::Name(name?))
-}
+use vl_ast::{
+    BinOp, Bits128, Expr, Listing, Made, ModItem, Sized, UnOp, binary, named, put_assignment, unary,
+};
 
 /// A name.
-pub fn boxed_name(alloc: Global, name: &[u8]) -> Result<Boxed<Expr>, OutOfMemory>
+pub fn name_of(alloc: Global, name: &[u8]) -> Made<Expr>
     ensures { IfOk result (λ e. e ≡ Name name.now) }
 {
-    Boxed::new(alloc, Expr::Name(Text::copy(alloc, name)?))
+    named(Text::copy(alloc, name))
 }
 
 /// So many bits without sign.
@@ -35,34 +32,37 @@ pub fn plain(width: u32, bits: u64) -> Sized
 }
 
 /// So many bits without sign, as an expression.
-pub fn number(alloc: Global, width: u32, bits: u64) -> Result<Boxed<Expr>, OutOfMemory>
-    ensures { IfOk result (λ e. e ≡ number width bits) }
+pub fn number(width: u32, bits: u64) -> Expr
+    ensures { result ≡ number width bits }
 {
-    Boxed::new(alloc, Expr::Literal(plain(width, bits)))
+    Expr::Literal(plain(width, bits))
 }
 
 /// 1 where the name is 0.
-pub fn is_zero(alloc: Global, name: &[u8]) -> Result<Expr, OutOfMemory>
+pub fn is_zero(alloc: Global, name: &[u8]) -> Made<Expr>
     ensures { IfOk result (λ e. e ≡ is_zero name.now) }
 {
-    Ok(Expr::Unary(UnOp::IsZero, boxed_name(alloc, name)?))
+    unary(alloc, UnOp::IsZero, name_of(alloc, name))
 }
 
 /// An operator between two names.
-pub fn binary_of_names(
-    alloc: Global,
-    op: BinOp,
-    left: &[u8],
-    right: &[u8],
-) -> Result<Expr, OutOfMemory>
+pub fn binary_of_names(alloc: Global, op: BinOp, left: &[u8], right: &[u8]) -> Made<Expr>
     ensures { IfOk result (λ e. e ≡ Binary op (Name left.now) (Name right.now)) }
 {
-    binary(op, boxed_name(alloc, left), boxed_name(alloc, right))
+    binary(alloc, op, name_of(alloc, left), name_of(alloc, right))
 }
 
 /// The row moves, and the name is 1.
-pub fn moving(alloc: Global, name: &[u8]) -> Result<Expr, OutOfMemory>
+pub fn moving(alloc: Global, name: &[u8]) -> Made<Expr>
     ensures { IfOk result (λ e. e ≡ moving name.now) }
 {
     binary_of_names(alloc, BinOp::Both, b"fx_core_clk_enable", name)
+}
+
+/// Puts the assignment of a value behind the other items.
+pub fn assign(alloc: Global, out: &mut Listing<ModItem>, name: &[u8], value: Made<Expr>)
+    ensures { (taken : Expr) → IfOk value (λ made. made ≡ taken)
+        → Lists out.old out.new (Assign name.now taken ∷ []) }
+{
+    put_assignment(out, Text::copy(alloc, name), value);
 }

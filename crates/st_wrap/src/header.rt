@@ -1,44 +1,35 @@
 //! The ports of the wrapper.
-ghost use Rattle.std.specs.Prelude.{◌≡◌, ◌++◌, map, OnOk};
+ghost use Rattle.std.specs.Prelude.{◌≡◌, map, IfOk};
+ghost use Rattle.vl_ast.specs.Listing.{Lists};
 ghost use Rattle.st_wrap.specs.inner.Columns.{port_of};
 ghost use Rattle.st_wrap.specs.inner.Wrapped.{ports_of};
 
 use crate::columns::Column;
-use fx_io::OutOfMemory;
 use std::alloc::Global;
-use vl_ast::{Ports, put_bit_port, put_data_port};
+use vl_ast::{Listing, Made, Port, Ports, begin, finish, put_bit_port, put_data_port};
 
 /// Puts the port of each column.
-fn put_columns(
-    alloc: Global,
-    columns: &[Column],
-    input: bool,
-    ports: &mut Ports,
-) -> Result<(), OutOfMemory>
-    ensures { OnOk result (ports.new ≡ ports.old ++ map (port_of input) columns.now) }
+fn put_columns(alloc: Global, out: &mut Listing<Port>, columns: &[Column], input: bool)
+    ensures { Lists out.old out.new (map (port_of input) columns.now) }
 {
     for column in columns {
         let word = (column.width, column.signed);
-        put_data_port(alloc, ports, column.name.bytes(), input, word, 1, 0)?;
+        put_data_port(alloc, out, column.name.bytes(), input, word, 1, 0);
     }
-    Ok(())
 }
 
-/// Puts the ports of the wrapper.
-pub fn put_ports(
-    alloc: Global,
-    inputs: &[Column],
-    outputs: &[Column],
-    ports: &mut Ports,
-) -> Result<(), OutOfMemory>
-    ensures { OnOk result (ports.new ≡ ports.old ++ ports_of inputs.now outputs.now) }
+/// The ports of the wrapper.
+pub fn ports_of(alloc: Global, inputs: &[Column], outputs: &[Column]) -> Made<Ports>
+    ensures { IfOk result (λ ports. ports ≡ ports_of inputs.now outputs.now) }
 {
-    put_bit_port(alloc, ports, b"clk", true)?;
-    put_bit_port(alloc, ports, b"reset", true)?;
-    put_data_port(alloc, ports, b"in_valid", true, (1, false), 1, 0)?;
-    put_columns(alloc, inputs, true, ports)?;
-    put_data_port(alloc, ports, b"out_ready", true, (1, false), 1, 0)?;
-    put_data_port(alloc, ports, b"in_ready", false, (1, false), 1, 0)?;
-    put_data_port(alloc, ports, b"out_valid", false, (1, false), 1, 0)?;
-    put_columns(alloc, outputs, false, ports)
+    let mut out = begin(alloc);
+    put_bit_port(alloc, &mut out, b"clk", true);
+    put_bit_port(alloc, &mut out, b"reset", true);
+    put_data_port(alloc, &mut out, b"in_valid", true, (1, false), 1, 0);
+    put_columns(alloc, &mut out, inputs, true);
+    put_data_port(alloc, &mut out, b"out_ready", true, (1, false), 1, 0);
+    put_data_port(alloc, &mut out, b"in_ready", false, (1, false), 1, 0);
+    put_data_port(alloc, &mut out, b"out_valid", false, (1, false), 1, 0);
+    put_columns(alloc, &mut out, outputs, false);
+    finish(out)
 }

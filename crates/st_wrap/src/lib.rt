@@ -30,7 +30,6 @@ mod columns;
 mod control;
 mod expressions;
 mod header;
-mod items;
 mod names;
 mod pace;
 mod registers;

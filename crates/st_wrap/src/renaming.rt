@@ -1,122 +1,111 @@
 //! The core's items and ports in the wrapper.
-ghost use Rattle.std.specs.Prelude.{◌≡◌, ◌++◌, map, IfOk, OnOk};
+ghost use Rattle.std.specs.Prelude.{◌≡◌, ◌∷◌, [], ℕ, List, map, IfOk};
+ghost use Rattle.vl_ast.specs.declared.expressions.Expr.{Expr};
 ghost use Rattle.vl_ast.specs.declared.expressions.Expr.TheViews.{out-Expr};
-ghost use Rattle.st_wrap.specs.inner.Names.{inner_name};
+ghost use Rattle.vl_ast.specs.Listing.{Lists};
 ghost use Rattle.st_wrap.specs.inner.Renamed.{core_items, renamed, renamed_condition, renamed_item, wires_of, with_name, with_part};
 
-use crate::items::put;
 use crate::names::{inner_name, is_shared};
-use fx_io::{Boxed, OutOfMemory, Text};
+use fx_io::Text;
 use std::alloc::Global;
 use vl_ast::{
-    Expr, Exprs, ModItem, ModItems, Module, assignment, binary, choose, clocked_item, in_box, reg,
-    wire,
+    Expr, Exprs, Listing, Made, ModItem, Module, begin, binary, choose, concat, finish, in_box,
+    put, put_assignment, put_clocked, put_declaration, some_condition,
 };
 
 /// A bit or a part, as the expression is, of another name; else the name.
-fn over_name(e: &Expr, name: Text) -> Expr
-    ensures { result ≡ with_name (out-Expr e.now) name }
+fn over_name(e: &Expr, name: Made<Text>) -> Made<Expr>
+    ensures { (text : List ℕ) → IfOk name (λ made. made ≡ text)
+        → IfOk result (λ made. made ≡ with_name (out-Expr e.now) text) }
 {
+    let name = name?;
     match e {
-        Expr::Bit(_, place) => Expr::Bit(name, *place),
-        Expr::Part(_, high, low) => Expr::Part(name, *high, *low),
-        _ => Expr::Name(name),
+        Expr::Bit(_, place) => Ok(Expr::Bit(name, *place)),
+        Expr::Part(_, high, low) => Ok(Expr::Part(name, *high, *low)),
+        _ => Ok(Expr::Name(name)),
     }
 }
 
 /// What the expression makes of one operand, made of another; else a cast without sign.
-fn over_part(e: &Expr, part: Boxed<Expr>) -> Expr
-    ensures { result ≡ with_part (out-Expr e.now) part }
+fn over_part(alloc: Global, e: &Expr, part: Made<Expr>) -> Made<Expr>
+    ensures { (is : Expr) → IfOk part (λ made. made ≡ is)
+        → IfOk result (λ made. made ≡ with_part (out-Expr e.now) is) }
 {
+    let part = in_box(alloc, part)?;
     match e {
-        Expr::Repeat(count, _) => Expr::Repeat(*count, part),
-        Expr::AsSigned(_) => Expr::AsSigned(part),
-        Expr::Unary(op, _) => Expr::Unary(*op, part),
-        Expr::Shift(op, _, amount) => Expr::Shift(*op, part, *amount),
-        _ => Expr::AsUnsigned(part),
+        Expr::Repeat(count, _) => Ok(Expr::Repeat(*count, part)),
+        Expr::AsSigned(_) => Ok(Expr::AsSigned(part)),
+        Expr::Unary(op, _) => Ok(Expr::Unary(*op, part)),
+        Expr::Shift(op, _, amount) => Ok(Expr::Shift(*op, part, *amount)),
+        _ => Ok(Expr::AsUnsigned(part)),
     }
 }
 
 /// An expression over the names that the core's have in the wrapper. The recursion is as deep as the
 /// expression nests.
 #[cycle(renaming)]
-fn renamed_expr(alloc: Global, e: &Expr) -> Result<Expr, OutOfMemory>
+fn renamed_expr(alloc: Global, e: &Expr) -> Made<Expr>
     ensures { IfOk result (λ made. made ≡ renamed e.now) }
 {
     match e {
         Expr::Name(name) | Expr::Bit(name, _) | Expr::Part(name, _, _) => {
-            Ok(over_name(e, inner_name(alloc, name.bytes())?))
+            over_name(e, inner_name(alloc, name.bytes()))
         }
         Expr::Literal(number) => Ok(Expr::Literal(*number)),
-        Expr::Concat(parts) => Ok(Expr::Concat(renamed_parts(alloc, parts.as_slice())?)),
+        Expr::Concat(parts) => concat(renamed_parts(alloc, parts.as_slice())),
         Expr::Repeat(_, part)
         | Expr::AsSigned(part)
         | Expr::AsUnsigned(part)
         | Expr::Unary(_, part)
-        | Expr::Shift(_, part, _) => Ok(over_part(e, renamed_boxed(alloc, part.get())?)),
+        | Expr::Shift(_, part, _) => over_part(alloc, e, renamed_expr(alloc, part.get())),
         Expr::Binary(op, left, right) => {
-            let left = renamed_boxed(alloc, left.get());
-            binary(*op, left, renamed_boxed(alloc, right.get()))
+            let left = renamed_expr(alloc, left.get());
+            binary(alloc, *op, left, renamed_expr(alloc, right.get()))
         }
         Expr::Choose(test, chosen, other) => {
-            let test = renamed_boxed(alloc, test.get());
-            let chosen = renamed_boxed(alloc, chosen.get());
-            choose(test, chosen, renamed_boxed(alloc, other.get()))
+            let test = renamed_expr(alloc, test.get());
+            let chosen = renamed_expr(alloc, chosen.get());
+            choose(alloc, test, chosen, renamed_expr(alloc, other.get()))
         }
     }
 }
 
 #[cycle(renaming)]
-fn renamed_boxed(alloc: Global, e: &Expr) -> Result<Boxed<Expr>, OutOfMemory>
-    ensures { IfOk result (λ made. made ≡ renamed e.now) }
-{
-    in_box(alloc, renamed_expr(alloc, e))
-}
-
-#[cycle(renaming)]
-fn renamed_parts(alloc: Global, parts: &[Expr]) -> Result<Exprs, OutOfMemory>
+fn renamed_parts(alloc: Global, parts: &[Expr]) -> Made<Exprs>
     ensures { IfOk result (λ made. made ≡ map renamed parts.now) }
 {
-    let mut made = Exprs::new(alloc);
+    let mut out = begin(alloc);
     for part in parts {
-        made.push(renamed_expr(alloc, part)?)?;
+        put(&mut out, renamed_expr(alloc, part));
     }
-    Ok(made)
+    finish(out)
 }
 
-fn renamed_condition(alloc: Global, condition: &Option<Expr>) -> Result<Option<Expr>, OutOfMemory>
+fn renamed_condition(alloc: Global, condition: &Option<Expr>) -> Made<Option<Expr>>
     ensures { IfOk result (λ made. made ≡ renamed_condition condition.now) }
 {
     match condition {
         None => Ok(None),
-        Some(condition) => Ok(Some(renamed_expr(alloc, condition)?)),
+        Some(condition) => some_condition(renamed_expr(alloc, condition)),
     }
 }
 
-fn renamed_item(alloc: Global, item: &ModItem) -> Result<ModItem, OutOfMemory>
-    ensures { IfOk result (λ made. made ≡ renamed_item item.now) }
+fn put_renamed(alloc: Global, out: &mut Listing<ModItem>, item: &ModItem)
+    ensures { Lists out.old out.new (renamed_item item.now ∷ []) }
 {
+    let name = inner_name(alloc, item.name());
     match item {
-        ModItem::Wire {
-            signed,
-            width,
-            name,
-        } => wire(*signed, *width, inner_name(alloc, name.bytes())),
-        ModItem::Reg {
-            signed,
-            width,
-            name,
-        } => reg(*signed, *width, inner_name(alloc, name.bytes())),
-        ModItem::Assign { name, value } => {
-            assignment(inner_name(alloc, name.bytes()), renamed_expr(alloc, value))
-        }
+        ModItem::Wire { signed, width, .. } => put_declaration(out, false, *signed, *width, name),
+        ModItem::Reg { signed, width, .. } => put_declaration(out, true, *signed, *width, name),
+        ModItem::Assign { value, .. } => put_assignment(out, name, renamed_expr(alloc, value)),
         ModItem::Always {
-            name,
             first,
             condition,
             value,
-        } => clocked_item(
-            inner_name(alloc, name.bytes()),
+            ..
+        } => put_clocked(
+            out,
+            name,
             *first,
             renamed_condition(alloc, condition),
             renamed_expr(alloc, value),
@@ -125,27 +114,22 @@ fn renamed_item(alloc: Global, item: &ModItem) -> Result<ModItem, OutOfMemory>
 }
 
 /// Puts a wire for each port of the core but `clk` and `reset`.
-pub fn put_wires(alloc: Global, core: &Module, items: &mut ModItems) -> Result<(), OutOfMemory>
-    ensures { OnOk result (items.new ≡ items.old ++ wires_of core.now) }
+pub fn put_wires(alloc: Global, out: &mut Listing<ModItem>, core: &Module)
+    ensures { Lists out.old out.new (wires_of core.now) }
 {
     for port in core.ports.as_slice() {
         if !is_shared(port.name.bytes()) {
-            items.push(ModItem::Wire {
-                signed: port.signed,
-                width: port.width,
-                name: inner_name(alloc, port.name.bytes())?,
-            })?;
+            let name = inner_name(alloc, port.name.bytes());
+            put_declaration(out, false, port.signed, port.width, name);
         }
     }
-    Ok(())
 }
 
 /// Puts the items of the core.
-pub fn put_core(alloc: Global, core: &Module, items: &mut ModItems) -> Result<(), OutOfMemory>
-    ensures { OnOk result (items.new ≡ items.old ++ core_items core.now) }
+pub fn put_core(alloc: Global, out: &mut Listing<ModItem>, core: &Module)
+    ensures { Lists out.old out.new (core_items core.now) }
 {
     for item in core.items.as_slice() {
-        put(items, renamed_item(alloc, item))?;
+        put_renamed(alloc, out, item);
     }
-    Ok(())
 }

@@ -14,6 +14,7 @@ pub mod LaidItems
 pub mod LaidModule
 pub mod LaidNets
 pub mod Layers
+pub mod Listed
 pub mod NetsAgree
 pub mod Opened
 pub mod OpenedClocked

@@ -19,3 +19,4 @@ pub mod Value
 pub mod Windows
 pub mod Header
 pub mod Items
+pub mod Listing

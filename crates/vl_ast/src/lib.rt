@@ -1,15 +1,15 @@
 //! The Verilog subset: modules as data, and what they mean.
 //!
 //! The crate holds types, definitions, what a module and its ports say as attributes, what makes
-//! expressions, items and ports from their parts, and laws as functions that do nothing.
+//! expressions, items, ports and modules from their parts, and laws as functions that do nothing.
 //! The definitions are in `specs/`, by subject: `Operators` (how they are written), `Spelling` (the one
 //! written text of a module), `Tokens` and `Grammar` (which bytes spell a module), `Spellable` (what some
 //! text spells), `Context` (length and sign of an expression), `Value` (its value), `Nets` (what is
 //! declared and where names stand), `Runs` (the rows of a module), `Steps` (a row, and an edge to the
 //! next), `Room` (what fits), `Conditions` (the six conditions), `Attributes`, `Control` (ports that carry
 //! no numbers), `Windows` (which rows count, and what a name shows over them), `Driven` (how a module is
-//! reset and driven), `Stalls` (rows that don't count), `Gated` (registers that stand still) and
-//! `Multiplications`.
+//! reset and driven), `Stalls` (rows that don't count), `Gated` (registers that stand still), `Listing`
+//! (lists that grow at their end) and `Multiplications`.
 #![tactic(auto)]
 
 mod attributes;
@@ -28,8 +28,9 @@ pub use laws::{
     sound_modules_spell, spelling_spells, steps_run, tokens_spell,
 };
 pub use making::{
-    Made, assignment, binary, choose, clocked_item, in_box, put_attribute, put_bit_port,
-    put_data_port, reg, register, wire,
+    Listing, Made, begin, binary, binary_of, both, choose, choose_of, concat, finish, in_box,
+    named, put, put_assignment, put_bit_port, put_clocked, put_data_port, put_declaration,
+    put_register, some_condition, unary, whole_module,
 };
 pub use modules::{Attr, Attrs, ModItem, ModItems, Module, Port, Ports};
 pub use words::{Bits128, mask_of};

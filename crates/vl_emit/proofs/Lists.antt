@@ -1,5 +1,5 @@
 -- Elements of lists by their places, and lists of which no two elements agree. Crates above may cite this file.
-use Rattle.std.proofs.Common.{◌≡◌, ◌≢◌, inl, inr, ℕ, zero, suc, ◌+◌, ◌<◌, Bool, false, ◌||◌, List, [], ◌∷◌, ◌++◌, map, flat_map, length, get_or, take, Contains, refl, ap, sym, ◌∙◌, subst, arith, append_assoc}
+use Rattle.std.proofs.Common.{◌≡◌, ◌≢◌, inl, inr, ℕ, zero, suc, ◌+◌, ◌<◌, Bool, false, ◌||◌, List, [], ◌∷◌, ◌++◌, map, flat_map, length, get_or, Contains, refl, ap, sym, ◌∙◌, subst, arith}
 use Rattle.std.specs.List.{AllPairs, list_any}
 use Rattle.std.proofs.lemmas.Grind.{flat_map-append}
 use Rattle.std.proofs.lemmas.Option.{slice_get-get_or, get_or_from_slice_get}
@@ -7,10 +7,11 @@ use Rattle.std.proofs.lemmas.List.Elements.{Contains-append_right, Contains-appe
 use Rattle.hw_net.specs.Products.{places}
 use Rattle.vl_emit.proofs.Found.{no-element, first-or-later, here, later, of-one, of-mapped, below-place, one-more}
 use Rattle.hw_net.specs.declared.netlist.Net.{Net}
-use Rattle.hw_net.specs.declared.netlist.NetKind.{NetKind}
 use Rattle.hw_net.specs.Products.{net_at}
-use Rattle.std.proofs.lemmas.List.{get_or_default, map-append, take_more}
-use Rattle.fx_io.proofs.Places.{put-next}
+use Rattle.std.proofs.lemmas.List.{get_or_default}
+use Rattle.vl_ast.specs.declared.making.Listing.{Listing}
+use Rattle.vl_ast.specs.Listing.{Lists}
+use Rattle.vl_ast.proofs.Listed.{both, lists-as}
 
 -- the element at a place
 pub at-contains : {X : Type 0} (xs : List X) (k : ℕ) (d : X) → k < length xs → Contains xs (get_or xs k d)
@@ -102,25 +103,9 @@ flat_map-same f g same [] = refl
 flat_map-same f g same (x ∷ xs) = (let rest = flat_map-same f g same xs in (λ i. same x i ++ rest i))
 
 -- a list that a loop makes place by place
-pub loop-step : {X : Type 0} (f : ℕ → List X) (start before after : List X) (n : ℕ) → before ≡ start ++ flat_map f (places n) → after ≡ before ++ f n → after ≡ start ++ flat_map f (places (n + 1))
-loop-step f start before after n is more =
-    more ∙ ap (λ (l : List _). l ++ f n) is ∙ append_assoc start (flat_map f (places n)) (f n)
-    ∙ ap (λ (l : List _). start ++ l) (sym (one-more f n (n + 1) refl))
+pub loop-step : {X : Type 0} (f : ℕ → List X) (n : ℕ) {start before after : Listing X} → Lists start before (flat_map f (places n)) → Lists before after (f n) → Lists start after (flat_map f (places (n + 1)))
+loop-step f n old put = lists-as (sym (one-more f n (n + 1) refl)) (both old put)
 
--- the image of one more element
-pub put-mapped : {X Y : Type 0} (f : X → Y) (xs : List X) (old items more : List Y) (i : ℕ) (x : X) → i < length xs → x ≡ get_or xs i x → items ≡ old ++ map f (take i xs) → more ≡ items ++ f x ∷ []
-    → more ≡ old ++ map f (take (i + 1) xs)
-put-mapped f xs old items more i x below is are put =
-    put-next old items more (map f (take i xs)) (f x) are put
-    ∙ ap (λ (ys : List _). old ++ ys) (sym (ap (map f) (take_more xs i x below ∙ ap (λ (y : _). take i xs ++ y ∷ []) (sym is)) ∙ map-append f (take i xs) (x ∷ [])))
-
--- ---- lists that grow at their end
-
--- the kind of a net that is read
+-- a net that is read
 pub net-read : (nets read : List Net) (own : ℕ) (net : Net) → read ≡ nets → net ≡ get_or read own net → own < length nets → net ≡ net_at nets own
 net-read nets read own net same is inside = is ∙ ap (λ (ns : List Net). get_or ns own net) same ∙ get_or_default nets own net _ inside
-
-pub kind-at : (nets read : List Net) (own : ℕ) (default : Net) (kind : NetKind) → read ≡ nets → own < length nets → (get_or read own default).kind ≡ kind → (net_at nets own).kind ≡ kind
-kind-at nets read own default kind same inside is =
-    let net : get_or read own default ≡ net_at nets own = ap (λ (ns : List Net). get_or ns own default) same ∙ get_or_default nets own default _ inside in
-    ap (λ (n : Net). n.kind) (sym net) ∙ is

@@ -81,20 +81,6 @@ gated-items netlist =
     ∙ append_assoc d (u ++ (first_gated netlist n ++ s)) (shows_enable ∷ [])
     ∙ ap (λ is. d ++ is) (append_assoc u (first_gated netlist n ++ s) (shows_enable ∷ []) ∙ ap (λ is. u ++ is) (append_assoc (first_gated netlist n) s (shows_enable ∷ [])))
 
-put-shape : (d u o s e : List ModItem) → ((((([] ++ d) ++ u) ++ o) ++ s) ++ e) ≡ d ++ (u ++ (o ++ (s ++ e)))
-put-shape d u o s e = simp append_assoc
-
-pub items-put : (netlist : Circuit) (a b c d e f : List ModItem) → a ≡ [] → b ≡ a ++ first_declared netlist (length netlist.nets) → c ≡ b ++ first_units netlist (length netlist.nets)
-    → d ≡ c ++ first_gated netlist (length netlist.nets) → e ≡ d ++ map (output_item (naming_of netlist)) netlist.outputs → f ≡ e ++ shows_enable ∷ []
-    → f ≡ map gated_item (items_of netlist ++ shows_enable ∷ [])
-items-put netlist a b c d e f none declared units others shown enable =
-    enable ∙ ap (λ (l : List ModItem). l ++ shows_enable ∷ [])
-    (shown ∙ ap (λ (l : List ModItem). l ++ map (output_item (naming_of netlist)) netlist.outputs)
-    (others ∙ ap (λ (l : List ModItem). l ++ first_gated netlist (length netlist.nets))
-    (units ∙ ap (λ (l : List ModItem). l ++ first_units netlist (length netlist.nets)) (declared ∙ ap (λ (l : List ModItem). l ++ first_declared netlist (length netlist.nets)) none))))
-    ∙ put-shape (first_declared netlist (length netlist.nets)) (first_units netlist (length netlist.nets)) (first_gated netlist (length netlist.nets)) (map (output_item (naming_of netlist)) netlist.outputs) (shows_enable ∷ [])
-    ∙ sym (gated-items netlist)
-
 -- a gated item has its name
 pub gated-name : (i : ModItem) → item_name (gated_item i) ≡ item_name i
 gated-name (item.Wire signed width name) = refl

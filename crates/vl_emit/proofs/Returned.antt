@@ -1,12 +1,7 @@
--- What holds of the module of a netlist holds of a result that is it, and an item as a list of one.
-use Rattle.std.proofs.Common.{◌≡◌, IfOk, Ok, Err, Result, [], ◌∷◌, ap, sym, subst}
-use Rattle.std.proofs.lemmas.Result.{IfOk-weaker}
-use Rattle.vl_ast.specs.declared.modules.ModItem.{ModItem}
+-- What holds of the module of a netlist holds of a result that is it.
+use Rattle.std.proofs.Common.{◌≡◌, IfOk, Ok, Err, Result, sym, subst}
 use Rattle.vl_ast.specs.declared.modules.Module.{Module}
 
 pub if-made : {E : Type 0} (made : Module) (few : Type 0) (P : Module → Type 0) (r : Result Module E) → IfOk r (λ m. m ≡ made) → IfOk r (λ m. few) → (few → P made) → IfOk r P
 if-made made few P (Ok m) e f p = subst P (sym e) (p f)
 if-made made few P (Err x) e f p = tt
-
-pub if-alone : {E : Type 0} (r : Result ModItem E) (x : ModItem) → IfOk r (λ item. item ≡ x) → IfOk r (λ item. item ∷ [] ≡ x ∷ [])
-if-alone r x h = IfOk-weaker r (λ item. item ≡ x) (λ item. item ∷ [] ≡ x ∷ []) (λ item e. ap (λ (i : ModItem). i ∷ []) e) h

@@ -4,15 +4,15 @@ ghost use Rattle.vl_ast.specs.Gated.{gated_condition};
 ghost use Rattle.vl_ast.specs.declared.expressions.Expr.{Expr};
 ghost use Rattle.vl_emit.specs.inner.Ready.{HasFrame, net_count, cycles_in};
 ghost use Rattle.vl_emit.specs.inner.Ready.{counter_in, slot_in, live_in, taking_in};
-ghost use Rattle.vl_emit.specs.inner.Spoken.{wire_at, CanBeWritten};
+ghost use Rattle.vl_emit.specs.inner.Emitted.{compares};
 
-use crate::operands::{Operand, operand_name, zeros};
-use crate::operators::{binary, plain, test_of};
+use crate::operands::{operand_name, zeros};
+use crate::operators::{plain, test_of};
 use crate::source::{Source, operand};
-use fx_io::{OutOfMemory, Text};
+use fx_io::Text;
 use hw_net::Frame;
 use std::alloc::Global;
-use vl_ast::{BinOp, Expr};
+use vl_ast::{BinOp, Expr, Made, binary, named};
 
 /// How many clocks a frame has.
 pub fn clocks(source: Source, frame: Frame) -> u64
@@ -21,18 +21,19 @@ pub fn clocks(source: Source, frame: Frame) -> u64
     u64::from(frame.period) * u64::from(source.netlist.cycles())
 }
 
-/// The Counter of a frame.
-fn counter<'a>(source: Source<'a>, frame: Frame) -> Operand<'a>
+/// The number of the Counter of a frame, compared with another.
+fn count_test(alloc: Global, source: Source, frame: Frame, op: BinOp, number: u64) -> Made<Expr>
     requires { HasFrame source frame }
-    ensures wire { wire_at result ≡ counter_in source.entry frame }
-    ensures word { CanBeWritten result }
+    ensures { IfOk result (λ e. e ≡ compares op (counter_in source.entry frame) number) }
 {
-    let number = source.netlist.counter_of(frame).unwrap();
-    operand(source, number as usize)
+    let place = source.netlist.counter_of(frame).unwrap();
+    let counter = operand(source, place as usize);
+    let number = Expr::Literal(plain(counter.width, u128::from(number)));
+    binary(alloc, op, operand_name(alloc, counter), Ok(number))
 }
 
 /// Whether the clock is that of a slot of the frame.
-fn slot_test(alloc: Global, source: Source, frame: Frame, slot: u64) -> Result<Expr, OutOfMemory>
+pub fn slot_test(alloc: Global, source: Source, frame: Frame, slot: u64) -> Made<Expr>
     requires { HasFrame source frame }
     ensures { IfOk result (λ e. e ≡ slot_in source.entry frame slot) }
 {
@@ -40,72 +41,32 @@ fn slot_test(alloc: Global, source: Source, frame: Frame, slot: u64) -> Result<E
     if clocks <= slot {
         return Ok(zeros(1));
     }
-    let counter = counter(source, frame);
-    let number = Expr::Literal(plain(counter.width, u128::from(clocks - 1 - slot)));
-    binary(
-        alloc,
-        BinOp::Equal,
-        operand_name(alloc, counter),
-        Ok(number),
-    )
+    count_test(alloc, source, frame, BinOp::Equal, clocks - 1 - slot)
 }
 
 /// Whether the clock is before a frame or among its first `live` base samples.
-pub fn live_test(
-    alloc: Global,
-    source: Source,
-    frame: Frame,
-    live: u32,
-) -> Result<Expr, OutOfMemory>
+pub fn live_test(alloc: Global, source: Source, frame: Frame, live: u32) -> Made<Expr>
     requires { HasFrame source frame }
     ensures { IfOk result (λ e. e ≡ live_in source.entry frame live) }
 {
     let left = u64::from(frame.period.saturating_sub(live));
     let bound = left * u64::from(source.netlist.cycles());
-    let counter = counter(source, frame);
-    let number = Expr::Literal(plain(counter.width, u128::from(bound)));
-    binary(
-        alloc,
-        BinOp::GreaterEqual,
-        operand_name(alloc, counter),
-        Ok(number),
-    )
+    count_test(alloc, source, frame, BinOp::GreaterEqual, bound)
 }
 
 /// The name of the clock enable.
-pub fn enable(alloc: Global) -> Result<Expr, OutOfMemory>
+pub fn enable(alloc: Global) -> Made<Expr>
     ensures { IfOk result (λ e. e ≡ gated_condition None) }
 {
-    Ok(Expr::Name(Text::copy(alloc, b"clk_enable")?))
+    named(Text::copy(alloc, b"clk_enable"))
 }
 
 /// A condition of a register, which may have wanted memory, with the clock enable before it.
-fn with_enable(alloc: Global, condition: Result<Expr, OutOfMemory>) -> Result<Expr, OutOfMemory>
+pub fn with_enable(alloc: Global, condition: Made<Expr>) -> Made<Expr>
     ensures { (test : Expr) → IfOk condition (λ e. e ≡ test)
         → IfOk result (λ e. e ≡ gated_condition (Some test)) }
 {
     binary(alloc, BinOp::Both, enable(alloc), condition)
-}
-
-/// The last slot of a frame.
-pub fn last_slot(source: Source, frame: Frame) -> u64
-    requires { HasFrame source frame }
-    ensures { result ≡ frame.period * cycles_in source.entry - 1 }
-{
-    clocks(source, frame) - 1
-}
-
-/// Whether the clock is enabled, and that of a slot of the frame.
-pub fn enabled_slot(
-    alloc: Global,
-    source: Source,
-    frame: Frame,
-    slot: u64,
-) -> Result<Expr, OutOfMemory>
-    requires { HasFrame source frame }
-    ensures { IfOk result (λ e. e ≡ gated_condition (Some (slot_in source.entry frame slot))) }
-{
-    with_enable(alloc, slot_test(alloc, source, frame, slot))
 }
 
 /// Whether the clock is enabled, and the last of a frame's, and `enable` isn't 0 where nothing is reset.
@@ -115,13 +76,13 @@ pub fn enabled_taking(
     frame: Frame,
     enable: u32,
     reset: bool,
-) -> Result<Expr, OutOfMemory>
+) -> Made<Expr>
     requires frame { HasFrame source frame }
     requires enable { enable < net_count source }
     ensures { IfOk result (λ e. e
         ≡ gated_condition (Some (taking_in source.entry frame enable reset))) }
 {
-    let last = slot_test(alloc, source, frame, last_slot(source, frame));
+    let last = slot_test(alloc, source, frame, clocks(source, frame) - 1);
     if reset {
         return with_enable(alloc, last);
     }

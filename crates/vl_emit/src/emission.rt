@@ -1,5 +1,5 @@
 //! The module of a netlist.
-ghost use Rattle.std.specs.Prelude.{◌≡◌, ◌<◌, ◌^◌, [], codes, length, IfOk, OnOk};
+ghost use Rattle.std.specs.Prelude.{◌≡◌, ◌<◌, ◌^◌, length, IfOk};
 ghost use Rattle.hw_net.specs.Emittable.{IsEmittable};
 ghost use Rattle.hw_net.specs.Frames.{HasCounters};
 ghost use Rattle.hw_net.specs.Netlist.{IsNetlist};
@@ -7,13 +7,13 @@ ghost use Rattle.vl_emit.specs.Promised.{BreaksNone, HasHeader, ItemsAre, KeepsB
 ghost use Rattle.vl_emit.specs.inner.Emitted.{module_of};
 ghost use Rattle.vl_emit.specs.inner.Ready.{HaveNets};
 
-use crate::header::put_ports;
-use crate::items::put_items;
+use crate::header::ports_of;
+use crate::items::items_of;
 use crate::source::{Source, label_places};
-use fx_io::{OutOfMemory, Text};
+use fx_io::OutOfMemory;
 use hw_net::{Netlist, counter_is_telling, steps_give_rows};
 use std::alloc::Global;
-use vl_ast::{Attrs, ModItems, Module, Ports, put_attribute};
+use vl_ast::{Module, whole_module};
 
 /// The module of a netlist: a wire or a register for each net, and a port for each of its ports
 /// (own). Its time is linear in the nets. The only error is want of memory.
@@ -39,37 +39,6 @@ pub fn emit(alloc: Global, netlist: &Netlist) -> Result<Module, OutOfMemory>
     module_of(alloc, netlist)
 }
 
-/// Puts the attribute, the ports and the items of a netlist into a module that has none.
-fn fill(alloc: Global, netlist: &Netlist, made: &mut Module) -> Result<(), OutOfMemory>
-    requires runs { IsNetlist netlist.now }
-    requires counters { HasCounters netlist.now.nets }
-    requires labels { HaveNets netlist.now }
-    requires empty { made.old ≡ record {
-      name = codes "fx_model";
-      attrs = [];
-      ports = [];
-      items = [];
-    } }
-    ensures is { OnOk result (made.new ≡ module_of netlist.now) }
-    ensures few { OnOk result (length netlist.now.nets < 2 ^ 64) }
-{
-    put_attribute(
-        alloc,
-        &mut made.attrs,
-        b"fx_cycles",
-        u64::from(netlist.cycles()),
-    )?;
-    put_ports(alloc, netlist, &mut made.ports)?;
-    let labels = label_places(alloc, netlist.nets().len(), netlist.labels())?;
-    let source = Source {
-        netlist,
-        labels: labels.as_slice(),
-    };
-    let put = put_items(alloc, source, &mut made.items);
-    drop(labels);
-    put
-}
-
 /// What `emit` gives. It asks nothing of names.
 pub fn module_of(alloc: Global, netlist: &Netlist) -> Result<Module, OutOfMemory>
     requires runs { IsNetlist netlist.now }
@@ -78,17 +47,14 @@ pub fn module_of(alloc: Global, netlist: &Netlist) -> Result<Module, OutOfMemory
     ensures is { IfOk result (λ made. made ≡ module_of netlist.now) }
     ensures few { IfOk result (λ made. length netlist.now.nets < 2 ^ 64) }
 {
-    let mut made = Module {
-        name: Text::copy(alloc, b"fx_model")?,
-        attrs: Attrs::new(alloc),
-        ports: Ports::new(alloc),
-        items: ModItems::new(alloc),
+    let labels = label_places(alloc, netlist.nets().len(), netlist.labels())?;
+    let source = Source {
+        netlist,
+        labels: labels.as_slice(),
     };
-    match fill(alloc, netlist, &mut made) {
-        Ok(()) => Ok(made),
-        Err(wanting) => {
-            drop(made);
-            Err(wanting)
-        }
-    }
+    let items = items_of(alloc, source);
+    drop(labels);
+    let ports = ports_of(alloc, netlist);
+    let cycles = u64::from(netlist.cycles());
+    whole_module(alloc, b"fx_model", cycles, ports, items)
 }

@@ -1,15 +1,15 @@
 //! Nets and ports as operands of expressions, each written at the width at which it is used.
-ghost use Rattle.std.specs.Prelude.{◌≡◌, ◌+◌, ◌≤◌, ◌<◌, [], ◌∷◌, ◌++◌, IfOk, OnOk};
+ghost use Rattle.std.specs.Prelude.{◌≡◌, ◌+◌, ◌≤◌, ◌<◌, [], ◌∷◌, ◌++◌, IfOk};
 ghost use Rattle.vl_ast.specs.declared.expressions.Expr.{Expr};
 ghost use Rattle.vl_ast.specs.declared.expressions.Expr.TheVariants.{Name, Concat};
-ghost use Rattle.vl_emit.specs.Names.{net_name, hold_name};
+ghost use Rattle.std.specs.Fmt.{decimal};
 ghost use Rattle.vl_emit.specs.inner.Spelled.{zeros, fill, inside, piece, at_width};
 ghost use Rattle.vl_emit.specs.inner.Spoken.{called_text, wire_at, CanBeAt};
 
-use fx_io::{Boxed, OutOfMemory, Text};
+use fx_io::{Boxed, Text};
 use itoa::Buffer;
 use std::alloc::Global;
-use vl_ast::{Bits128, Expr, Exprs, Sized};
+use vl_ast::{Bits128, Expr, Made, Sized, begin, concat, finish, named, put};
 
 /// How a net or a port is called in the module.
 #[derive(Clone, Copy)]
@@ -29,37 +29,30 @@ pub struct Operand<'a> {
 }
 
 /// The name as a text.
-pub fn text_of(alloc: Global, called: Called) -> Result<Text, OutOfMemory>
+pub fn text_of(alloc: Global, called: Called) -> Made<Text>
     ensures { IfOk result (λ text. text ≡ called_text called.entry) }
 {
     match called {
-        Called::Number(number) => net_text(alloc, number),
+        Called::Number(number) => numbered(alloc, b"fx_n", number),
         Called::Named(name) => Text::copy(alloc, name),
     }
 }
 
-fn net_text(alloc: Global, number: usize) -> Result<Text, OutOfMemory>
-    ensures { IfOk result (λ text. text ≡ net_name number) }
+/// A name that ends with a number: that of a net without a label begins with `fx_n`, and that of the
+/// register that holds a bridge's value with `fx_h`.
+pub fn numbered(alloc: Global, front: &[u8], number: usize) -> Made<Text>
+    ensures { IfOk result (λ text. text ≡ front.now ++ decimal number) }
 {
     let mut buffer = Buffer::new();
     let digits = buffer.format(number).as_bytes();
-    Text::copy(alloc, b"fx_n")?.append(alloc, digits)
-}
-
-/// The name of the register that holds the value of a bridge of this number.
-pub fn hold_text(alloc: Global, number: usize) -> Result<Text, OutOfMemory>
-    ensures { IfOk result (λ text. text ≡ hold_name number) }
-{
-    let mut buffer = Buffer::new();
-    let digits = buffer.format(number).as_bytes();
-    Text::copy(alloc, b"fx_h")?.append(alloc, digits)
+    Text::copy(alloc, front)?.append(alloc, digits)
 }
 
 /// An operand by its name.
-pub fn operand_name(alloc: Global, operand: Operand) -> Result<Expr, OutOfMemory>
+pub fn operand_name(alloc: Global, operand: Operand) -> Made<Expr>
     ensures { IfOk result (λ e. e ≡ Name (wire_at operand.entry).name) }
 {
-    Ok(Expr::Name(text_of(alloc, operand.called)?))
+    named(text_of(alloc, operand.called))
 }
 
 /// So many zeros.
@@ -73,7 +66,7 @@ pub fn zeros(width: u32) -> Expr
     })
 }
 
-fn fill(alloc: Global, operand: Operand, count: u32) -> Result<Expr, OutOfMemory>
+fn fill(alloc: Global, operand: Operand, count: u32) -> Made<Expr>
     requires { 1 ≤ operand.width }
     ensures { IfOk result (λ e. e ≡ fill (wire_at operand.entry) count) }
 {
@@ -84,7 +77,7 @@ fn fill(alloc: Global, operand: Operand, count: u32) -> Result<Expr, OutOfMemory
     Ok(Expr::Repeat(count, Boxed::new(alloc, sign)?))
 }
 
-fn inside(alloc: Global, operand: Operand, low: u32, width: u32) -> Result<Expr, OutOfMemory>
+fn inside(alloc: Global, operand: Operand, low: u32, width: u32) -> Made<Expr>
     requires some { 1 ≤ width }
     requires within { low + width ≤ operand.width }
     ensures { IfOk result (λ e. e ≡ inside (wire_at operand.entry) low width) }
@@ -96,33 +89,19 @@ fn inside(alloc: Global, operand: Operand, low: u32, width: u32) -> Result<Expr,
     Ok(Expr::Part(name, low + width - 1, low))
 }
 
-/// Puts an expression behind the others, which may have wanted memory.
-fn put(parts: &mut Exprs, part: Result<Expr, OutOfMemory>) -> Result<(), OutOfMemory>
-    ensures { (is : Expr) → IfOk part (λ e. e ≡ is)
-        → OnOk result (parts.new ≡ parts.old ++ is ∷ []) }
-{
-    parts.push(part?)
-}
-
 /// Two expressions side by side, each of which may have wanted memory.
-pub fn beside(
-    alloc: Global,
-    left: Result<Expr, OutOfMemory>,
-    right: Result<Expr, OutOfMemory>,
-) -> Result<Expr, OutOfMemory>
+pub fn beside(alloc: Global, left: Made<Expr>, right: Made<Expr>) -> Made<Expr>
     ensures { (one other : Expr) → IfOk left (λ e. e ≡ one) → IfOk right (λ e. e ≡ other)
         → IfOk result (λ e. e ≡ Concat (one ∷ other ∷ [])) }
 {
-    let mut parts = Exprs::new(alloc);
-    let first = put(&mut parts, left);
-    let second = put(&mut parts, right);
-    first?;
-    second?;
-    Ok(Expr::Concat(parts))
+    let mut parts = begin(alloc);
+    put(&mut parts, left);
+    put(&mut parts, right);
+    concat(finish(parts))
 }
 
 /// So many bits of an operand from a place up.
-pub fn piece(alloc: Global, operand: Operand, low: u32, width: u32) -> Result<Expr, OutOfMemory>
+pub fn piece(alloc: Global, operand: Operand, low: u32, width: u32) -> Made<Expr>
     requires net { 1 ≤ operand.width }
     requires some { 1 ≤ width }
     requires near { low < 256 }
@@ -141,7 +120,7 @@ pub fn piece(alloc: Global, operand: Operand, low: u32, width: u32) -> Result<Ex
 }
 
 /// An operand at the width at which it is used.
-pub fn at_width(alloc: Global, operand: Operand, width: u32) -> Result<Expr, OutOfMemory>
+pub fn at_width(alloc: Global, operand: Operand, width: u32) -> Made<Expr>
     requires { CanBeAt operand width }
     ensures { IfOk result (λ e. e ≡ at_width width (wire_at operand.entry)) }
 {

@@ -1,7 +1,7 @@
 ghost use Rattle.std.specs.Prelude.{◌≡◌, ◌+◌, ◌-◌, ◌≤◌, ◌<◌, false, IfOk};
 ghost use Rattle.fx_num.specs.Word.{IsWord};
 ghost use Rattle.vl_ast.specs.declared.expressions.Expr.{Expr};
-ghost use Rattle.vl_ast.specs.declared.expressions.Expr.TheVariants.{Unary, Binary, Choose};
+ghost use Rattle.vl_ast.specs.declared.expressions.Expr.TheVariants.{Unary};
 ghost use Rattle.hw_net.specs.declared.netlist.NetOp.TheVariants.{Less, Equal};
 ghost use Rattle.vl_emit.specs.inner.Operators.{compared, widened, signed_width, common_width};
 ghost use Rattle.vl_emit.specs.inner.Operators.{test_of, slice_at, shifted_up};
@@ -12,10 +12,9 @@ ghost use Rattle.vl_emit.specs.inner.Spoken.{CanBeAt, CanBothBeAt, CanBeExpresse
 ghost use Rattle.vl_emit.specs.inner.Spoken.{both_at, comparison_at, choice_at, operation_at};
 
 use crate::operands::{Operand, at_width, beside, operand_name, piece, zeros};
-use fx_io::OutOfMemory;
 use hw_net::NetOp;
 use std::alloc::Global;
-use vl_ast::{BinOp, Bits128, Expr, ShiftOp, Sized, UnOp, in_box};
+use vl_ast::{BinOp, Bits128, Expr, Made, ShiftOp, Sized, UnOp, binary, choose, in_box};
 
 /// So many bits without sign.
 pub fn plain(width: u32, bits: u128) -> Sized
@@ -36,45 +35,15 @@ pub fn constant(width: u8, signed: bool, number: i128) -> Sized
     plain(width as u32, fx_num::to_bits(number, width, signed))
 }
 
-fn unary(alloc: Global, op: UnOp, operand: Operand, width: u32) -> Result<Expr, OutOfMemory>
+fn unary(alloc: Global, op: UnOp, operand: Operand, width: u32) -> Made<Expr>
     requires { CanBeAt operand width }
     ensures { IfOk result (λ e. e ≡ Unary op (at_width width (wire_at operand.entry))) }
 {
-    let part = in_box(alloc, at_width(alloc, operand, width))?;
-    Ok(Expr::Unary(op, part))
-}
-
-/// `left op right`, of operands each of which may have wanted memory.
-pub fn binary(
-    alloc: Global,
-    op: BinOp,
-    left: Result<Expr, OutOfMemory>,
-    right: Result<Expr, OutOfMemory>,
-) -> Result<Expr, OutOfMemory>
-    ensures { (one other : Expr) → IfOk left (λ e. e ≡ one) → IfOk right (λ e. e ≡ other)
-        → IfOk result (λ e. e ≡ Binary op one other) }
-{
-    vl_ast::binary(op, in_box(alloc, left), in_box(alloc, right))
-}
-
-/// `test ? chosen : other`, of operands each of which may have wanted memory.
-pub fn choose(
-    alloc: Global,
-    test: Result<Expr, OutOfMemory>,
-    chosen: Result<Expr, OutOfMemory>,
-    other: Result<Expr, OutOfMemory>,
-) -> Result<Expr, OutOfMemory>
-    ensures { (first second third : Expr) → IfOk test (λ e. e ≡ first)
-        → IfOk chosen (λ e. e ≡ second) → IfOk other (λ e. e ≡ third)
-        → IfOk result (λ e. e ≡ Choose first second third) }
-{
-    let test = in_box(alloc, test);
-    let chosen = in_box(alloc, chosen);
-    vl_ast::choose(test, chosen, in_box(alloc, other))
+    vl_ast::unary(alloc, op, at_width(alloc, operand, width))
 }
 
 /// An operand at the width at which it is compared.
-fn comparand(alloc: Global, signed: bool, operand: Operand, width: u32) -> Result<Expr, OutOfMemory>
+fn comparand(alloc: Global, signed: bool, operand: Operand, width: u32) -> Made<Expr>
     requires { CanBeAt operand width }
     ensures { IfOk result (λ e. e ≡ compared signed (at_width width (wire_at operand.entry))) }
 {
@@ -86,13 +55,7 @@ fn comparand(alloc: Global, signed: bool, operand: Operand, width: u32) -> Resul
 }
 
 /// `left op right`, each at the width.
-pub fn in_width(
-    alloc: Global,
-    op: BinOp,
-    left: Operand,
-    right: Operand,
-    width: u32,
-) -> Result<Expr, OutOfMemory>
+pub fn in_width(alloc: Global, op: BinOp, left: Operand, right: Operand, width: u32) -> Made<Expr>
     requires { CanBothBeAt left right width }
     ensures { IfOk result (λ e. e ≡ both_at op width left.entry right.entry) }
 {
@@ -102,11 +65,7 @@ pub fn in_width(
 }
 
 /// A bit, which may have wanted memory, at a width.
-fn bit_at_width(
-    alloc: Global,
-    width: u32,
-    bit: Result<Expr, OutOfMemory>,
-) -> Result<Expr, OutOfMemory>
+fn bit_at_width(alloc: Global, width: u32, bit: Made<Expr>) -> Made<Expr>
     requires { 1 ≤ width }
     ensures { (is : Expr) → IfOk bit (λ e. e ≡ is) → IfOk result (λ e. e ≡ widened width is) }
 {
@@ -134,7 +93,7 @@ fn common_width(left: Operand, right: Operand) -> u32
     ensures is { result ≡ common_width (wire_at left.entry) (wire_at right.entry) }
     ensures room { HasRoom result }
 {
-    if left.signed || right.signed {
+    if left.signed | right.signed {
         signed_width(left).max(signed_width(right))
     } else {
         left.width.max(right.width)
@@ -142,7 +101,7 @@ fn common_width(left: Operand, right: Operand) -> u32
 }
 
 /// One bit that tells whether a net isn't 0.
-pub fn test_of(alloc: Global, operand: Operand) -> Result<Expr, OutOfMemory>
+pub fn test_of(alloc: Global, operand: Operand) -> Made<Expr>
     requires { CanBeWritten operand }
     ensures { IfOk result (λ e. e ≡ test_of (wire_at operand.entry)) }
 {
@@ -153,18 +112,18 @@ pub fn test_of(alloc: Global, operand: Operand) -> Result<Expr, OutOfMemory>
     binary(alloc, BinOp::NotEqual, name, Ok(zeros(operand.width)))
 }
 
-fn less(alloc: Global, left: Operand, right: Operand, width: u32) -> Result<Expr, OutOfMemory>
+fn less(alloc: Global, left: Operand, right: Operand, width: u32) -> Made<Expr>
     requires { CanBothBeAt left right width }
     ensures { IfOk result (λ e. e ≡ comparison_at Less width left.entry right.entry) }
 {
     let common = common_width(left, right);
-    let signed = left.signed || right.signed;
+    let signed = left.signed | right.signed;
     let one = comparand(alloc, signed, left, common);
     let other = comparand(alloc, signed, right, common);
     bit_at_width(alloc, width, binary(alloc, BinOp::Less, one, other))
 }
 
-fn equal(alloc: Global, left: Operand, right: Operand, width: u32) -> Result<Expr, OutOfMemory>
+fn equal(alloc: Global, left: Operand, right: Operand, width: u32) -> Made<Expr>
     requires { CanBothBeAt left right width }
     ensures { IfOk result (λ e. e ≡ comparison_at Equal width left.entry right.entry) }
 {
@@ -176,13 +135,7 @@ fn equal(alloc: Global, left: Operand, right: Operand, width: u32) -> Result<Exp
     )
 }
 
-fn choice(
-    alloc: Global,
-    test: Operand,
-    chosen: Operand,
-    other: Operand,
-    width: u32,
-) -> Result<Expr, OutOfMemory>
+fn choice(alloc: Global, test: Operand, chosen: Operand, other: Operand, width: u32) -> Made<Expr>
     requires test { CanBeWritten test }
     requires both { CanBothBeAt chosen other width }
     ensures { IfOk result (λ e. e ≡ choice_at width test.entry chosen.entry other.entry) }
@@ -193,7 +146,7 @@ fn choice(
     choose(alloc, test, chosen, other)
 }
 
-fn shifted_up(alloc: Global, operand: Operand, places: u8, width: u32) -> Result<Expr, OutOfMemory>
+fn shifted_up(alloc: Global, operand: Operand, places: u8, width: u32) -> Made<Expr>
     requires { CanBeAt operand width }
     ensures { IfOk result (λ e. e ≡ shifted_up (wire_at operand.entry) places width) }
 {
@@ -205,13 +158,7 @@ fn shifted_up(alloc: Global, operand: Operand, places: u8, width: u32) -> Result
     Ok(Expr::Shift(ShiftOp::Left, part, amount))
 }
 
-fn slice_at(
-    alloc: Global,
-    width: u32,
-    operand: Operand,
-    high: u32,
-    low: u32,
-) -> Result<Expr, OutOfMemory>
+fn slice_at(alloc: Global, width: u32, operand: Operand, high: u32, low: u32) -> Made<Expr>
     requires net { CanBeWritten operand }
     requires width { HasRoom width }
     requires order { low ≤ high }
@@ -235,7 +182,7 @@ pub fn expression(
     second: Operand,
     third: Operand,
     word: (u8, bool),
-) -> Result<Expr, OutOfMemory>
+) -> Made<Expr>
     requires { CanBeExpressed op port first second third word.0 word.1 }
     ensures { IfOk result (λ e. e ≡ operation_at op word.0 port.entry first.entry second.entry
         third.entry) }

@@ -89,7 +89,7 @@ pub fn wrapped(alloc: Global, wrap: Wrap, part: Expr) -> Result<Expr, OutOfMemor
 pub fn binary(alloc: Global, op: BinOp, left: Boxed<Expr>, right: Expr) -> Result<Expr, OutOfMemory>
     ensures { IfOk result (λ e. e ≡ roll-Expr (Expr-F.Binary op left right)) }
 {
-    vl_ast::binary(op, Ok(left), Boxed::new(alloc, right))
+    vl_ast::binary_of(op, Ok(left), Boxed::new(alloc, right))
 }
 
 /// A choice.
@@ -101,7 +101,7 @@ pub fn choose(
 ) -> Result<Expr, OutOfMemory>
     ensures { IfOk result (λ e. e ≡ roll-Expr (Expr-F.Choose test chosen other)) }
 {
-    vl_ast::choose(Ok(test), Ok(chosen), Boxed::new(alloc, other))
+    vl_ast::choose_of(Ok(test), Ok(chosen), Boxed::new(alloc, other))
 }
 
 /// Takes the innermost frame off.

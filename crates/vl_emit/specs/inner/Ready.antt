@@ -1,5 +1,5 @@
 -- What the code asks of a netlist and of the places of its labels.
-use Rattle.std.specs.Prelude.{◌≡◌, ◌<◌, ◌-◌, ◌*◌, ℕ, List, length, get_or, slice_index_or, [], ◌∷◌}
+use Rattle.std.specs.Prelude.{◌≡◌, ◌<◌, ◌-◌, ◌*◌, ℕ, List, length, get_or, slice_index_or, []}
 use Rattle.std.specs.Prelude.{Bool, true, false, if◌then◌else◌, map, flat_map, Option, None, Some, IsSome, Contains}
 use Rattle.fx_num.specs.Word.{IsWord}
 use Rattle.hw_net.specs.declared.netlist.Frame.{Frame}
@@ -19,9 +19,11 @@ use Rattle.vl_ast.specs.declared.expressions.BinOp.TheVariants as binary
 use Rattle.vl_ast.specs.declared.expressions.Expr.{Expr}
 use Rattle.vl_ast.specs.declared.expressions.Expr.TheVariants as expression
 use Rattle.vl_ast.specs.declared.expressions.Sized.{Sized}
+use Rattle.vl_ast.specs.declared.making.Listing.{Listing}
 use Rattle.vl_ast.specs.declared.modules.ModItem.{ModItem}
 use Rattle.vl_ast.specs.declared.modules.Port.{Port}
 use Rattle.vl_ast.specs.Gated.{gated_item}
+use Rattle.vl_ast.specs.Listing.{Lists}
 use Rattle.vl_emit.specs.Header.{input_port, output_port}
 use Rattle.vl_emit.specs.Names.{Wire, port_at, net_name, name_by, net_wire, input_wire}
 use Rattle.hw_net.specs.Products.{net_at, places}
@@ -166,14 +168,10 @@ taken_in source enable true from begun =
     (expression.Literal begun)
 taken_in source enable false from begun = expression.Name (wire_in source from).name
 
--- the item is the one driver of a net of this kind
-abbrev pub IsDriver : Source → ℕ → NetKind → ModItem → Type 0
-IsDriver source own kind item =
-    item ∷ [] ≡ map gated_item (drivers_at (circuit_of source) own kind)
-
-abbrev pub bridge_in : Source → ℕ → Frame → ℕ → ℕ → List ModItem
-bridge_in source own frame live from =
-    map gated_item (drivers_at (circuit_of source) own (Bridge frame live from))
+-- the drivers of a net of this kind are put
+abbrev pub Drives : Source → ℕ → NetKind → Listing ModItem → Listing ModItem → Type 0
+Drives source own kind before after =
+    Lists before after (map gated_item (drivers_at (circuit_of source) own kind))
 
 -- the items of a net in a part of the module
 abbrev pub net_items : Source → Part → ℕ → List ModItem

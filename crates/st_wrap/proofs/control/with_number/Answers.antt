@@ -1,4 +1,4 @@
 use Rattle.st_wrap.proofs.control.with_number.Goals as goal
 
 pub returns : goal.returns
-returns c = c.binary.ensures _ _ c.boxed_name.ensures c.number.ensures
+returns c = c.binary.ensures _ _ c.name_of.ensures c.number.ensures

@@ -1,14 +1,15 @@
-use Rattle.std.proofs.Common.{◌≡◌, ◌∙◌, IfOk, inl, inr, map, ap, subst}
+use Rattle.std.proofs.Common.{◌≡◌, ◌∙◌, IfOk, inl, inr, ℕ, List, map, subst}
+use Rattle.std.proofs.lemmas.List.{take_all}
 use Rattle.vl_ast.specs.declared.expressions.Expr.{Expr}
-use Rattle.vl_ast.specs.declared.expressions.Expr.TheVariants.{Concat}
 use Rattle.vl_ast.specs.declared.expressions.Expr.TheViews.{out-Expr}
+use Rattle.vl_ast.proofs.Listed.{one-held}
 use Rattle.st_wrap.specs.inner.Names.{inner_name}
 use Rattle.st_wrap.specs.inner.Renamed.{renamed, with_name, with_part}
 use Rattle.st_wrap.proofs.Forms.{of-name, of-bit, of-part, of-literal, of-concat, of-repeat, of-signed, of-unsigned, of-unary, of-binary, of-shift, of-choose, over-bit, over-name, over-part, over-repeat, over-shift, over-signed, over-unary, over-unsigned}
 use Rattle.st_wrap.proofs.renaming.+renaming.Goals as goal
 
-pub renamed_expr-returns-in_ok-inner_name-in-Name : goal.renamed_expr-returns-in_ok-inner_name-in-Name
-renamed_expr-returns-in_ok-inner_name-in-Name t c =
+pub renamed_expr-returns-in-Name : goal.renamed_expr-returns-in-Name
+renamed_expr-returns-in-Name t c =
     let name = c.in-Name.name in
     let e = c.args.e.now in
     let text = inner_name name in
@@ -19,19 +20,20 @@ renamed_expr-returns-in_ok-inner_name-in-Name t c =
         | inr here ↦ over-part name text here.0 here.1 e here.2 ∙ of-part name here.0 here.1 e here.2
       ]
     ] in
-    c.over_name.ensures ∙ ap (with_name (out-Expr e)) (c.in_ok-inner_name-in-Name.ensures ∙ ap inner_name c.bytes.ensures) ∙ is
+    let made = subst (λ (name : List ℕ). IfOk c.inner_name.result (λ made. made ≡ inner_name name)) c.bytes.ensures c.inner_name.ensures in
+    subst (λ (e : Expr). IfOk c.over_name.result (λ made. made ≡ e)) is (c.over_name.ensures text made)
 
 pub renamed_expr-returns-in-Literal : goal.renamed_expr-returns-in-Literal
 renamed_expr-returns-in-Literal t c =
     of-literal c.in-Literal.number c.args.e.now c.in-Literal.is
 
-pub renamed_expr-returns-in_ok-renamed_parts-in-Concat : goal.renamed_expr-returns-in_ok-renamed_parts-in-Concat
-renamed_expr-returns-in_ok-renamed_parts-in-Concat t c =
-    ap Concat (c.in_ok-renamed_parts-in-Concat.ensures ∙ ap (map renamed) c.as_slice.ensures)
-    ∙ of-concat c.in-Concat.parts c.args.e.now c.in-Concat.is
+pub renamed_expr-returns-in-Concat : goal.renamed_expr-returns-in-Concat
+renamed_expr-returns-in-Concat t c =
+    let parts = subst (λ (parts : List Expr). IfOk c.renamed_parts.result (λ made. made ≡ map renamed parts)) c.as_slice.ensures c.renamed_parts.ensures in
+    subst (λ (e : Expr). IfOk c.concat.result (λ made. made ≡ e)) (of-concat c.in-Concat.parts c.args.e.now c.in-Concat.is) (c.concat.ensures _ parts)
 
-pub renamed_expr-returns-in_ok-renamed_boxed-in-Repeat : goal.renamed_expr-returns-in_ok-renamed_boxed-in-Repeat
-renamed_expr-returns-in_ok-renamed_boxed-in-Repeat t c =
+pub renamed_expr-returns-in-Repeat : goal.renamed_expr-returns-in-Repeat
+renamed_expr-returns-in-Repeat t c =
     let e = c.args.e.now in
     let old = c.in-Repeat.part in
     let part = renamed old in
@@ -48,22 +50,33 @@ renamed_expr-returns-in_ok-renamed_boxed-in-Repeat t c =
         ]
       ]
     ] in
-    c.over_part.ensures ∙ ap (with_part (out-Expr e)) (c.in_ok-renamed_boxed-in-Repeat.ensures ∙ ap renamed c.get-in-Repeat.ensures) ∙ is
+    let made = subst (λ (e : Expr). IfOk c.renamed_expr-in-Repeat.result (λ made. made ≡ renamed e)) c.get-in-Repeat.ensures c.renamed_expr-in-Repeat.ensures in
+    subst (λ (e : Expr). IfOk c.over_part.result (λ made. made ≡ e)) is (c.over_part.ensures part made)
 
 pub renamed_expr-returns-in-Binary : goal.renamed_expr-returns-in-Binary
 renamed_expr-returns-in-Binary t c =
-    let left = subst (λ (e : Expr). IfOk c.renamed_boxed-left.result (λ made. made ≡ renamed e)) c.get.ensures c.renamed_boxed-left.ensures in
-    let right = subst (λ (e : Expr). IfOk c.renamed_boxed.result (λ made. made ≡ renamed e)) c.get-in-Binary.ensures c.renamed_boxed.ensures in
+    let left = subst (λ (e : Expr). IfOk c.renamed_expr-left.result (λ made. made ≡ renamed e)) c.get.ensures c.renamed_expr-left.ensures in
+    let right = subst (λ (e : Expr). IfOk c.renamed_expr.result (λ made. made ≡ renamed e)) c.get-in-Binary.ensures c.renamed_expr.ensures in
     subst (λ (e : Expr). IfOk c.binary.result (λ made. made ≡ e)) (of-binary c.in-Binary.op c.in-Binary.left c.in-Binary.right c.args.e.now c.in-Binary.is)
     (c.binary.ensures (renamed c.in-Binary.left) (renamed c.in-Binary.right) left right)
 
 pub renamed_expr-returns-in-Choose : goal.renamed_expr-returns-in-Choose
 renamed_expr-returns-in-Choose t c =
-    let test = subst (λ (e : Expr). IfOk c.renamed_boxed-test.result (λ made. made ≡ renamed e)) c.get-in-Choose.ensures c.renamed_boxed-test.ensures in
-    let chosen = subst (λ (e : Expr). IfOk c.renamed_boxed-chosen.result (λ made. made ≡ renamed e)) c.get-in-Choose-2.ensures c.renamed_boxed-chosen.ensures in
-    let other = subst (λ (e : Expr). IfOk c.renamed_boxed-in-Choose.result (λ made. made ≡ renamed e)) c.get-in-Choose-3.ensures c.renamed_boxed-in-Choose.ensures in
+    let test = subst (λ (e : Expr). IfOk c.renamed_expr-test.result (λ made. made ≡ renamed e)) c.get-in-Choose.ensures c.renamed_expr-test.ensures in
+    let chosen = subst (λ (e : Expr). IfOk c.renamed_expr-chosen.result (λ made. made ≡ renamed e)) c.get-in-Choose-2.ensures c.renamed_expr-chosen.ensures in
+    let other = subst (λ (e : Expr). IfOk c.renamed_expr-in-Choose.result (λ made. made ≡ renamed e)) c.get-in-Choose-3.ensures c.renamed_expr-in-Choose.ensures in
     subst (λ (e : Expr). IfOk c.choose.result (λ made. made ≡ e)) (of-choose c.in-Choose.test c.in-Choose.chosen c.in-Choose.other c.args.e.now c.in-Choose.is)
     (c.choose.ensures (renamed c.in-Choose.test) (renamed c.in-Choose.chosen) (renamed c.in-Choose.other) test chosen other)
 
-pub renamed_boxed-returns : goal.renamed_boxed-returns
-renamed_boxed-returns t c = c.in_box.ensures _ c.renamed_expr.ensures
+pub renamed_parts-loop-part-init : goal.renamed_parts-loop-part-init
+renamed_parts-loop-part-init t c = c.begin-out.ensures
+
+pub renamed_parts-loop-part-preserved : goal.renamed_parts-loop-part-preserved
+renamed_parts-loop-part-preserved t c =
+    one-held c.args.parts.now c.loop-part.part-index c.part-item.result c.loop-part-test.true c.part-item.is renamed c.loop-part.invariant (c.put.ensures _ c.renamed_expr.ensures)
+
+pub renamed_parts-returns : goal.renamed_parts-returns
+renamed_parts-returns t c =
+    let i = c.loop-part.part-index in
+    let parts = c.args.parts.now in
+    subst (λ (all : List Expr). IfOk c.finish.result (λ made. made ≡ map renamed all)) (take_all i parts c.loop-part-test.false) (c.finish.ensures _ c.loop-part.invariant)

@@ -1,6 +1,4 @@
-use Rattle.std.proofs.Common.{ap}
-use Rattle.vl_ast.specs.declared.expressions.Expr.TheVariants.{Binary}
 use Rattle.vl_ast.proofs.making.binary.Goals as goal
 
 pub returns : goal.returns
-returns c one other left right = ap (λ (pair : _). Binary c.args.op pair.0 pair.1) (c.in_ok-left.ensures one other left right)
+returns c one other left right = c.binary_of.ensures one other (c.in_box.ensures one left) (c.in_box-2.ensures other right)

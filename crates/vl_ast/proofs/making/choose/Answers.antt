@@ -1,7 +1,5 @@
-use Rattle.std.proofs.Common.{ap}
-use Rattle.vl_ast.specs.declared.expressions.Expr.TheVariants.{Choose}
 use Rattle.vl_ast.proofs.making.choose.Goals as goal
 
 pub returns : goal.returns
 returns c first second third test chosen other =
-    ap (λ (parts : _). Choose parts.0.0 parts.0.1 parts.1) (c.in_ok-test.ensures (first, second) third (c.both.ensures first second test chosen) other)
+    c.choose_of.ensures first second third (c.in_box.ensures first test) (c.in_box-2.ensures second chosen) (c.in_box-3.ensures third other)

@@ -1,8 +1,7 @@
-use Rattle.std.proofs.Common.{◌≡◌, ◌∙◌, ◌++◌, ◌∷◌, [], Bool, true, false, if◌then◌else◌, List, codes, refl, ap}
-use Rattle.std.proofs.lemmas.Result.{on_ok_weaker}
-use Rattle.vl_ast.specs.declared.modules.Attr.{Attr}
+use Rattle.std.proofs.Common.{◌≡◌, ◌∷◌, [], Bool, true, false, if◌then◌else◌, codes, refl, ap}
 use Rattle.vl_ast.specs.declared.modules.Port.{Port}
 use Rattle.vl_ast.specs.Header.{DataPort, attribute_of, input_port, output_port}
+use Rattle.vl_ast.proofs.Listed.{lists-as}
 use Rattle.vl_ast.proofs.making.put_data_port.Goals as goal
 
 -- a port with its attributes
@@ -19,11 +18,7 @@ port-is : (input : Bool) (port : DataPort) → port_of input port ≡ (if input 
 port-is true port = refl
 port-is false port = refl
 
-pub returns-in-Ok : goal.returns-in-Ok
-returns-in-Ok c =
+pub returns : goal.returns
+returns c =
     let port : DataPort = record { name = c.args.name.now; width = c.args.word.0; signed = c.args.word.1; period = c.args.period; latency = c.args.latency } in
-    let attrs = c.in-Ok.ensures ∙ ap (λ (l : List Attr). l ++ (port_of c.args.input port).attrs) c.new.ensures in
-    on_ok_weaker c.push.result
-    (λ put. put
-    ∙ (λ i. c.args.ports.now ++ record { attrs = attrs i; input = c.args.input; signed = c.args.word.1; width = c.args.word.0; name = c.in_ok-name.ensures i } ∷ [])
-    ∙ ap (λ (p : Port). c.args.ports.now ++ p ∷ []) (port-is c.args.input port)) c.push.ensures.appended
+    lists-as (ap (λ (p : Port). p ∷ []) (port-is c.args.input port)) (c.put.ensures _ (c.port.ensures _ _ c.copy-own.ensures c.timing-attrs.ensures))

@@ -1,12 +1,9 @@
-use Rattle.std.proofs.Common.{◌≡◌, ℕ, Bool, Some, IfOk, subst, sym}
+use Rattle.std.proofs.Common.{◌≡◌, ◌-◌, ℕ, Bool, Some, IfOk, subst, sym}
 use Rattle.vl_ast.specs.Gated.{gated_condition}
 use Rattle.vl_emit.specs.Names.{Wire}
 use Rattle.vl_emit.specs.inner.Operators.{test_of}
 use Rattle.vl_emit.specs.inner.Ready.{slot_in, taking_in}
 use Rattle.vl_emit.proofs.conditions.enabled_taking.Goals as goal
-
-pub last_slot-requires : goal.last_slot-requires
-last_slot-requires c = c.requires.frame
 
 pub slot_test-last-requires : goal.slot_test-last-requires
 slot_test-last-requires c = c.requires.frame
@@ -19,12 +16,12 @@ test_of-test-requires c = c.operand.ensures.word
 
 pub returns-then-reset : goal.returns-then-reset
 returns-then-reset c =
-    let last = subst (λ (slot : ℕ). IfOk c.slot_test-last.result (λ e. e ≡ slot_in c.args.source c.args.frame slot)) c.last_slot.ensures c.slot_test-last.ensures in
+    let last = subst (λ (clocks : ℕ). IfOk c.slot_test-last.result (λ e. e ≡ slot_in c.args.source c.args.frame (clocks - 1))) c.clocks.ensures c.slot_test-last.ensures in
     subst (λ (reset : Bool). IfOk c.with_enable.result (λ e. e ≡ gated_condition (Some (taking_in c.args.source c.args.frame c.args.enable reset)))) (sym c.if-reset.true) (c.with_enable.ensures _ last)
 
 pub returns : goal.returns
 returns c =
-    let last = subst (λ (slot : ℕ). IfOk c.slot_test-last.result (λ e. e ≡ slot_in c.args.source c.args.frame slot)) c.last_slot.ensures c.slot_test-last.ensures in
+    let last = subst (λ (clocks : ℕ). IfOk c.slot_test-last.result (λ e. e ≡ slot_in c.args.source c.args.frame (clocks - 1))) c.clocks.ensures c.slot_test-last.ensures in
     let test = subst (λ (w : Wire). IfOk c.test_of-test.result (λ e. e ≡ test_of w)) c.operand.ensures.wire c.test_of-test.ensures in
     subst (λ (reset : Bool). IfOk c.with_enable-2.result (λ e. e ≡ gated_condition (Some (taking_in c.args.source c.args.frame c.args.enable reset)))) (sym c.if-reset.false)
     (c.with_enable-2.ensures _ (c.binary.ensures _ _ last test))

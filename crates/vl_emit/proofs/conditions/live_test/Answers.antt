@@ -1,13 +1,12 @@
-use Rattle.std.proofs.Common.{rules, ◌≡◌, ◌-◌, ◌*◌, ap, IfOk, subst}
-use Rattle.vl_ast.specs.declared.expressions.Expr.TheVariants.{Name, Literal}
-use Rattle.vl_ast.specs.declared.expressions.Sized.{Sized}
-use Rattle.vl_emit.specs.Names.{Wire}
-use Rattle.vl_emit.specs.inner.Emitted.{plain_number}
+use Rattle.std.proofs.Common.{◌≡◌, ◌*◌, ◌-◌, ◌∙◌, ℕ, IfOk, subst}
+use Rattle.vl_ast.specs.declared.expressions.BinOp.TheVariants.{GreaterEqual}
+use Rattle.vl_emit.specs.inner.Emitted.{compares}
 use Rattle.vl_emit.specs.inner.Ready.{counter_in, cycles_in}
 use Rattle.vl_emit.proofs.conditions.live_test.Goals as goal
 
 pub returns : goal.returns
 returns c =
-    let name = subst (λ (w : Wire). IfOk c.operand_name.result (λ e. e ≡ Name w.name)) c.counter-counter.ensures.wire c.operand_name.ensures in
-    let bound : c.plain.result ≡ plain_number (counter_in c.args.source c.args.frame).width ((c.args.frame.period - c.args.live) * cycles_in c.args.source) = search rules in
-    c.binary.ensures _ _ name (ap (λ (number : Sized). Literal number) bound)
+    let source = c.args.source in
+    let frame = c.args.frame in
+    let bound : c.from-left.result * c.from.result ≡ (frame.period - c.args.live) * cycles_in source = (λ i. (c.from-left.ensures ∙ c.saturating_sub.ensures) i * (c.from.ensures ∙ c.cycles.ensures) i) in
+    subst (λ (n : ℕ). IfOk c.count_test.result (λ e. e ≡ compares GreaterEqual (counter_in source frame) n)) bound c.count_test.ensures

@@ -1,4 +1,4 @@
-use Rattle.std.proofs.Common.{◌≡◌, ap, IfOk, List, ℕ, subst}
+use Rattle.std.proofs.Common.{◌≡◌, IfOk, subst}
 use Rattle.vl_ast.specs.declared.expressions.Expr.TheVariants.{Name}
 use Rattle.vl_emit.specs.Names.{Wire}
 use Rattle.vl_emit.proofs.driving.bridge_value.Goals as goal
@@ -12,5 +12,4 @@ operand-requires c = record { is = c.requires.net.is; there = c.requires.ready.1
 pub returns : goal.returns
 returns c =
     let passed = subst (λ (w : Wire). IfOk c.operand_name-passed.result (λ e. e ≡ Name w.name)) c.operand.ensures.wire c.operand_name-passed.ensures in
-    let held = ap (λ (name : List ℕ). Name name) c.in_ok-hold_text.ensures in
-    c.choose.ensures _ _ _ c.live_test-test.ensures passed held
+    c.choose.ensures _ _ _ c.live_test-test.ensures passed (c.named-held.ensures _ c.numbered.ensures)

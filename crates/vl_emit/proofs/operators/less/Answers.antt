@@ -1,4 +1,4 @@
-use Rattle.std.proofs.Common.{◌≡◌, ◌∙◌, ◌||◌, Bool, IfOk, ap, subst, sym}
+use Rattle.std.proofs.Common.{◌≡◌, IfOk, subst}
 use Rattle.vl_ast.specs.declared.expressions.BinOp.TheVariants as binary
 use Rattle.vl_ast.specs.declared.expressions.Expr.{Expr}
 use Rattle.vl_ast.specs.declared.expressions.Expr.TheVariants.{Binary}
@@ -6,7 +6,6 @@ use Rattle.vl_emit.specs.inner.Operators.{by_sign, compared, widened}
 use Rattle.vl_emit.specs.inner.Spelled.{at_width}
 use Rattle.vl_emit.specs.inner.Spoken.{wire_at}
 use Rattle.vl_emit.proofs.operators.less.Goals as goal
-use Rattle.vl_emit.proofs.operators.less.Goals.{then-left, else-left}
 
 pub common_width-common-requires-clause-left : goal.common_width-common-requires-clause-left
 common_width-common-requires-clause-left c = c.requires.left
@@ -27,11 +26,7 @@ pub returns : goal.returns
 returns c =
     let one = wire_at c.args.left in
     let other = wire_at c.args.right in
-    let sign : c.if-left.signed ≡ by_sign one other = elim c.if-left.branch [
-      | then-left w ↦ w.signed-is ∙ w.if-left.true ∙ sym (ap (λ (b : Bool). b || c.args.right.signed) w.if-left.true)
-      | else-left w ↦ w.signed-is ∙ sym (ap (λ (b : Bool). b || c.args.right.signed) w.if-left.false)
-    ] in
     let width = c.common_width-common.ensures.is in
     subst (λ (e : Expr). IfOk c.bit_at_width.result (λ made. made ≡ widened c.args.width e))
-    (λ i. Binary binary.Less (compared (sign i) (at_width (width i) one)) (compared (sign i) (at_width (width i) other)))
+    (λ i. Binary binary.Less (compared (by_sign one other) (at_width (width i) one)) (compared (by_sign one other) (at_width (width i) other)))
     (c.bit_at_width.ensures _ (c.binary.ensures _ _ c.comparand-one.ensures c.comparand-other.ensures))

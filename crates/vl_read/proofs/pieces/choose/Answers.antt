@@ -5,5 +5,5 @@ use Rattle.vl_read.proofs.pieces.choose.Goals as goal
 
 pub returns : goal.returns
 returns c =
-    let made = c.choose.ensures c.args.test c.args.chosen c.args.other refl refl c.new.ensures in
-    subst (λ (is : Expr). IfOk c.choose.result (λ e. e ≡ is)) (sym (rolls-Choose c.args.test c.args.chosen c.args.other)) made
+    let made = c.choose_of.ensures c.args.test c.args.chosen c.args.other refl refl c.new.ensures in
+    subst (λ (is : Expr). IfOk c.choose_of.result (λ e. e ≡ is)) (sym (rolls-Choose c.args.test c.args.chosen c.args.other)) made
