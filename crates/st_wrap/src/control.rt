@@ -1,10 +1,10 @@
 //! The wrapper's counters, and what it makes of them.
-ghost use Rattle.std.specs.Prelude.{◌≡◌, ◌∷◌, [], false, if◌then◌else◌, IfOk};
+ghost use Rattle.std.specs.Prelude.{◌≡◌, ◌++◌, ◌∷◌, [], false, if◌then◌else◌, IfOk};
 ghost use Rattle.vl_ast.specs.declared.expressions.Expr.TheVariants.{Name, Binary};
 ghost use Rattle.vl_ast.specs.declared.modules.ModItem.TheVariants.{Wire, Reg};
 ghost use Rattle.vl_ast.specs.Listing.{Lists};
-ghost use Rattle.st_wrap.specs.inner.Control.{control_declared, control_driven, signals_driven};
-ghost use Rattle.st_wrap.specs.inner.Control.{next_phase, next_wait, number, unless};
+ghost use Rattle.st_wrap.specs.inner.Control.{control_declared, control_driven, handshake_driven, signals_driven};
+ghost use Rattle.st_wrap.specs.inner.Control.{number, unless};
 
 use crate::expressions::{assign, binary_of_names, is_zero, moving, name_of, number, plain};
 use crate::pace::{Counter, Counters};
@@ -47,24 +47,9 @@ fn unless(alloc: Global, name: &[u8], signal: &[u8]) -> Made<Expr>
     binary(alloc, BinOp::Either, other, name_of(alloc, signal))
 }
 
-fn next_phase(alloc: Global, phase: Counter) -> Made<Expr>
-    ensures { IfOk result (λ e. e ≡ next_phase phase) }
-{
-    let end = name_of(alloc, b"fx_end");
-    let more = with_number(alloc, BinOp::Add, b"fx_phase", phase.width, 1);
-    choose(alloc, end, Ok(number(phase.width, 0)), more)
-}
-
-fn next_wait(alloc: Global, wait: Counter) -> Made<Expr>
-    ensures { IfOk result (λ e. e ≡ next_wait wait) }
-{
-    let left = name_of(alloc, b"fx_wait");
-    let fewer = with_number(alloc, BinOp::Subtract, b"fx_wait", wait.width, 1);
-    choose(alloc, left, fewer, Ok(number(wait.width, 0)))
-}
-
+/// Drives the signals of a row and the handshake.
 fn put_signals(alloc: Global, out: &mut Listing<ModItem>, phase: Counter)
-    ensures { Lists out.old out.new (signals_driven phase) }
+    ensures { Lists out.old out.new (signals_driven phase ++ handshake_driven) }
 {
     assign(alloc, out, b"fx_begin", is_zero(alloc, b"fx_phase"));
     let last = with_number(alloc, BinOp::Equal, b"fx_phase", phase.width, phase.most);
@@ -76,31 +61,36 @@ fn put_signals(alloc: Global, out: &mut Listing<ModItem>, phase: Counter)
     assign(alloc, out, b"fx_fed", fed);
     let open = unless(alloc, b"fx_due", b"out_ready");
     assign(alloc, out, b"fx_open", open);
-}
-
-/// Drives the signals, the handshake and the counters.
-pub fn drive(alloc: Global, out: &mut Listing<ModItem>, counters: Counters)
-    ensures { Lists out.old out.new (control_driven counters) }
-{
-    put_signals(alloc, out, counters.phase);
     let moves = binary_of_names(alloc, BinOp::Both, b"fx_fed", b"fx_open");
     assign(alloc, out, b"fx_core_clk_enable", moves);
     let ready = binary_of_names(alloc, BinOp::Both, b"fx_begin", b"fx_open");
     assign(alloc, out, b"in_ready", ready);
     let valid = binary_of_names(alloc, BinOp::Both, b"fx_due", b"fx_fed");
     assign(alloc, out, b"out_valid", valid);
+}
+
+/// Drives the signals, the handshake and the counters.
+pub fn drive(alloc: Global, out: &mut Listing<ModItem>, counters: Counters)
+    ensures { Lists out.old out.new (control_driven counters) }
+{
+    let Counters { phase, wait } = counters;
+    put_signals(alloc, out, phase);
+    let end = name_of(alloc, b"fx_end");
+    let more = with_number(alloc, BinOp::Add, b"fx_phase", phase.width, 1);
     put_register(
         out,
         Text::copy(alloc, b"fx_phase"),
-        plain(counters.phase.width, 0),
+        plain(phase.width, 0),
         name_of(alloc, b"fx_core_clk_enable"),
-        next_phase(alloc, counters.phase),
+        choose(alloc, end, Ok(number(phase.width, 0)), more),
     );
+    let left = name_of(alloc, b"fx_wait");
+    let fewer = with_number(alloc, BinOp::Subtract, b"fx_wait", wait.width, 1);
     put_register(
         out,
         Text::copy(alloc, b"fx_wait"),
-        plain(counters.wait.width, counters.wait.most),
+        plain(wait.width, wait.most),
         moving(alloc, b"fx_end"),
-        next_wait(alloc, counters.wait),
+        choose(alloc, left, fewer, Ok(number(wait.width, 0))),
     );
 }

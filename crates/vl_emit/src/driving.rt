@@ -1,16 +1,10 @@
 //! What drives each net.
 ghost use Rattle.std.specs.Prelude.{◌≡◌, ◌<◌, ℕ, length, IfOk};
-ghost use Rattle.vl_ast.specs.declared.expressions.BinOp.TheVariants.{Subtract};
-ghost use Rattle.vl_ast.specs.declared.expressions.Expr.TheVariants.{Name, Literal, Binary, Choose};
 ghost use Rattle.hw_net.specs.declared.netlist.NetOp.TheVariants.{Input};
 ghost use Rattle.hw_net.specs.declared.netlist.NetKind.TheVariants.{Comb, Reg, EnReg, Bridge};
 ghost use Rattle.hw_net.specs.declared.netlist.NetKind.TheVariants.{Unit, Counter};
 ghost use Rattle.vl_emit.specs.inner.Ready.{Drives, IsNet, HasArguments, HasKind, input_count};
-ghost use Rattle.vl_emit.specs.inner.Ready.{argument_in, input_in, wire_in};
-ghost use Rattle.vl_emit.specs.inner.Ready.{live_in, taken_in};
-ghost use Rattle.vl_emit.specs.inner.Emitted.{plain_number};
-ghost use Rattle.vl_emit.specs.inner.Operators.{test_of};
-ghost use Rattle.vl_emit.specs.Names.{hold_name};
+ghost use Rattle.vl_emit.specs.inner.Ready.{argument_in, input_in, taken_in};
 ghost use Rattle.vl_emit.specs.inner.Spoken.{wire_at, CanBeWritten};
 
 use crate::conditions::{clocks, enable, enabled_taking, live_test, slot_test, with_enable};
@@ -92,19 +86,6 @@ pub fn put_unit(
     put_assignment(out, text_of(alloc, net.called), value);
 }
 
-/// What a Counter takes: one less than it has, and the greatest after 0.
-fn next_count(alloc: Global, net: Operand, greatest: Sized) -> Made<Expr>
-    requires { CanBeWritten net }
-    ensures { IfOk result (λ e. e ≡ Choose (test_of (wire_at net.entry))
-        (Binary Subtract (Name (wire_at net.entry).name) (Literal (plain_number net.entry.width 1)))
-        (Literal greatest)) }
-{
-    let one = Expr::Literal(plain(net.width, 1));
-    let less = binary(alloc, BinOp::Subtract, operand_name(alloc, net), Ok(one));
-    let greatest = Expr::Literal(greatest);
-    choose(alloc, test_of(alloc, net), less, Ok(greatest))
-}
-
 /// Puts the item of a Counter.
 pub fn put_counter(
     alloc: Global,
@@ -119,12 +100,15 @@ pub fn put_counter(
     let net = operand(source, own);
     let top = u128::from(clocks(source, frame) - 1);
     let start = u128::from(frame.latency) * u128::from(source.netlist.cycles());
+    let one = Expr::Literal(plain(net.width, 1));
+    let less = binary(alloc, BinOp::Subtract, operand_name(alloc, net), Ok(one));
+    let greatest = Expr::Literal(plain(net.width, top));
     put_register(
         out,
         text_of(alloc, net.called),
         plain(net.width, start + top),
         enable(alloc),
-        next_count(alloc, net, plain(net.width, top)),
+        choose(alloc, test_of(alloc, net), less, Ok(greatest)),
     );
 }
 
@@ -201,25 +185,6 @@ pub fn put_enabled(
     );
 }
 
-/// What a bridge shows: another net where it is live, else what its register holds.
-fn bridge_value(
-    alloc: Global,
-    source: Source,
-    own: usize,
-    frame: Frame,
-    live: u32,
-    from: u32,
-) -> Made<Expr>
-    requires { HasKind source own (Bridge frame live from) }
-    ensures { IfOk result (λ e. e ≡ Choose (live_in source.entry frame live)
-        (Name (wire_in source.entry from).name) (Name (hold_name own))) }
-{
-    let held = named(numbered(alloc, b"fx_h", own));
-    let test = live_test(alloc, source, frame, live);
-    let passed = operand_name(alloc, operand(source, from as usize));
-    choose(alloc, test, passed, held)
-}
-
 /// Puts the items of a bridge: its wire, and the register that holds its value.
 pub fn put_bridge(
     alloc: Global,
@@ -234,7 +199,10 @@ pub fn put_bridge(
     ensures { Drives source.entry own (Bridge frame live from) out.old out.new }
 {
     let net = operand(source, own);
-    let value = bridge_value(alloc, source, own, frame, live, from);
+    let test = live_test(alloc, source, frame, live);
+    let passed = operand_name(alloc, operand(source, from as usize));
+    let held = named(numbered(alloc, b"fx_h", own));
+    let value = choose(alloc, test, passed, held);
     put_assignment(out, text_of(alloc, net.called), value);
     put_register(
         out,
