@@ -1,7 +1,7 @@
 -- A net that is written at a width has there the bits of its number.
 use Rattle.std.proofs.Common.{◌≡◌, ℕ, zero, suc, ◌+◌, ◌-◌, ◌*◌, ◌/◌, ◌%◌, ◌^◌, ◌<◌, ◌≤◌, ◌==◌, nat_le, max, fold, replicate, Bool, true, false, if◌then◌else◌, List, [], ◌∷◌, ℤ, pos, negsuc, ap, sym, ◌∙◌, subst, refl, arith, pow_pos, pow_mono, mul_assoc}
 use Rattle.std.proofs.lemmas.Int.{ints}
-use Rattle.std.proofs.lemmas.Nat.{pow-add, mod_below, shr_high, mod-pow-add, shr-shr, field_of}
+use Rattle.std.proofs.lemmas.Nat.{pow-add, shr_high, shr-shr, field_of}
 use Rattle.std.proofs.Math.Nat.{mod-eq_of_lt, div-eq_of_lt, add-mul, mul-sub, pow-succ', le-mul_of_pos_right}
 use Rattle.std.proofs.lemmas.Bool.{cond_both, eqb-true, leb-true, leb-false}
 use Rattle.std.specs.Int.{bit_at}
