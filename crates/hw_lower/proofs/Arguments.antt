@@ -1,5 +1,5 @@
 -- What a plan gives of its arguments.
-use Rattle.std.proofs.Common.{◌≡◌, ℕ, ◌+◌, ◌<◌, ◌≤◌, inl, inr, Bool, true, false, List, [], ◌∷◌, ◌++◌, length, slice_get, Some, ℤ, pos, negsuc, ◌+ℤ◌, ◌≤ℤ◌, to_z, of_z, FitsSigned, All, Result, IfOk, sym, ap, ◌∙◌, subst, arith, refl}
+use Rattle.std.proofs.Common.{◌≡◌, ℕ, ◌+◌, ◌<◌, ◌≤◌, inl, inr, Bool, true, false, List, [], ◌∷◌, ◌++◌, length, slice_get, Some, ℤ, pos, negsuc, ◌+ℤ◌, ◌≤ℤ◌, to_z, of_z, FitsSigned, All, sym, ap, ◌∙◌, subst, arith, refl}
 use Rattle.std.specs.Prelude.{MatchBool}
 use Rattle.std.specs.Int.{w16}
 use Rattle.std.proofs.lemmas.Int.{ints}
@@ -15,9 +15,10 @@ use Rattle.hw_net.specs.declared.netlist.NetOp.TheVariants.{Input}
 use Rattle.dg_model.specs.Operation.{Operation, HasArity, Gives, IsConverted, without_frac, type_of}
 use Rattle.hw_lower.specs.declared.plan.Step.{Step}
 use Rattle.hw_lower.specs.declared.plan.Operand.{Operand}
+use Rattle.hw_lower.specs.declared.plan.Plan.{Plan}
 use Rattle.hw_lower.specs.Lowered.{multiply_of}
-use Rattle.hw_lower.specs.inner.Planned.{Numbers, IsSwitched, word_of, step_of}
-use Rattle.hw_lower.specs.inner.Spread.{AreArguments, AreInputs, HasArguments, OfArguments, IsPlanned, IsScaled}
+use Rattle.hw_lower.specs.inner.Planned.{Numbers, IsPut, IsSwitched, word_of, step_of}
+use Rattle.hw_lower.specs.inner.Spread.{AreArguments, AreInputs, BeginsWith, HasArguments, OfArguments, IsPlanned, IsScaled}
 use Rattle.fx_io.proofs.Places.{last_at}
 use Rattle.hw_lower.proofs.Made.{one-longer, still-at}
 use Rattle.fx_type.proofs.Ranges.{type-word}
@@ -57,21 +58,19 @@ without-none Logical = refl
 without-none (Num signed width frac) = refl
 
 -- the plan of an operation that is known
-abbrev pub PlansOp : List Step → List Step → Operation → Op → Operand → Type 0
+abbrev pub PlansOp : Plan → Plan → Operation → Op → Operand → Type 0
 PlansOp old new operation op made =
     IsPlanned old new (multiply_of op) (word_of operation.result) (λ numbers. OfArguments operation.types numbers (λ values. Gives op operation operation.types values (numbers made.place))) made
 
-pub plan-of : {E : Type 0} (old new : List Step) (operation : Operation) (op : Op) (result : Result Operand E) → operation.op ≡ op → IfOk result (PlansOp old new operation op) → IfOk result (PlansOp old new operation operation.op)
-plan-of old new operation op result e is = subst (λ (o : Op). IfOk result (PlansOp old new operation o)) (sym e) is
+pub plan-of : {old new : Plan} {made : Operand} (operation : Operation) (op : Op) → operation.op ≡ op → PlansOp old new operation op made → PlansOp old new operation operation.op made
+plan-of {old} {new} {made} operation op e is = subst (λ (o : Op). PlansOp old new operation o made) (sym e) is
 
 -- a plan that begins with inputs has the arguments
-pub inputs-there : (plan : List Step) (types : List FxType) → AreInputs plan types (length types) → All IsType types → HasArguments plan types
-inputs-there plan types are valid = record {
+pub inputs-there : (plan : Plan) (types : List FxType) → BeginsWith plan types (length types) → All IsType types → HasArguments plan types
+inputs-there plan types begins valid = record {
   each = λ input inside. record {
-    step = step_of (Input input) 0 0 0 (word_of (type_of types input));
-    is = are.each input inside;
-    word = refl;
     valid = type-word (type_of types input) (valid input (Num false 0 (pos 0)) inside);
+    there = λ enough. record { step = step_of (Input input) 0 0 0 (word_of (type_of types input)); is = (begins.are enough).each input inside; word = refl };
   };
 }
 
@@ -103,8 +102,8 @@ gate-inputs Nxor n has = omega (arith, has.0)
 gate-inputs Not n has = omega (arith, has)
 
 -- one input more
-pub inputs-more : (old new : List Step) (types : List FxType) (k : ℕ) → AreInputs old types k → new ≡ old ++ step_of (Input k) 0 0 0 (word_of (type_of types k)) ∷ [] → AreInputs new types (k + 1)
-inputs-more old new types k are is = record {
+input-more : (old new : List Step) (types : List FxType) (k : ℕ) → AreInputs old types k → new ≡ old ++ step_of (Input k) 0 0 0 (word_of (type_of types k)) ∷ [] → AreInputs new types (k + 1)
+input-more old new types k are is = record {
   size = one-longer old new (step_of (Input k) 0 0 0 (word_of (type_of types k))) is ∙ omega (arith, are.size);
   each = λ input inside.
       elim (cases_lt input k) [
@@ -117,10 +116,15 @@ inputs-more old new types k are is = record {
       ];
 }
 
+pub inputs-more : (old new : Plan) (types : List FxType) (k : ℕ) (made : Operand) → BeginsWith old types k → IsPut old new (step_of (Input k) 0 0 0 (word_of (type_of types k))) made → BeginsWith new types (k + 1)
+inputs-more old new types k made begins put = record {
+  are = λ enough. let p = put.put enough in input-more old.steps new.steps types k (begins.are p.0) p.1.is;
+}
+
 -- the same where the result has a type that is known
-pub plan-typed : {E : Type 0} (old new : List Step) (operation : Operation) (op : Op) (type : FxType) (result : Result Operand E) → operation.op ≡ op → operation.result ≡ type
-    → IfOk result (λ made. IsPlanned old new (multiply_of op) (word_of type) (λ numbers. OfArguments operation.types numbers (λ values. Gives op operation operation.types values (numbers made.place))) made)
-    → IfOk result (PlansOp old new operation operation.op)
-plan-typed old new operation op type result e f is =
-    plan-of old new operation op result e
-    (subst (λ (t : FxType). IfOk result (λ made. IsPlanned old new (multiply_of op) (word_of t) (λ numbers. OfArguments operation.types numbers (λ values. Gives op operation operation.types values (numbers made.place))) made)) (sym f) is)
+pub plan-typed : {old new : Plan} {made : Operand} (operation : Operation) (op : Op) (type : FxType) → operation.op ≡ op → operation.result ≡ type
+    → IsPlanned old new (multiply_of op) (word_of type) (λ numbers. OfArguments operation.types numbers (λ values. Gives op operation operation.types values (numbers made.place))) made
+    → PlansOp old new operation operation.op made
+plan-typed {old} {new} {made} operation op type e f is =
+    plan-of operation op e
+    (subst (λ (t : FxType). IsPlanned old new (multiply_of op) (word_of t) (λ numbers. OfArguments operation.types numbers (λ values. Gives op operation operation.types values (numbers made.place))) made) (sym f) is)

@@ -1,70 +1,67 @@
 -- One function's steps behind another's.
-use Rattle.std.proofs.Common.{List, Result, Ok, Err, IfOk, subst, refl}
+use Rattle.std.proofs.Common.{◌≡◌, false, subst, refl}
 use Rattle.fx_num.specs.Word.{InWord}
 use Rattle.hw_lower.specs.declared.plan.Word.{Word}
-use Rattle.hw_lower.specs.declared.plan.Step.{Step}
 use Rattle.hw_lower.specs.declared.plan.Operand.{Operand}
+use Rattle.hw_lower.specs.declared.plan.Plan.{Plan}
 use Rattle.hw_lower.specs.inner.Planned.{Numbers, Obeys, IsAt, IsMade}
 use Rattle.hw_lower.proofs.Made.{grows-self, grows-trans, obeys-before}
 
 -- every operand has a number of its word
-abbrev pub InWords : List Step → Numbers → Type 0
+abbrev pub InWords : Plan → Numbers → Type 0
 InWords plan numbers = (one : Operand) → IsAt plan one → InWord one.word.width one.word.signed (numbers one.place)
 
-pub in-words : (plan : List Step) (inputs numbers : Numbers) → Obeys plan inputs numbers → InWords plan numbers
-in-words plan inputs numbers obeys one at =
-    subst (λ (w : Word). InWord w.width w.signed (numbers one.place)) at.word (obeys.each one.place at.step at.is).in_word
+pub in-words : (plan : Plan) (inputs numbers : Numbers) → plan.wanting ≡ false → Obeys plan.steps inputs numbers → InWords plan numbers
+in-words plan inputs numbers enough obeys one at =
+    let is = at.there enough in
+    subst (λ (w : Word). InWord w.width w.signed (numbers one.place)) is.word (obeys.each one.place is.step is.is).in_word
 
-pub made-map : {old new : List Step} {word : Word} {P : Numbers → Type 0} {made : Operand} (Q : Numbers → Type 0) → IsMade old new word P made
+-- both hold, and what follows
+pub made-then : {a b c : Plan} {first word : Word} {P Q : Numbers → Type 0} {one made : Operand} (R : Numbers → Type 0) → IsMade a b first P one → IsMade b c word Q made
+    → ((numbers : Numbers) → InWords a numbers → InWords b numbers → P numbers → Q numbers → R numbers) → IsMade a c word R made
+made-then {a} {b} {c} R p q f = record {
+  grows = grows-trans a b c p.grows q.grows;
+  at = q.at;
+  has_word = q.has_word;
+  gives = record {
+    give = λ enough.
+        let last = q.grows.adds enough in
+        let first = p.grows.adds last.0 in
+        record {
+          holds = λ inputs numbers obeys.
+              let before = obeys-before b.steps c.steps inputs numbers last.1 obeys in
+              f numbers (in-words a inputs numbers first.0 (obeys-before a.steps b.steps inputs numbers first.1 before)) (in-words b inputs numbers last.0 before)
+              ((p.gives.give last.0).holds inputs numbers before) ((q.gives.give enough).holds inputs numbers obeys);
+        };
+  };
+}
+
+pub made-both : {a b c : Plan} {first word : Word} {P Q : Numbers → Type 0} {one made : Operand} → IsMade a b first P one → IsMade b c word Q made
+    → IsMade a c word (λ numbers. P numbers × Q numbers) made
+made-both {P = P} {Q = Q} p q = made-then (λ numbers. P numbers × Q numbers) p q (λ numbers has later x y. (x, y))
+
+-- what follows
+pub made-map : {old new : Plan} {word : Word} {P : Numbers → Type 0} {made : Operand} (Q : Numbers → Type 0) → IsMade old new word P made
     → ((numbers : Numbers) → InWords old numbers → P numbers → Q numbers) → IsMade old new word Q made
 made-map {old} {new} Q is f = record {
   grows = is.grows;
   at = is.at;
   has_word = is.has_word;
-  gives = record { holds = λ inputs numbers obeys. f numbers (in-words old inputs numbers (obeys-before old new inputs numbers is.grows obeys)) (is.gives.holds inputs numbers obeys) };
-}
-
--- both hold
-pub made-both : {a b c : List Step} {first word : Word} {P Q : Numbers → Type 0} {one made : Operand} → IsMade a b first P one → IsMade b c word Q made
-    → IsMade a c word (λ numbers. P numbers × Q numbers) made
-made-both {a} {b} {c} p q = record {
-  grows = grows-trans a b c p.grows q.grows;
-  at = q.at;
-  has_word = q.has_word;
   gives = record {
-    holds = λ inputs numbers obeys. (p.gives.holds inputs numbers (obeys-before b c inputs numbers q.grows obeys), q.gives.holds inputs numbers obeys);
+    give = λ enough.
+        let grown = is.grows.adds enough in
+        record {
+          holds = λ inputs numbers obeys.
+              f numbers (in-words old inputs numbers grown.0 (obeys-before old.steps new.steps inputs numbers grown.1 obeys)) ((is.gives.give enough).holds inputs numbers obeys);
+        };
   };
 }
 
 -- an operand that is there
-pub made-self : {plan : List Step} {one : Operand} (Q : Numbers → Type 0) → IsAt plan one → ((numbers : Numbers) → InWords plan numbers → Q numbers) → IsMade plan plan one.word Q one
+pub made-self : {plan : Plan} {one : Operand} (Q : Numbers → Type 0) → IsAt plan one → ((numbers : Numbers) → InWords plan numbers → Q numbers) → IsMade plan plan one.word Q one
 made-self {plan} {one} Q at f = record {
   grows = grows-self plan;
   at = at;
   has_word = refl;
-  gives = record { holds = λ inputs numbers obeys. f numbers (in-words plan inputs numbers obeys) };
+  gives = record { give = λ enough. record { holds = λ inputs numbers obeys. f numbers (in-words plan inputs numbers enough obeys) } };
 }
-
--- the same of a call that may want memory
-pub if-map : {E : Type 0} (old new : List Step) (word : Operand → Word) (P Q : Operand → Numbers → Type 0) (result : Result Operand E)
-    → IfOk result (λ made. IsMade old new (word made) (P made) made)
-    → ((made : Operand) (numbers : Numbers) → InWords old numbers → P made numbers → Q made numbers)
-    → IfOk result (λ made. IsMade old new (word made) (Q made) made)
-if-map old new word P Q (Ok made) is f = made-map (Q made) is (λ numbers has p. f made numbers has p)
-if-map old new word P Q (Err e) is f = tt
-
-pub if-then : {E : Type 0} (a b c : List Step) (first : Word) (word : Operand → Word) (P : Numbers → Type 0) (Q R : Operand → Numbers → Type 0) (one : Operand) (result : Result Operand E)
-    → IsMade a b first P one → IfOk result (λ made. IsMade b c (word made) (Q made) made)
-    → ((made : Operand) (numbers : Numbers) → InWords a numbers → InWords b numbers → P numbers → Q made numbers → R made numbers)
-    → IfOk result (λ made. IsMade a c (word made) (R made) made)
-if-then a b c first word P Q R one (Ok made) p q f = record {
-  grows = grows-trans a b c p.grows q.grows;
-  at = q.at;
-  has_word = q.has_word;
-  gives = record {
-    holds = λ inputs numbers obeys.
-        let before = obeys-before b c inputs numbers q.grows obeys in
-        f made numbers (in-words a inputs numbers (obeys-before a b inputs numbers p.grows before)) (in-words b inputs numbers before) (p.gives.holds inputs numbers before) (q.gives.holds inputs numbers obeys);
-  };
-}
-if-then a b c first word P Q R one (Err e) p q f = tt

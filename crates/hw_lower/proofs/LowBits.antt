@@ -1,8 +1,8 @@
 -- Bits of numbers in two's complement.
-use Rattle.std.proofs.Common.{◌≡◌, ◌↔◌, ℕ, suc, ◌+◌, ◌-◌, ◌*◌, ◌/◌, ◌%◌, ◌^◌, ◌<◌, ◌≤◌, Bool, true, false, ℤ, pos, negsuc, ◌+ℤ◌, ◌*ℤ◌, ap, sym, ◌∙◌, subst, arith, pow_pos, pow_mono, mod-lt, div-add-mod', true≢false}
+use Rattle.std.proofs.Common.{◌≡◌, ◌↔◌, ℕ, suc, ◌+◌, ◌-◌, ◌/◌, ◌%◌, ◌^◌, ◌<◌, ◌≤◌, Bool, true, false, ℤ, pos, negsuc, ◌+ℤ◌, ◌*ℤ◌, ap, sym, ◌∙◌, subst, arith, pow_pos, pow_mono, mod-lt, div-add-mod', true≢false}
 use Rattle.std.proofs.lemmas.Int.{ints}
-use Rattle.std.proofs.lemmas.Nat.{pow-add, mod_below, shr_high, shr_le, mod-pow-add}
-use Rattle.std.proofs.Math.Nat.{mod-eq_of_lt, add-mul}
+use Rattle.std.proofs.lemmas.Nat.{shr_high, shr_le}
+use Rattle.std.proofs.Math.Nat.{mod-eq_of_lt}
 use Rattle.fx_num.specs.Word.{IsWord, InWord}
 use Rattle.fx_num.proofs.Arithmetic.{double}
 use Rattle.hw_net.specs.Operation.{low_bits, shifted_down}

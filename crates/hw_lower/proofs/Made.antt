@@ -1,5 +1,5 @@
 -- A plan that grows by one step, and what its numbers are then.
-use Rattle.std.proofs.Common.{◌≡◌, inl, inr, ℕ, zero, suc, ◌+◌, ◌<◌, ◌≤◌, ℤ, List, [], ◌∷◌, ◌++◌, take, length, All, slice_get, Some, ap, sym, ◌∙◌, subst, arith, refl, length-append, append_assoc, append-nil, Result, Ok, Err, IfOk}
+use Rattle.std.proofs.Common.{◌≡◌, inl, inr, ℕ, zero, suc, ◌+◌, ◌<◌, ◌≤◌, ℤ, List, [], ◌∷◌, ◌++◌, take, length, All, slice_get, Some, ap, sym, ◌∙◌, subst, arith, refl, length-append, append_assoc, append-nil, false}
 use Rattle.std.proofs.lemmas.Bool.{cases_lt}
 use Rattle.std.proofs.lemmas.Option.{same_Some, slice_get_within}
 use Rattle.fx_num.specs.Word.{IsWord, InWord, IsWrapped}
@@ -11,7 +11,8 @@ use Rattle.hw_net.proofs.Numbers.{wrapped-is}
 use Rattle.hw_lower.specs.declared.plan.Word.{Word}
 use Rattle.hw_lower.specs.declared.plan.Step.{Step}
 use Rattle.hw_lower.specs.declared.plan.Operand.{Operand}
-use Rattle.hw_lower.specs.inner.Planned.{Numbers, Obeys, IsAt, HasParts, CanRead, IsPlain, IsSound, Adds, Grows, IsMade, IsPut, reads_of, operands_of, three, no_inputs, step_of}
+use Rattle.hw_lower.specs.declared.plan.Plan.{Plan}
+use Rattle.hw_lower.specs.inner.Planned.{Numbers, Obeys, IsAt, IsStep, HasParts, CanRead, IsPlain, IsSound, Adds, Grows, IsMade, IsLast, IsPut, operands_of, three, no_inputs, step_of}
 
 -- Plans that grow.
 
@@ -21,19 +22,28 @@ still-at old added new k step is there = ap (λ (xs : List Step). slice_get xs k
 pub stood-at : (old added new : List Step) (k : ℕ) (step : Step) → new ≡ old ++ added → k < length old → slice_get new k ≡ Some step → slice_get old k ≡ Some step
 stood-at old added new k step is inside there = sym (get_front old added k inside) ∙ ap (λ (xs : List Step). slice_get xs k) (sym is) ∙ there
 
-pub at-later : (old new : List Step) (one : Operand) → Grows old new → IsAt old one → IsAt new one
-at-later old new one g at = record { step = at.step; is = still-at old g.added new one.place at.step g.is at.is; word = at.word; valid = at.valid }
+step-later : (old added new : List Step) (one : Operand) → new ≡ old ++ added → IsStep old one → IsStep new one
+step-later old added new one is at = record { step = at.step; is = still-at old added new one.place at.step is at.is; word = at.word }
+
+pub at-later : (old new : Plan) (one : Operand) → Grows old new → IsAt old one → IsAt new one
+at-later old new one g at = record {
+  valid = at.valid;
+  there = λ enough. let grown = g.adds enough in step-later old.steps grown.1.added new.steps one grown.1.is (at.there grown.0);
+}
 
 pub obeys-before : (old new : List Step) {part : NetOp → Type 0} (inputs numbers : Numbers) → Adds old new part → Obeys new inputs numbers → Obeys old inputs numbers
 obeys-before old new inputs numbers g obeys = record { each = λ k step there. obeys.each k step (still-at old g.added new k step g.is there) }
 
-pub grows-self : (plan : List Step) → Grows plan plan
-grows-self plan = record {
+adds-none : (steps : List Step) (part : NetOp → Type 0) → Adds steps steps part
+adds-none steps part = record {
   added = [];
-  is = sym (append-nil plan);
-  sound = λ k step past there. absurd (omega (arith, past, slice_get_within plan k step there));
-  parts = λ k step past there. absurd (omega (arith, past, slice_get_within plan k step there));
+  is = sym (append-nil steps);
+  sound = λ k step past there. absurd (omega (arith, past, slice_get_within steps k step there));
+  parts = λ k step past there. absurd (omega (arith, past, slice_get_within steps k step there));
 }
+
+pub grows-self : (plan : Plan) → Grows plan plan
+grows-self plan = record { adds = λ enough. (enough, adds-none plan.steps IsPlain) }
 
 pub parts-later : (old added new : List Step) (op : NetOp) (first second third : ℕ) → new ≡ old ++ added
     → All (λ read. read < length old) (take (arity op) (first ∷ second ∷ third ∷ [])) → HasParts old first op → HasParts new first op
@@ -83,8 +93,13 @@ adds-then a b c first last all f g p q = record {
   parts = each-trans a b q.added c (λ k step. first step.op) (λ k step. all step.op) q.is (λ k step less is. f step.op is) p.parts (λ k step more there. g step.op (q.parts k step more there));
 }
 
-pub grows-trans : (a b c : List Step) → Grows a b → Grows b c → Grows a c
-grows-trans a b c = adds-then a b c IsPlain IsPlain IsPlain (λ op plain. plain) (λ op plain. plain)
+pub grows-trans : (a b c : Plan) → Grows a b → Grows b c → Grows a c
+grows-trans a b c p q = record {
+  adds = λ enough.
+      let last = q.adds enough in
+      let first = p.adds last.0 in
+      (first.0, adds-then a.steps b.steps c.steps IsPlain IsPlain IsPlain (λ op plain. plain) (λ op plain. plain) first.1 last.1);
+}
 
 -- one step more
 
@@ -114,17 +129,27 @@ adds-one old new step part is sound own = record {
       subst (λ (s : Step). part s.op) last.1 own;
 }
 
-pub put-made : (old new : List Step) (step : Step) (made : Operand) (P : Numbers → Type 0) → IsPut old new step made → IsSound new (length old) step → IsPlain step.op
+pub last-there : (old new : List Step) (step : Step) (made : Operand) → IsLast old new step made → slice_get new made.place ≡ Some step
+last-there old new step made last = ap (slice_get new) last.place ∙ ap (λ (xs : List Step). slice_get xs (length old)) last.is ∙ last_at old step
+
+pub put-at : (old new : Plan) (step : Step) (made : Operand) → IsPut old new step made → IsWord step.word.width step.word.signed → IsAt new made
+put-at old new step made put valid = record {
+  valid = subst (λ (w : Word). IsWord w.width w.signed) (sym put.word) valid;
+  there = λ enough. record { step = step; is = last-there old.steps new.steps step made (put.put enough).1; word = sym put.word };
+}
+
+put-made : (old new : Plan) (step : Step) (made : Operand) (P : Numbers → Type 0) → IsPut old new step made → IsWord step.word.width step.word.signed
+    → (old.wanting ≡ false → IsLast old.steps new.steps step made → IsSound new.steps (length old.steps) step) → IsPlain step.op
     → ((inputs numbers : Numbers) → IsWrapped (given_by step.op inputs (operands_of numbers step)) step.word.width step.word.signed (numbers made.place) → P numbers)
     → IsMade old new step.word P made
-put-made old new step made P put sound plain gives =
-    let there : slice_get new made.place ≡ Some step = ap (slice_get new) put.place ∙ ap (λ (xs : List Step). slice_get xs (length old)) put.is ∙ last_at old step in
-    record {
-      grows = adds-one old new step IsPlain put.is sound plain;
-      at = record { step = step; is = there; word = sym put.word; valid = subst (λ (w : Word). IsWord w.width w.signed) (sym put.word) sound.word };
-      has_word = put.word;
-      gives = record { holds = λ inputs numbers obeys. gives inputs numbers (obeys.each made.place step there) };
-    }
+put-made old new step made P put valid sound plain gives = record {
+  grows = record { adds = λ enough. let p = put.put enough in (p.0, adds-one old.steps new.steps step IsPlain p.1.is (sound p.0 p.1) plain) };
+  at = put-at old new step made put valid;
+  has_word = put.word;
+  gives = record {
+    give = λ enough. record { holds = λ inputs numbers obeys. gives inputs numbers (obeys.each made.place step (last-there old.steps new.steps step made (put.put enough).1)) };
+  };
+}
 
 -- operations of steps alone do not look at the inputs
 pub plain-given : (op : NetOp) (inputs : Numbers) (of : Operands) → IsPlain op → given_by op inputs of ≡ given_by op no_inputs of
@@ -146,7 +171,7 @@ plain-given Equal inputs of plain = refl
 plain-given Choose inputs of plain = refl
 plain-given (Slice high low) inputs of plain = refl
 
-pub parts-are : (plan : List Step) (op : NetOp) (one : Operand) → IsAt plan one → CanRead op one.word.width → HasParts plan one.place op
+pub parts-are : (plan : List Step) (op : NetOp) (one : Operand) → IsStep plan one → CanRead op one.word.width → HasParts plan one.place op
 parts-are plan (Input number) one at can = tt
 parts-are plan (Const value) one at can = tt
 parts-are plan Resize one at can = tt
@@ -182,38 +207,27 @@ below-taken (suc (suc (suc n))) a b c bound p q r (suc (suc zero)) d within = r
 below-taken (suc (suc (suc zero))) a b c bound p q r (suc (suc (suc i))) d within = absurd (omega arith)
 below-taken (suc (suc (suc (suc n)))) a b c bound p q r (suc (suc (suc i))) d within = absurd (omega arith)
 
-pub operation-made : (old new : List Step) (op : NetOp) (first second third made : Operand) (word : Word) → IsPlain op → CanRead op first.word.width
+pub operation-made : (old new : Plan) (op : NetOp) (first second third made : Operand) (word : Word) → IsPlain op → CanRead op first.word.width
     → IsAt old first → IsAt old second → IsAt old third → IsWord word.width word.signed → IsPut old new (step_of op first.place second.place third.place word) made
     → IsMade old new word (λ numbers. IsWrapped (given_by op no_inputs (three numbers first second third)) word.width word.signed (numbers made.place)) made
 operation-made old new op first second third made word plain can one other last valid put =
-    let step : Step = step_of op first.place second.place third.place word in
-    let p = slice_get_within old first.place one.step one.is in
-    let q = slice_get_within old second.place other.step other.is in
-    let r = slice_get_within old third.place last.step last.is in
-    let reads : All (λ read. read < length old) (reads_of step) = below-taken (arity op) first.place second.place third.place (length old) p q r in
-    let sound : IsSound new (length old) step = record {
+    put-made old new (step_of op first.place second.place third.place word) made _ put valid
+    (λ enough is.
+    let x = one.there enough in
+    let y = other.there enough in
+    let z = last.there enough in
+    let reads = below-taken (arity op) first.place second.place third.place (length old.steps) (slice_get_within old.steps first.place x.step x.is) (slice_get_within old.steps second.place y.step y.is) (slice_get_within old.steps third.place z.step z.is) in
+    record {
       word = valid;
       before = reads;
-      parts = parts-later old (step ∷ []) new op first.place second.place third.place put.is reads (parts-are old op first one can);
-    } in
-    put-made old new step made _ put sound plain (λ inputs numbers is. rw (plain-given op inputs (three numbers first second third) plain) at is)
+      parts = parts-later old.steps (step_of op first.place second.place third.place word ∷ []) new.steps op first.place second.place third.place is.is reads (parts-are old.steps op first x can);
+    })
+    plain (λ inputs numbers is. rw (plain-given op inputs (three numbers first second third) plain) at is)
 
 -- the number of a word that is congruent to one of the word is that one
-pub constant-made : (old new : List Step) (value : ℤ) (word : Word) (made : Operand) → IsWord word.width word.signed → InWord word.width word.signed value → IsPut old new (step_of (Const value) 0 0 0 word) made
+pub constant-made : (old new : Plan) (value : ℤ) (word : Word) (made : Operand) → IsWord word.width word.signed → InWord word.width word.signed value → IsPut old new (step_of (Const value) 0 0 0 word) made
     → IsMade old new word (λ numbers. numbers made.place ≡ value) made
 constant-made old new value word made valid has put =
-    let step : Step = step_of (Const value) 0 0 0 word in
-    let sound : IsSound new (length old) step = record { word = valid; before = λ i d within. absurd (omega arith); parts = tt } in
-    put-made old new step made _ put sound tt (λ inputs numbers is. wrapped-is value word.width word.signed (numbers made.place) valid has is)
-
--- the same of a call that may want memory
-pub if-put-operation : {E : Type 0} (old new : List Step) (result : Result Operand E) (op : NetOp) (first second third : Operand) (word : Word) → IsPlain op → CanRead op first.word.width
-    → IsAt old first → IsAt old second → IsAt old third → IsWord word.width word.signed → IfOk result (λ made. IsPut old new (step_of op first.place second.place third.place word) made)
-    → IfOk result (λ made. IsMade old new word (λ numbers. IsWrapped (given_by op no_inputs (three numbers first second third)) word.width word.signed (numbers made.place)) made)
-if-put-operation old new (Ok made) op first second third word plain can one other last valid put = operation-made old new op first second third made word plain can one other last valid put
-if-put-operation old new (Err e) op first second third word plain can one other last valid put = tt
-
-pub if-put-constant : {E : Type 0} (old new : List Step) (result : Result Operand E) (value : ℤ) (word : Word) → IsWord word.width word.signed → InWord word.width word.signed value
-    → IfOk result (λ made. IsPut old new (step_of (Const value) 0 0 0 word) made) → IfOk result (λ made. IsMade old new word (λ numbers. numbers made.place ≡ value) made)
-if-put-constant old new (Ok made) value word valid has put = constant-made old new value word made valid has put
-if-put-constant old new (Err e) value word valid has put = tt
+    put-made old new (step_of (Const value) 0 0 0 word) made _ put valid
+    (λ enough is. record { word = valid; before = λ i d within. absurd (omega arith); parts = tt })
+    tt (λ inputs numbers is. wrapped-is value word.width word.signed (numbers made.place) valid has is)

@@ -21,7 +21,7 @@ use Rattle.hw_lower.specs.declared.plan.Word.{Word}
 use Rattle.hw_lower.specs.declared.plan.Step.{Step}
 use Rattle.hw_lower.specs.declared.plan.Operand.{Operand}
 use Rattle.hw_lower.specs.Lowered.{AreArgs, IsLowered, IsComb, Lowers, multiply_of, values_at}
-use Rattle.hw_lower.specs.inner.Planned.{Numbers, Obeys, IsAt, Gives, operands_of, reads_of, step_of, word_of}
+use Rattle.hw_lower.specs.inner.Planned.{Numbers, Obeys, IsStep, Give, operands_of, reads_of, step_of, word_of}
 use Rattle.hw_lower.specs.inner.Spread.{AreInputs, AreArguments, OfArguments, IsInner, Spreads}
 use Rattle.hw_lower.specs.inner.Placed.{number_of, net_of, AreNets, CanPut}
 use Rattle.hw_lower.proofs.Made.{stood-at}
@@ -154,7 +154,7 @@ number-stands (arg ∷ args) base (suc place) = elim (number-stands args base pl
 
 -- the nets show what the operation gives
 pub lowered : (before after : Circuit) (args : List ℕ) (start steps : List Step) (operation : Operation) (made : Operand) → IsPutDown before after operation.types args start steps (multiply_of operation.op)
-    → IsAt steps made → made.word ≡ word_of operation.result → Gives steps (λ numbers. OfArguments operation.types numbers (λ values. OpGives operation values (numbers made.place)))
+    → IsStep steps made → made.word ≡ word_of operation.result → Give steps (λ numbers. OfArguments operation.types numbers (λ values. OpGives operation values (numbers made.place)))
     → IsLowered before after operation args (number_of args (length before.nets) made.place)
 lowered before after args start steps operation made down at word gives = record {
   gives = record {
@@ -186,7 +186,7 @@ comb-step net args base step op reads same kind =
 
 -- operations alone are put in, with the one Multiply
 pub lowers : (before after : Circuit) (args : List ℕ) (start steps : List Step) (operation : Operation) (made : Operand) → IsPutDown before after operation.types args start steps (multiply_of operation.op)
-    → IsAt steps made → Lowers before after operation args
+    → IsStep steps made → Lowers before after operation args
 lowers before after args start steps operation made down at = record {
   appends = down.nets.appends;
   combs = λ k past inside.

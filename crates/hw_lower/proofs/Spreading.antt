@@ -1,5 +1,5 @@
 -- Plans that may have the one Multiply.
-use Rattle.std.proofs.Common.{◌≡◌, ℕ, ◌+◌, ◌-◌, ◌≤◌, ◌*ℤ◌, List, [], ◌∷◌, ◌++◌, length, slice_get, Option, None, Some, inl, inr, ap, sym, ◌∙◌, subst, arith, refl, Result, Ok, Err, IfOk}
+use Rattle.std.proofs.Common.{◌≡◌, ℕ, ◌+◌, ◌-◌, ◌≤◌, ◌*ℤ◌, List, [], ◌∷◌, ◌++◌, length, slice_get, Option, None, Some, inl, inr, ap, sym, ◌∙◌, subst, arith, refl, false}
 use Rattle.std.proofs.lemmas.Bool.{cases_lt}
 use Rattle.std.proofs.lemmas.Option.{none-some, same_Some, slice_get_within}
 use Rattle.fx_num.specs.Word.{IsWord, IsWrapped}
@@ -7,24 +7,24 @@ use Rattle.hw_net.specs.declared.netlist.NetOp.TheVariants.{Multiply}
 use Rattle.hw_lower.specs.declared.plan.Word.{Word}
 use Rattle.hw_lower.specs.declared.plan.Step.{Step}
 use Rattle.hw_lower.specs.declared.plan.Operand.{Operand}
-use Rattle.hw_lower.specs.inner.Planned.{Numbers, IsAt, IsPlain, IsSound, Grows, Gives, IsMade, IsPut, step_of}
+use Rattle.hw_lower.specs.declared.plan.Plan.{Plan}
+use Rattle.hw_lower.specs.inner.Planned.{Numbers, Adds, IsAt, IsLast, IsPlain, IsPut, IsSound, IsStep, Gives, IsMade, step_of}
 use Rattle.hw_lower.specs.inner.Spread.{IsInner, IsMultiplyAt, Spreads, IsPlanned}
 use Rattle.fx_io.proofs.Places.{last_at}
-use Rattle.hw_lower.proofs.Made.{adds-one, adds-then, last-is, still-at, stood-at, obeys-before, below-taken}
-use Rattle.hw_lower.proofs.Chained.{InWords, in-words}
+use Rattle.hw_lower.proofs.Made.{adds-one, adds-then, last-is, last-there, still-at, stood-at, obeys-before, one-longer, put-at, below-taken}
 
 -- no plain step is a Multiply
-plain-none : (old new : List Step) (k : ℕ) → Grows old new → length old ≤ k → IsMultiplyAt new k → ⊥
+plain-none : (old new : List Step) (k : ℕ) → Adds old new IsPlain → length old ≤ k → IsMultiplyAt new k → ⊥
 plain-none old new k g past at = subst IsPlain at.multiplies (g.parts k at.step past at.is)
 
-pub spreads-plain : (old new : List Step) → Grows old new → Spreads old new None
+spreads-plain : (old new : List Step) → Adds old new IsPlain → Spreads old new None
 spreads-plain old new g = record {
   adds = record { added = g.added; is = g.is; sound = g.sound; parts = λ k step past there. inl (g.parts k step past there) };
   multiplies = λ place e. absurd (none-some place e);
   only = λ place at. absurd (plain-none old new (length old + place) g (omega arith) at);
 }
 
-pub spreads-multiply : (old new : List Step) (step : Step) → new ≡ old ++ step ∷ [] → IsSound new (length old) step → step.op ≡ Multiply → Spreads old new (Some 0)
+spreads-multiply : (old new : List Step) (step : Step) → new ≡ old ++ step ∷ [] → IsSound new (length old) step → step.op ≡ Multiply → Spreads old new (Some 0)
 spreads-multiply old new step is sound multiplies = record {
   adds = adds-one old new step IsInner is sound (inr multiplies);
   multiplies = λ place e.
@@ -41,7 +41,7 @@ spreads-multiply old new step is sound multiplies = record {
       ap Some none;
 }
 
-pub spreads-then : (a b c : List Step) (m : Option ℕ) → Spreads a b m → Grows b c → Spreads a c m
+spreads-then : (a b c : List Step) (m : Option ℕ) → Spreads a b m → Adds b c IsPlain → Spreads a c m
 spreads-then a b c m p q = record {
   adds = adds-then a b c IsInner IsPlain IsInner (λ op inner. inner) (λ op plain. inl plain) p.adds q;
   multiplies = λ place e.
@@ -55,7 +55,7 @@ spreads-then a b c m p q = record {
 }
 
 -- one plain step before
-pub spreads-after : (a b c : List Step) → Grows a b → length b ≡ length a + 1 → Spreads b c (Some 0) → Spreads a c (Some 1)
+spreads-after : (a b c : List Step) → Adds a b IsPlain → length b ≡ length a + 1 → Spreads b c (Some 0) → Spreads a c (Some 1)
 spreads-after a b c p size q = record {
   adds = adds-then a b c IsPlain IsInner IsInner (λ op plain. inl plain) (λ op inner. inner) p q.adds;
   multiplies = λ place e.
@@ -75,85 +75,91 @@ spreads-after a b c p size q = record {
 }
 
 -- a plan with no Multiply
-pub if-plain : {E : Type 0} (old new : List Step) (word : Word) (P Q : Operand → Numbers → Type 0) (result : Result Operand E)
-    → IfOk result (λ made. IsMade old new word (P made) made)
-    → ((made : Operand) (numbers : Numbers) → InWords old numbers → P made numbers → Q made numbers)
-    → IfOk result (λ made. IsPlanned old new None word (Q made) made)
-if-plain old new word P Q (Ok made) is f = record {
-  spreads = spreads-plain old new is.grows;
+pub made-plain : {old new : Plan} {word : Word} {P : Numbers → Type 0} {made : Operand} (Q : Numbers → Type 0) → IsMade old new word P made
+    → ((numbers : Numbers) → P numbers → Q numbers) → IsPlanned old new None word Q made
+made-plain {old} {new} Q is f = record {
+  spreads = λ enough. let grown = is.grows.adds enough in (grown.0, spreads-plain old.steps new.steps grown.1);
   at = is.at;
   has_word = is.has_word;
-  gives = record { holds = λ inputs numbers obeys. f made numbers (in-words old inputs numbers (obeys-before old new inputs numbers is.grows obeys)) (is.gives.holds inputs numbers obeys) };
+  gives = record { give = λ enough. record { holds = λ inputs numbers obeys. f numbers ((is.gives.give enough).holds inputs numbers obeys) } };
 }
-if-plain old new word P Q (Err e) is f = tt
 
--- the same of a plan with one
-pub if-planned : {E : Type 0} (old new : List Step) (m : Option ℕ) (word : Word) (P Q : Operand → Numbers → Type 0) (result : Result Operand E)
-    → IfOk result (λ made. IsPlanned old new m word (P made) made)
-    → ((made : Operand) (numbers : Numbers) → InWords old numbers → P made numbers → Q made numbers)
-    → IfOk result (λ made. IsPlanned old new m word (Q made) made)
-if-planned old new m word P Q (Ok made) is f = record {
+-- what follows of a plan that may have one
+pub planned-map : {old new : Plan} {m : Option ℕ} {word : Word} {P : Numbers → Type 0} {made : Operand} (Q : Numbers → Type 0) → IsPlanned old new m word P made
+    → ((numbers : Numbers) → P numbers → Q numbers) → IsPlanned old new m word Q made
+planned-map Q is f = record {
   spreads = is.spreads;
   at = is.at;
   has_word = is.has_word;
-  gives = record { holds = λ inputs numbers obeys. f made numbers (in-words old inputs numbers (obeys-before old new inputs numbers is.spreads.adds obeys)) (is.gives.holds inputs numbers obeys) };
+  gives = record { give = λ enough. record { holds = λ inputs numbers obeys. f numbers ((is.gives.give enough).holds inputs numbers obeys) } };
 }
-if-planned old new m word P Q (Err e) is f = tt
 
 -- the one Multiply is put, and its product is in a word
-pub record IsMultiplied (old new : List Step) (one other : Operand) (word : Word) (made : Operand) : Type 0 where
-  pub spreads : Spreads old new (Some 0)
+pub record IsMultiplied (old new : Plan) (one other : Operand) (word : Word) (made : Operand) : Type 0 where
+  pub spreads : new.wanting ≡ false → (old.wanting ≡ false) × Spreads old.steps new.steps (Some 0)
   pub at : IsAt new made
   pub gives : Gives new (λ numbers. IsWrapped (numbers one.place *ℤ numbers other.place) word.width word.signed (numbers made.place))
 
-pub multiplied-put : (old new : List Step) (one other : Operand) (word : Word) (made : Operand) → IsAt old one → IsAt old other → IsWord word.width word.signed
+multiplied-sound : (old new : List Step) (one other made : Operand) (word : Word) → IsStep old one → IsStep old other → IsWord word.width word.signed
+    → IsLast old new (step_of Multiply one.place other.place other.place word) made → IsSound new (length old) (step_of Multiply one.place other.place other.place word)
+multiplied-sound old new one other made word x y valid is =
+    let q = slice_get_within old other.place y.step y.is in
+    record {
+      word = valid;
+      before = below-taken 2 one.place other.place other.place (length old) (slice_get_within old one.place x.step x.is) q q;
+      parts = tt;
+    }
+
+pub multiplied-put : (old new : Plan) (one other : Operand) (word : Word) (made : Operand) → IsAt old one → IsAt old other → IsWord word.width word.signed
     → IsPut old new (step_of Multiply one.place other.place other.place word) made → IsMultiplied old new one other word made
 multiplied-put old new one other word made at also valid put =
     let step : Step = step_of Multiply one.place other.place other.place word in
-    let there : slice_get new made.place ≡ Some step = ap (slice_get new) put.place ∙ ap (λ (xs : List Step). slice_get xs (length old)) put.is ∙ last_at old step in
-    let p = slice_get_within old one.place at.step at.is in
-    let q = slice_get_within old other.place also.step also.is in
-    let sound : IsSound new (length old) step = record {
-      word = valid;
-      before = below-taken 2 one.place other.place other.place (length old) p q q;
-      parts = tt;
-    } in
     record {
-      spreads = spreads-multiply old new step put.is sound refl;
-      at = record { step = step; is = there; word = sym put.word; valid = subst (λ (w : Word). IsWord w.width w.signed) (sym put.word) valid };
-      gives = record { holds = λ inputs numbers obeys. obeys.each made.place step there };
+      spreads = λ enough.
+          let p = put.put enough in
+          (p.0, spreads-multiply old.steps new.steps step p.1.is (multiplied-sound old.steps new.steps one other made word (at.there p.0) (also.there p.0) valid p.1) refl);
+      at = put-at old new step made put valid;
+      gives = record {
+        give = λ enough. record { holds = λ inputs numbers obeys. obeys.each made.place step (last-there old.steps new.steps step made (put.put enough).1) };
+      };
     }
 
 -- a step behind the Multiply
-pub if-after : {E : Type 0} (a b c : List Step) (one other exact : Operand) (first word : Word) (P Q : Operand → Numbers → Type 0) (result : Result Operand E)
-    → IsMultiplied a b one other first exact → IfOk result (λ made. IsMade b c word (P made) made)
-    → ((made : Operand) (numbers : Numbers) → InWords a numbers → IsWrapped (numbers one.place *ℤ numbers other.place) first.width first.signed (numbers exact.place) → P made numbers → Q made numbers)
-    → IfOk result (λ made. IsPlanned a c (Some 0) word (Q made) made)
-if-after a b c one other exact first word P Q (Ok made) p q f = record {
-  spreads = spreads-then a b c (Some 0) p.spreads q.grows;
+pub made-after : {a b c : Plan} {one other exact made : Operand} {first word : Word} {P : Numbers → Type 0} (Q : Numbers → Type 0) → IsMultiplied a b one other first exact → IsMade b c word P made
+    → ((numbers : Numbers) → IsWrapped (numbers one.place *ℤ numbers other.place) first.width first.signed (numbers exact.place) → P numbers → Q numbers) → IsPlanned a c (Some 0) word Q made
+made-after {a} {b} {c} Q p q f = record {
+  spreads = λ enough.
+      let last = q.grows.adds enough in
+      let first = p.spreads last.0 in
+      (first.0, spreads-then a.steps b.steps c.steps (Some 0) first.1 last.1);
   at = q.at;
   has_word = q.has_word;
   gives = record {
-    holds = λ inputs numbers obeys.
-        let before = obeys-before b c inputs numbers q.grows obeys in
-        f made numbers (in-words a inputs numbers (obeys-before a b inputs numbers p.spreads.adds before)) (p.gives.holds inputs numbers before) (q.gives.holds inputs numbers obeys);
+    give = λ enough.
+        let last = q.grows.adds enough in
+        record {
+          holds = λ inputs numbers obeys.
+              f numbers ((p.gives.give last.0).holds inputs numbers (obeys-before b.steps c.steps inputs numbers last.1 obeys)) ((q.gives.give enough).holds inputs numbers obeys);
+        };
   };
 }
-if-after a b c one other exact first word P Q (Err e) p q f = tt
 
--- a plan with the one Multiply behind a plain step
-pub if-behind : {E : Type 0} (a b c : List Step) (first word : Word) (one : Operand) (P : Numbers → Type 0) (Q R : Operand → Numbers → Type 0) (result : Result Operand E)
-    → IsMade a b first P one → length b ≡ length a + 1 → IfOk result (λ made. IsPlanned b c (Some 0) word (Q made) made)
-    → ((made : Operand) (numbers : Numbers) → InWords a numbers → P numbers → Q made numbers → R made numbers)
-    → IfOk result (λ made. IsPlanned a c (Some 1) word (R made) made)
-if-behind a b c first word one P Q R (Ok made) p size q f = record {
-  spreads = spreads-after a b c p.grows size q.spreads;
+-- a plan with the one Multiply behind a plain step that was put
+pub made-behind : {a b c : Plan} {first word : Word} {step : Step} {one made : Operand} {P Q : Numbers → Type 0} (R : Numbers → Type 0) → IsMade a b first P one → IsPut a b step one
+    → IsPlanned b c (Some 0) word Q made → ((numbers : Numbers) → P numbers → Q numbers → R numbers) → IsPlanned a c (Some 1) word R made
+made-behind {a} {b} {c} {step = step} R p put q f = record {
+  spreads = λ enough.
+      let last = q.spreads enough in
+      let first = p.grows.adds last.0 in
+      (first.0, spreads-after a.steps b.steps c.steps first.1 (one-longer a.steps b.steps step (put.put last.0).1.is) last.1);
   at = q.at;
   has_word = q.has_word;
   gives = record {
-    holds = λ inputs numbers obeys.
-        let before = obeys-before b c inputs numbers q.spreads.adds obeys in
-        f made numbers (in-words a inputs numbers (obeys-before a b inputs numbers p.grows before)) (p.gives.holds inputs numbers before) (q.gives.holds inputs numbers obeys);
+    give = λ enough.
+        let last = q.spreads enough in
+        record {
+          holds = λ inputs numbers obeys.
+              f numbers ((p.gives.give last.0).holds inputs numbers (obeys-before b.steps c.steps inputs numbers last.1.adds obeys)) ((q.gives.give enough).holds inputs numbers obeys);
+        };
   };
 }
-if-behind a b c first word one P Q R (Err e) p size q f = tt

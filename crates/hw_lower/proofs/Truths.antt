@@ -1,15 +1,15 @@
 -- Truths as one bit.
-use Rattle.std.proofs.Common.{◌≡◌, Bool, true, false, not, ℤ, pos, ◌-ℤ◌, ◌≤ℤ◌, ◌<ℤ◌, int_lt, int_le, List, Result, IfOk, ap, sym, ◌∙◌, arith, refl, true≢false}
+use Rattle.std.proofs.Common.{◌≡◌, Bool, true, false, not, ℤ, pos, ◌-ℤ◌, ◌≤ℤ◌, ◌<ℤ◌, int_lt, int_le, ap, sym, ◌∙◌, arith, refl, true≢false}
 use Rattle.std.specs.Ordering.{int_eq}
 use Rattle.std.proofs.lemmas.Int.{ints, by_lt_z}
 use Rattle.std.proofs.lemmas.Bool.Decides.{Decides-int_eq}
 use Rattle.fx_num.specs.Word.{IsWrapped}
 use Rattle.dg_model.specs.Operation.{stored_truth}
 use Rattle.hw_net.specs.Operation.{truth}
-use Rattle.hw_lower.specs.declared.plan.Step.{Step}
 use Rattle.hw_lower.specs.declared.plan.Operand.{Operand}
+use Rattle.hw_lower.specs.declared.plan.Plan.{Plan}
 use Rattle.hw_lower.specs.inner.Planned.{Numbers, IsMade, IsChosen, IsSwitched, bit_word}
-use Rattle.hw_lower.proofs.Chained.{if-map}
+use Rattle.hw_lower.proofs.Chained.{made-map}
 use Rattle.hw_net.proofs.Numbers.{wrapped-is}
 use Rattle.hw_net.proofs.Modular.{only-false, is-same}
 use Rattle.fx_io.proofs.Tests.{lt-yes}
@@ -36,15 +36,14 @@ not-less x y =
     by_lt_z x y (λ h. ap not (lt-yes x y h) ∙ sym (le-no y x h)) (λ h. ap not (lt-no x y h) ∙ sym (le-yes y x h))
 
 -- a bit that an operation gives, and its opposite
-pub told-bit : {E : Type 0} (old new : List Step) (told : Numbers → Bool) (result : Result Operand E) → IfOk result (λ made. IsMade old new bit_word (λ numbers. IsWrapped (truth (told numbers)) 1 false (numbers made.place)) made)
-    → IfOk result (λ made. IsMade old new bit_word (λ numbers. numbers made.place ≡ stored_truth (told numbers)) made)
-told-bit old new told result is = if-map old new _ _ (λ made numbers. numbers made.place ≡ stored_truth (told numbers)) result is (λ made numbers has p. truth-is (told numbers) (numbers made.place) p)
+pub told-bit : {old new : Plan} {made : Operand} (told : Numbers → Bool) → IsMade old new bit_word (λ numbers. IsWrapped (truth (told numbers)) 1 false (numbers made.place)) made
+    → IsMade old new bit_word (λ numbers. numbers made.place ≡ stored_truth (told numbers)) made
+told-bit {made = made} told is = made-map (λ numbers. numbers made.place ≡ stored_truth (told numbers)) is (λ numbers has p. truth-is (told numbers) (numbers made.place) p)
 
-pub told-opposite : {E : Type 0} (old new : List Step) (told said : Numbers → Bool) (result : Result Operand E) → ((numbers : Numbers) → not (told numbers) ≡ said numbers)
-    → IfOk result (λ made. IsMade old new bit_word (λ numbers. (b : Bool) → truth (told numbers) ≡ truth b → numbers made.place ≡ stored_truth (not b)) made)
-    → IfOk result (λ made. IsMade old new bit_word (λ numbers. numbers made.place ≡ stored_truth (said numbers)) made)
-told-opposite old new told said result same is =
-    if-map old new _ _ (λ made numbers. numbers made.place ≡ stored_truth (said numbers)) result is (λ made numbers has p. p (told numbers) refl ∙ ap stored_truth (same numbers))
+pub told-opposite : {old new : Plan} {made : Operand} (told said : Numbers → Bool) → ((numbers : Numbers) → not (told numbers) ≡ said numbers)
+    → IsMade old new bit_word (λ numbers. (b : Bool) → truth (told numbers) ≡ truth b → numbers made.place ≡ stored_truth (not b)) made
+    → IsMade old new bit_word (λ numbers. numbers made.place ≡ stored_truth (said numbers)) made
+told-opposite {made = made} told said same is = made-map (λ numbers. numbers made.place ≡ stored_truth (said numbers)) is (λ numbers has p. p (told numbers) refl ∙ ap stored_truth (same numbers))
 
 -- a choice by a truth
 pub switched-is : (b : Bool) (test first other r : ℤ) → test ≡ stored_truth b → IsChosen test first other r → IsSwitched b first other r

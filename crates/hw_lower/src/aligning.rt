@@ -1,11 +1,11 @@
 //! Numbers of several types in one unit.
-ghost use Rattle.std.specs.Prelude.{◌≡◌, ◌<◌, ◌≤◌, length, IfOk};
+ghost use Rattle.std.specs.Prelude.{◌≡◌, ◌<◌, ◌≤◌, length};
 ghost use Rattle.fx_num.specs.Word.{IsWrapped};
 ghost use Rattle.fx_type.specs.FxType.{aligned};
 ghost use Rattle.hw_lower.specs.inner.Planned.{IsMade, word_of};
 ghost use Rattle.hw_lower.specs.inner.Spread.{CanAlign, argument_of, side_of};
 
-use crate::plan::{Made, Operand, Plan, Word, word_of};
+use crate::plan::{Operand, Plan, Word, word_of};
 use crate::settling::shift;
 use fx_type::FxType;
 
@@ -43,11 +43,11 @@ pub fn side_of(types: &[FxType], input: usize) -> Side
 
 /// A number of a type with `frac` bits behind the point, of which there are no fewer, cut to a
 /// word.
-pub fn align(plan: &mut Plan, side: Side, frac: i16, word: Word) -> Made
+pub fn align(plan: &mut Plan, side: Side, frac: i16, word: Word) -> Operand
     requires { CanAlign plan.old side frac word }
-    ensures { IfOk result (λ made. IsMade plan.old plan.new word (λ numbers.
+    ensures { IsMade plan.old plan.new word (λ numbers.
         IsWrapped (aligned frac side.kind (numbers side.from.place)) word.width word.signed
-        (numbers made.place)) made) }
+        (numbers result.place)) result }
 {
     let up = (frac - side.kind.frac()) as u8;
     shift(plan, side.from, up, word)

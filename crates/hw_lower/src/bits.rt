@@ -1,10 +1,10 @@
 //! Bits and truths.
-ghost use Rattle.std.specs.Prelude.{◌≡◌, ◌≤◌, ◌<◌, ◌-◌, ◌↔◌, pos, ◌-ℤ◌, IfOk};
+ghost use Rattle.std.specs.Prelude.{◌≡◌, ◌≤◌, ◌<◌, ◌-◌, ◌↔◌, pos, ◌-ℤ◌};
 ghost use Rattle.fx_type.specs.Conversion.{IsTruthOf};
 ghost use Rattle.hw_net.specs.Operation.{low_bits};
 ghost use Rattle.hw_lower.specs.inner.Planned.{IsAt, IsMade, IsChosen, bit_word, bit_of};
 
-use crate::plan::{Made, Operand, Plan, Word, choose, constant, slice, unary};
+use crate::plan::{Operand, Plan, Word, choose, constant, slice, unary};
 use hw_net::NetOp;
 
 /// One bit, unsigned.
@@ -18,20 +18,20 @@ pub fn bit_word() -> Word
 }
 
 /// The bit of a place in the word.
-fn bit_within(plan: &mut Plan, from: Operand, place: u8) -> Made
+fn bit_within(plan: &mut Plan, from: Operand, place: u8) -> Operand
     requires at { IsAt plan.old from }
     requires within { place < from.word.width }
-    ensures { IfOk result (λ made. IsMade plan.old plan.new bit_word
-        (λ numbers. numbers made.place ≡ pos (bit_of (numbers from.place) place)) made) }
+    ensures { IsMade plan.old plan.new bit_word
+        (λ numbers. numbers result.place ≡ pos (bit_of (numbers from.place) place)) result }
 {
     slice(plan, from, place, place, bit_word())
 }
 
 /// The bit of a place, from 0. Past the word it is the sign, which an unsigned number has not.
-pub fn bit(plan: &mut Plan, from: Operand, place: u8) -> Made
+pub fn bit(plan: &mut Plan, from: Operand, place: u8) -> Operand
     requires { IsAt plan.old from }
-    ensures { IfOk result (λ made. IsMade plan.old plan.new bit_word
-        (λ numbers. numbers made.place ≡ pos (bit_of (numbers from.place) place)) made) }
+    ensures { IsMade plan.old plan.new bit_word
+        (λ numbers. numbers result.place ≡ pos (bit_of (numbers from.place) place)) result }
 {
     if place < from.word.width {
         return bit_within(plan, from, place);
@@ -43,14 +43,14 @@ pub fn bit(plan: &mut Plan, from: Operand, place: u8) -> Made
 }
 
 /// The lowest bits, of which there are some: a number that is 0 exactly where they are.
-pub fn lowest(plan: &mut Plan, from: Operand, count: u8) -> Made
+pub fn lowest(plan: &mut Plan, from: Operand, count: u8) -> Operand
     requires at { IsAt plan.old from }
     requires some { 1 ≤ count }
-    ensures { IfOk result (λ made. IsMade plan.old plan.new made.word (λ numbers.
-        (numbers made.place ≡ pos 0) ↔ (low_bits count (numbers from.place) ≡ 0)) made) }
+    ensures { IsMade plan.old plan.new result.word (λ numbers.
+        (numbers result.place ≡ pos 0) ↔ (low_bits count (numbers from.place) ≡ 0)) result }
 {
     if count >= from.word.width {
-        return Ok(from);
+        return from;
     }
     let word = Word {
         signed: false,
@@ -60,35 +60,35 @@ pub fn lowest(plan: &mut Plan, from: Operand, count: u8) -> Made
 }
 
 /// The bit where the test isn't 0, else 0.
-pub fn both(plan: &mut Plan, test: Operand, bit: Operand) -> Made
+pub fn both(plan: &mut Plan, test: Operand, bit: Operand) -> Operand
     requires test { IsAt plan.old test }
     requires bit { IsAt plan.old bit }
     requires word { bit.word ≡ bit_word }
-    ensures { IfOk result (λ made. IsMade plan.old plan.new bit_word (λ numbers.
-        IsChosen (numbers test.place) (numbers bit.place) (pos 0) (numbers made.place)) made) }
+    ensures { IsMade plan.old plan.new bit_word (λ numbers.
+        IsChosen (numbers test.place) (numbers bit.place) (pos 0) (numbers result.place)) result }
 {
     choose(plan, test, bit, test, bit_word())
 }
 
 /// 1 where the number isn't 0, else 0.
-pub fn truth(plan: &mut Plan, from: Operand) -> Made
+pub fn truth(plan: &mut Plan, from: Operand) -> Operand
     requires { IsAt plan.old from }
-    ensures { IfOk result (λ made. IsMade plan.old plan.new bit_word
-        (λ numbers. IsTruthOf (numbers from.place) (numbers made.place)) made) }
+    ensures { IsMade plan.old plan.new bit_word
+        (λ numbers. IsTruthOf (numbers from.place) (numbers result.place)) result }
 {
     if from.word == bit_word() {
-        return Ok(from);
+        return from;
     }
-    let one = constant(plan, 1, bit_word())?;
+    let one = constant(plan, 1, bit_word());
     both(plan, from, one)
 }
 
 /// 0 where the bit is 1, and 1 where it is 0.
-pub fn inverse(plan: &mut Plan, bit: Operand) -> Made
+pub fn inverse(plan: &mut Plan, bit: Operand) -> Operand
     requires at { IsAt plan.old bit }
     requires word { bit.word ≡ bit_word }
-    ensures { IfOk result (λ made. IsMade plan.old plan.new bit_word
-        (λ numbers. numbers made.place ≡ pos 1 -ℤ numbers bit.place) made) }
+    ensures { IsMade plan.old plan.new bit_word
+        (λ numbers. numbers result.place ≡ pos 1 -ℤ numbers bit.place) result }
 {
     unary(plan, NetOp::Not, bit, bit_word())
 }

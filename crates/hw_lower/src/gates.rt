@@ -1,12 +1,12 @@
 //! Gates over the truth of the arguments.
-ghost use Rattle.std.specs.Prelude.{◌≡◌, not, IfOk};
+ghost use Rattle.std.specs.Prelude.{◌≡◌, not};
 ghost use Rattle.dg_model.specs.Operation.{gate_of, stored_truth};
 ghost use Rattle.hw_lower.specs.inner.Planned.{IsAt, IsMade, bit_word};
 ghost use Rattle.hw_lower.specs.inner.Spread.{HasSome, OfArguments, IsJoined, truth_of};
 
 use crate::aligning::argument_of;
 use crate::bits::{bit_word, both, inverse, truth};
-use crate::plan::{Made, Operand, Plan, choose};
+use crate::plan::{Operand, Plan, choose};
 use dg_model::Gate;
 use fx_type::FxType;
 
@@ -22,60 +22,60 @@ pub enum Joining {
 }
 
 /// Joins the truth of one number more.
-fn join(plan: &mut Plan, joining: Joining, test: Operand, bit: Operand) -> Made
+fn join(plan: &mut Plan, joining: Joining, test: Operand, bit: Operand) -> Operand
     requires test { IsAt plan.old test }
     requires bit { IsAt plan.old bit }
     requires word { bit.word ≡ bit_word }
-    ensures { IfOk result (λ made. IsMade plan.old plan.new bit_word (λ numbers.
-        IsJoined joining (numbers test.place) (numbers bit.place) (numbers made.place)) made) }
+    ensures { IsMade plan.old plan.new bit_word (λ numbers.
+        IsJoined joining (numbers test.place) (numbers bit.place) (numbers result.place)) result }
 {
     match joining {
         Joining::Every => both(plan, test, bit),
         Joining::Any => {
-            let one = truth(plan, test)?;
+            let one = truth(plan, test);
             choose(plan, test, one, bit, bit_word())
         }
         Joining::Odd => {
-            let other = inverse(plan, bit)?;
+            let other = inverse(plan, bit);
             choose(plan, test, other, bit, bit_word())
         }
     }
 }
 
 /// The truths of all arguments, joined.
-fn join_all(plan: &mut Plan, joining: Joining, types: &[FxType]) -> Made
+fn join_all(plan: &mut Plan, joining: Joining, types: &[FxType]) -> Operand
     requires { HasSome plan.old types.now }
-    ensures { IfOk result (λ made. IsMade plan.old plan.new bit_word (λ numbers.
+    ensures { IsMade plan.old plan.new bit_word (λ numbers.
         OfArguments types.now numbers (λ values.
-        numbers made.place ≡ stored_truth (truth_of joining values))) made) }
+        numbers result.place ≡ stored_truth (truth_of joining values))) result }
 {
     let from = argument_of(types, 0);
-    let first = truth(plan, from)?;
+    let first = truth(plan, from);
     let mut bit = first;
     for input in 1..types.len() {
         let one = argument_of(types, input);
-        bit = join(plan, joining, one, bit)?;
+        bit = join(plan, joining, one, bit);
     }
-    Ok(bit)
+    bit
 }
 
 /// The inverse of the same.
-fn join_inverted(plan: &mut Plan, joining: Joining, types: &[FxType]) -> Made
+fn join_inverted(plan: &mut Plan, joining: Joining, types: &[FxType]) -> Operand
     requires { HasSome plan.old types.now }
-    ensures { IfOk result (λ made. IsMade plan.old plan.new bit_word (λ numbers.
+    ensures { IsMade plan.old plan.new bit_word (λ numbers.
         OfArguments types.now numbers (λ values.
-        numbers made.place ≡ stored_truth (not (truth_of joining values)))) made) }
+        numbers result.place ≡ stored_truth (not (truth_of joining values)))) result }
 {
-    let bit = join_all(plan, joining, types)?;
+    let bit = join_all(plan, joining, types);
     inverse(plan, bit)
 }
 
 /// The gate over the truth of the arguments, of which there is one.
-pub fn gate(plan: &mut Plan, operator: Gate, types: &[FxType]) -> Made
+pub fn gate(plan: &mut Plan, operator: Gate, types: &[FxType]) -> Operand
     requires { HasSome plan.old types.now }
-    ensures { IfOk result (λ made. IsMade plan.old plan.new bit_word (λ numbers.
+    ensures { IsMade plan.old plan.new bit_word (λ numbers.
         OfArguments types.now numbers (λ values.
-        numbers made.place ≡ stored_truth (gate_of operator values))) made) }
+        numbers result.place ≡ stored_truth (gate_of operator values))) result }
 {
     match operator {
         Gate::And => join_all(plan, Joining::Every, types),

@@ -3,10 +3,10 @@ ghost use Rattle.std.specs.Prelude.{◌≡◌, ◌≤◌, ◌<◌, length, All, 
 ghost use Rattle.dg_model.specs.Operation.{operation_of, CanPrepare};
 ghost use Rattle.hw_lower.specs.Lowered.{AreArgs, IsLowered, Lowers};
 ghost use Rattle.hw_lower.specs.inner.Planned.{reads_of};
-ghost use Rattle.hw_lower.specs.inner.Spread.{AreInputs};
+ghost use Rattle.hw_lower.specs.inner.Spread.{BeginsWith};
 ghost use Rattle.hw_lower.specs.inner.Placed.{AreNumbers, AreNets, CanPut, net_by};
 
-use crate::plan::{Plan, Step, put_alone, word_of};
+use crate::plan::{Plan, Step, finish, put_alone, word_of};
 use crate::planning::plan_operation;
 use dg_model::OpCall;
 use fx_io::{OutOfMemory, Sequence, Sizes};
@@ -33,17 +33,18 @@ fn net_of(alloc: Global, step: Step, numbers: &[u32]) -> Result<Net, OutOfMemory
 }
 
 /// The inputs of an operation, as a plan begins.
-fn inputs_of(alloc: Global, types: &[FxType]) -> Result<Plan, OutOfMemory>
+fn inputs_of(alloc: Global, types: &[FxType]) -> Plan
     requires { length types.now ≤ 32 }
-    ensures { IfOk result (λ plan. AreInputs plan types.now (length types.now)) }
+    ensures { BeginsWith result types.now (length types.now) }
 {
-    let mut plan: Plan = Sequence::new(alloc);
+    let mut plan = Plan {
+        steps: Sequence::new(alloc),
+        wanting: false,
+    };
     for (input, kind) in types.iter().enumerate() {
-        let word = word_of(*kind);
-        let made = put_alone(&mut plan, NetOp::Input(input as u32), word)?;
-        let _ = made;
+        let _ = put_alone(&mut plan, NetOp::Input(input as u32), word_of(*kind));
     }
-    Ok(plan)
+    plan
 }
 
 /// Puts the nets of the steps behind the arguments into the netlist, and tells the numbers of all.
@@ -87,8 +88,9 @@ pub fn lower(
     ensures lowered { IfOk result (λ number.
         IsLowered net.old net.new (operation_of call.now) args.now number) }
 {
-    let mut plan = inputs_of(alloc, call.types)?;
-    let result = plan_operation(&mut plan, call)?;
-    let numbers = put_nets(alloc, net, plan.as_slice(), args)?;
+    let mut plan = inputs_of(alloc, call.types);
+    let result = plan_operation(&mut plan, call);
+    let steps = finish(plan)?;
+    let numbers = put_nets(alloc, net, steps.as_slice(), args)?;
     Ok(numbers[result.place as usize])
 }

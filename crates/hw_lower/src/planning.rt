@@ -1,6 +1,6 @@
 //! The plan of each operation.
 ghost use Rattle.std.specs.Prelude.{◌≡◌, ◌≤ℤ◌, ◌<◌, ◌≤◌, pos, negsuc, length, zip, All, MatchBool};
-ghost use Rattle.std.specs.Prelude.{IfOk, Some};
+ghost use Rattle.std.specs.Prelude.{Some};
 ghost use Rattle.fx_type.specs.declared.kind.FxType.{FxType};
 ghost use Rattle.fx_type.specs.FxType.{IsType, InRange, frac_of};
 ghost use Rattle.fx_type.specs.FullType.{IsFullSum, IsFullProduct};
@@ -15,7 +15,7 @@ ghost use Rattle.hw_lower.specs.Lowered.{multiply_of};
 use crate::aligning::{Side, argument_of, side_of};
 use crate::comparing::{Branches, switch};
 use crate::gates::gate;
-use crate::plan::{Made, Operand, Plan, Word, multiply, put_alone, word_of};
+use crate::plan::{Operand, Plan, Word, multiply, put_alone, word_of};
 use crate::relating::compare_arguments;
 use crate::settling::convert;
 use crate::sums::sum_arguments;
@@ -24,28 +24,28 @@ use fx_type::FxType;
 use hw_net::NetOp;
 
 /// A number with `frac` bits behind the point, converted to the result type of the call.
-fn convert_to_result(plan: &mut Plan, call: &OpCall, from: Operand, frac: i16) -> Made
+fn convert_to_result(plan: &mut Plan, call: &OpCall, from: Operand, frac: i16) -> Operand
     requires at { IsAt plan.old from }
     requires low { negsuc 63 ≤ℤ frac }
     requires high { frac ≤ℤ pos 128 }
     requires result { IsType call.now.result }
-    ensures { IfOk result (λ made. IsMade plan.old plan.new (word_of call.now.result) (λ numbers.
+    ensures { IsMade plan.old plan.new (word_of call.now.result) (λ numbers.
         (kind : FxType) → frac_of kind ≡ frac → IsConverted (operation_of call.now)
-        (numbers from.place) kind (numbers made.place)) made) }
+        (numbers from.place) kind (numbers result.place)) result }
 {
     convert(plan, from, frac, call.result, call.rounding, call.saturate)
 }
 
 /// An argument converted to the result type of the call.
-fn convert_argument(plan: &mut Plan, call: &OpCall, input: usize) -> Made
+fn convert_argument(plan: &mut Plan, call: &OpCall, input: usize) -> Operand
     requires arguments { HasArguments plan.old call.now.types.now }
     requires inside { input < length call.now.types.now }
     requires few { length call.now.types.now ≤ 32 }
     requires types { All IsType call.now.types.now }
     requires result { IsType call.now.result }
-    ensures { IfOk result (λ made. IsMade plan.old plan.new (word_of call.now.result) (λ numbers.
+    ensures { IsMade plan.old plan.new (word_of call.now.result) (λ numbers.
         IsConverted (operation_of call.now) (numbers input) (type_of call.now.types.now input)
-        (numbers made.place)) made) }
+        (numbers result.place)) result }
 {
     let frac = call.types[input].frac();
     let from = argument_of(call.types, input);
@@ -53,7 +53,7 @@ fn convert_argument(plan: &mut Plan, call: &OpCall, input: usize) -> Made
 }
 
 /// A Sum.
-fn plan_sum(plan: &mut Plan, call: &OpCall) -> Made
+fn plan_sum(plan: &mut Plan, call: &OpCall) -> Operand
     requires arguments { HasArguments plan.old call.now.types.now }
     requires signs { length call.now.signs.now ≡ length call.now.types.now }
     requires some { 1 ≤ length call.now.types.now }
@@ -62,15 +62,15 @@ fn plan_sum(plan: &mut Plan, call: &OpCall) -> Made
     requires result { IsType call.now.result }
     requires full { (full : FxType)
         × IsFullSum (zip call.now.signs.now call.now.types.now) full }
-    ensures { IfOk result (λ made. IsMade plan.old plan.new (word_of call.now.result) (λ numbers.
+    ensures { IsMade plan.old plan.new (word_of call.now.result) (λ numbers.
         OfArguments call.now.types.now numbers (λ values.
         (full : FxType) × IsFullSum (zip call.now.signs.now call.now.types.now) full
         × IsConverted (operation_of call.now)
         (signed_sum (frac_of full) (zip call.now.signs.now call.now.types.now) values) full
-        (numbers made.place))) made) }
+        (numbers result.place))) result }
 {
     let full = sum_type(call.signs, call.types);
-    let exact = sum_arguments(plan, call.signs, call.types, full)?;
+    let exact = sum_arguments(plan, call.signs, call.types, full);
     convert_to_result(plan, call, exact, full.frac())
 }
 
@@ -88,26 +88,25 @@ fn product_word(one: FxType, other: FxType) -> Word
 }
 
 /// The product of two numbers, converted to the result type of the call.
-fn convert_product(plan: &mut Plan, call: &OpCall, one: Side, other: Side) -> Made
+fn convert_product(plan: &mut Plan, call: &OpCall, one: Side, other: Side) -> Operand
     requires one { IsAt plan.old one.from }
     requires other { IsAt plan.old other.from }
     requires left { IsType one.kind }
     requires right { IsType other.kind }
     requires result { IsType call.now.result }
     requires full { (full : FxType) × IsFullProduct one.kind other.kind full }
-    ensures { IfOk result (λ made.
-        IsPlanned plan.old plan.new (Some 0) (word_of call.now.result) (λ numbers.
+    ensures { IsPlanned plan.old plan.new (Some 0) (word_of call.now.result) (λ numbers.
         InRange one.kind (numbers one.from.place) → InRange other.kind (numbers other.from.place)
         → IsScaled (operation_of call.now) one.kind other.kind (numbers one.from.place)
-        (numbers other.from.place) (numbers made.place)) made) }
+        (numbers other.from.place) (numbers result.place)) result }
 {
     let word = product_word(one.kind, other.kind);
-    let exact = multiply(plan, one.from, other.from, word)?;
+    let exact = multiply(plan, one.from, other.from, word);
     convert_to_result(plan, call, exact, one.kind.frac() + other.kind.frac())
 }
 
 /// A Gain.
-fn plan_gain(plan: &mut Plan, call: &OpCall, coefficient: i128, param: FxType) -> Made
+fn plan_gain(plan: &mut Plan, call: &OpCall, coefficient: i128, param: FxType) -> Operand
     requires arguments { HasArguments plan.old call.now.types.now }
     requires single { length call.now.types.now ≡ 1 }
     requires types { All IsType call.now.types.now }
@@ -115,31 +114,29 @@ fn plan_gain(plan: &mut Plan, call: &OpCall, coefficient: i128, param: FxType) -
     requires coefficient { InRange param coefficient }
     requires result { IsType call.now.result }
     requires full { (full : FxType) × IsFullProduct (type_of call.now.types.now 0) param full }
-    ensures { IfOk result (λ made.
-        IsPlanned plan.old plan.new (Some 1) (word_of call.now.result) (λ numbers.
+    ensures { IsPlanned plan.old plan.new (Some 1) (word_of call.now.result) (λ numbers.
         OfArguments call.now.types.now numbers (λ values.
         IsScaled (operation_of call.now) (type_of call.now.types.now 0) param
-        (value_of values 0) coefficient (numbers made.place))) made) }
+        (value_of values 0) coefficient (numbers result.place))) result }
 {
-    let from = put_alone(plan, NetOp::Const(coefficient), word_of(param))?;
+    let from = put_alone(plan, NetOp::Const(coefficient), word_of(param));
     let one = side_of(call.types, 0);
     convert_product(plan, call, one, Side { kind: param, from })
 }
 
 /// A Product.
-fn plan_product(plan: &mut Plan, call: &OpCall) -> Made
+fn plan_product(plan: &mut Plan, call: &OpCall) -> Operand
     requires arguments { HasArguments plan.old call.now.types.now }
     requires two { length call.now.types.now ≡ 2 }
     requires types { All IsType call.now.types.now }
     requires result { IsType call.now.result }
     requires full { (full : FxType)
         × IsFullProduct (type_of call.now.types.now 0) (type_of call.now.types.now 1) full }
-    ensures { IfOk result (λ made.
-        IsPlanned plan.old plan.new (Some 0) (word_of call.now.result) (λ numbers.
+    ensures { IsPlanned plan.old plan.new (Some 0) (word_of call.now.result) (λ numbers.
         OfArguments call.now.types.now numbers (λ values.
         IsScaled (operation_of call.now) (type_of call.now.types.now 0)
         (type_of call.now.types.now 1) (value_of values 0) (value_of values 1)
-        (numbers made.place))) made) }
+        (numbers result.place))) result }
 {
     let one = side_of(call.types, 0);
     let other = side_of(call.types, 1);
@@ -147,22 +144,22 @@ fn plan_product(plan: &mut Plan, call: &OpCall) -> Made
 }
 
 /// A Switch.
-fn plan_switch(plan: &mut Plan, call: &OpCall, criterion: Criterion, threshold: i128) -> Made
+fn plan_switch(plan: &mut Plan, call: &OpCall, criterion: Criterion, threshold: i128) -> Operand
     requires arguments { HasArguments plan.old call.now.types.now }
     requires three { length call.now.types.now ≡ 3 }
     requires types { All IsType call.now.types.now }
     requires threshold { InRange (type_of call.now.types.now 1) threshold }
     requires result { IsType call.now.result }
-    ensures { IfOk result (λ made. IsMade plan.old plan.new (word_of call.now.result) (λ numbers.
+    ensures { IsMade plan.old plan.new (word_of call.now.result) (λ numbers.
         OfArguments call.now.types.now numbers (λ values.
         MatchBool (meets criterion threshold (value_of values 1))
         (IsConverted (operation_of call.now) (value_of values 0) (type_of call.now.types.now 0)
-        (numbers made.place))
+        (numbers result.place))
         (IsConverted (operation_of call.now) (value_of values 2) (type_of call.now.types.now 2)
-        (numbers made.place)))) made) }
+        (numbers result.place)))) result }
 {
-    let first = convert_argument(plan, call, 0)?;
-    let other = convert_argument(plan, call, 2)?;
+    let first = convert_argument(plan, call, 0);
+    let other = convert_argument(plan, call, 2);
     let control = argument_of(call.types, 1);
     let of = Branches {
         control,
@@ -173,15 +170,15 @@ fn plan_switch(plan: &mut Plan, call: &OpCall, criterion: Criterion, threshold: 
 }
 
 /// The stored integer of an argument converted, with both fracs taken as 0.
-fn plan_store(plan: &mut Plan, call: &OpCall) -> Made
+fn plan_store(plan: &mut Plan, call: &OpCall) -> Operand
     requires arguments { HasArguments plan.old call.now.types.now }
     requires single { length call.now.types.now ≡ 1 }
     requires types { All IsType call.now.types.now }
     requires result { IsType call.now.result }
-    ensures { IfOk result (λ made. IsMade plan.old plan.new (word_of call.now.result) (λ numbers.
+    ensures { IsMade plan.old plan.new (word_of call.now.result) (λ numbers.
         Converts (numbers 0) (without_frac (type_of call.now.types.now 0))
         (without_frac call.now.result) call.now.rounding call.now.saturate
-        (numbers made.place)) made) }
+        (numbers result.place)) result }
 {
     let to = without_frac(call.result);
     let from = argument_of(call.types, 0);
@@ -189,15 +186,15 @@ fn plan_store(plan: &mut Plan, call: &OpCall) -> Made
 }
 
 /// A conversion, of the real value or of the stored integer.
-fn plan_conversion(plan: &mut Plan, call: &OpCall, stored: bool) -> Made
+fn plan_conversion(plan: &mut Plan, call: &OpCall, stored: bool) -> Operand
     requires arguments { HasArguments plan.old call.now.types.now }
     requires single { length call.now.types.now ≡ 1 }
     requires types { All IsType call.now.types.now }
     requires result { IsType call.now.result }
-    ensures { IfOk result (λ made. IsMade plan.old plan.new (word_of call.now.result) (λ numbers.
+    ensures { IsMade plan.old plan.new (word_of call.now.result) (λ numbers.
         OfArguments call.now.types.now numbers (λ values.
         Gives (Convert stored) (operation_of call.now) call.now.types.now values
-        (numbers made.place))) made) }
+        (numbers result.place))) result }
 {
     if stored {
         return plan_store(plan, call);
@@ -206,12 +203,12 @@ fn plan_conversion(plan: &mut Plan, call: &OpCall, stored: bool) -> Made
 }
 
 /// The steps of an operation behind its arguments, and the one that has its result.
-pub fn plan_operation(plan: &mut Plan, call: &OpCall) -> Made
+pub fn plan_operation(plan: &mut Plan, call: &OpCall) -> Operand
     requires arguments { HasArguments plan.old call.now.types.now }
     requires can { CanPrepare (operation_of call.now) }
-    ensures { IfOk result (λ made. IsPlanned plan.old plan.new (multiply_of call.now.op)
+    ensures { IsPlanned plan.old plan.new (multiply_of call.now.op)
         (word_of call.now.result) (λ numbers. OfArguments call.now.types.now numbers (λ values.
-        OpGives (operation_of call.now) values (numbers made.place))) made) }
+        OpGives (operation_of call.now) values (numbers result.place))) result }
 {
     match call.op {
         Op::Sum => plan_sum(plan, call),
@@ -224,6 +221,6 @@ pub fn plan_operation(plan: &mut Plan, call: &OpCall) -> Made
         Op::Relational { operator } => compare_arguments(plan, operator, call.types),
         Op::Logic { operator } => gate(plan, operator, call.types),
         Op::Convert { stored } => plan_conversion(plan, call, stored),
-        Op::Pass => Ok(argument_of(call.types, 0)),
+        Op::Pass => argument_of(call.types, 0),
     }
 }

@@ -1,6 +1,5 @@
 //! A whole number put into a word, and conversions between types.
 ghost use Rattle.std.specs.Prelude.{◌≡◌, ◌≤◌, ◌<◌, ◌^◌, ◌↔◌, ◌↔◌, ℤ, pos, negsuc, ◌*ℤ◌, ◌≤ℤ◌};
-ghost use Rattle.std.specs.Prelude.{IfOk};
 ghost use Rattle.fx_num.specs.Word.{IsWord, IsWrapped, word_lowest, word_highest};
 ghost use Rattle.fx_type.specs.declared.kind.FxType.{FxType};
 ghost use Rattle.fx_type.specs.declared.kind.FxType.TheVariants.{Num};
@@ -9,25 +8,25 @@ ghost use Rattle.fx_type.specs.Conversion.{Settles, StoresQuotient, Converts};
 ghost use Rattle.hw_lower.specs.inner.Planned.{CanHold, HoldsAbove, HoldsBelow, IsAt, IsChosen, IsMade, word_of};
 
 use crate::bits::{bit_word, truth};
-use crate::plan::{Made, Operand, Plan, Word, binary, choose, constant, unary, word_of};
+use crate::plan::{Operand, Plan, Word, binary, choose, constant, unary, word_of};
 use crate::rounding::round;
 use fx_num::{highest, lowest};
 use fx_type::{FxType, Rounding};
 use hw_net::NetOp;
 
 /// The number times 2 to the power `up`, cut to the word.
-pub fn shift(plan: &mut Plan, from: Operand, up: u8, word: Word) -> Made
+pub fn shift(plan: &mut Plan, from: Operand, up: u8, word: Word) -> Operand
     requires at { IsAt plan.old from }
     requires word { IsWord word.width word.signed }
-    ensures { IfOk result (λ made. IsMade plan.old plan.new word (λ numbers.
+    ensures { IsMade plan.old plan.new word (λ numbers.
         IsWrapped (numbers from.place *ℤ pos (2 ^ up)) word.width word.signed
-        (numbers made.place)) made) }
+        (numbers result.place)) result }
 {
     if up > 0 {
         return unary(plan, NetOp::ShiftUp(up), from, word);
     }
     if from.word == word {
-        return Ok(from);
+        return from;
     }
     unary(plan, NetOp::Resize, from, word)
 }
@@ -61,62 +60,62 @@ fn least(up: u8, word: Word) -> i128
 }
 
 /// The number where the test isn't 0, else the value.
-fn choose_end(plan: &mut Plan, test: Operand, end: i128, value: Operand) -> Made
+fn choose_end(plan: &mut Plan, test: Operand, end: i128, value: Operand) -> Operand
     requires { CanHold plan.old test value end }
-    ensures { IfOk result (λ made. IsMade plan.old plan.new value.word (λ numbers. IsChosen
-        (numbers test.place) end (numbers value.place) (numbers made.place)) made) }
+    ensures { IsMade plan.old plan.new value.word (λ numbers. IsChosen
+        (numbers test.place) end (numbers value.place) (numbers result.place)) result }
 {
-    let number = constant(plan, end, value.word)?;
+    let number = constant(plan, end, value.word);
     choose(plan, test, number, value, value.word)
 }
 
 /// The greatest number of the word where the shifted number would pass it, else the given one.
-fn held_below(plan: &mut Plan, from: Operand, up: u8, value: Operand) -> Made
+fn held_below(plan: &mut Plan, from: Operand, up: u8, value: Operand) -> Operand
     requires from { IsAt plan.old from }
     requires value { IsAt plan.old value }
-    ensures { IfOk result (HoldsBelow plan.old plan.new from up value) }
+    ensures { HoldsBelow plan.old plan.new from up value result }
 {
     let bound = greatest(up, value.word);
     if bound >= highest(from.word.width, from.word.signed) {
-        return Ok(value);
+        return value;
     }
-    let end = constant(plan, bound, from.word)?;
-    let test = binary(plan, NetOp::Less, end, from, bit_word())?;
+    let end = constant(plan, bound, from.word);
+    let test = binary(plan, NetOp::Less, end, from, bit_word());
     let most = highest(value.word.width, value.word.signed);
     choose_end(plan, test, most, value)
 }
 
 /// The least number of the word where the shifted number would pass it, else the given one.
-fn held_above(plan: &mut Plan, from: Operand, up: u8, value: Operand) -> Made
+fn held_above(plan: &mut Plan, from: Operand, up: u8, value: Operand) -> Operand
     requires from { IsAt plan.old from }
     requires value { IsAt plan.old value }
-    ensures { IfOk result (HoldsAbove plan.old plan.new from up value) }
+    ensures { HoldsAbove plan.old plan.new from up value result }
 {
     let bound = least(up, value.word);
     if bound <= lowest(from.word.width, from.word.signed) {
-        return Ok(value);
+        return value;
     }
-    let end = constant(plan, bound, from.word)?;
-    let test = binary(plan, NetOp::Less, from, end, bit_word())?;
+    let end = constant(plan, bound, from.word);
+    let test = binary(plan, NetOp::Less, from, end, bit_word());
     let fewest = lowest(value.word.width, value.word.signed);
     choose_end(plan, test, fewest, value)
 }
 
 /// The number times 2 to the power `up`, put into the word: with `saturate` the nearest number of
 /// it, else the congruent one. Bounds are compared before the shift.
-pub fn settle(plan: &mut Plan, from: Operand, up: u8, word: Word, saturate: bool) -> Made
+pub fn settle(plan: &mut Plan, from: Operand, up: u8, word: Word, saturate: bool) -> Operand
     requires at { IsAt plan.old from }
     requires word { IsWord word.width word.signed }
-    ensures { IfOk result (λ made. IsMade plan.old plan.new word (λ numbers. (frac : ℤ)
+    ensures { IsMade plan.old plan.new word (λ numbers. (frac : ℤ)
         → Settles (Num word.signed word.width frac) saturate (numbers from.place *ℤ pos (2 ^ up))
-        (numbers made.place)) made) }
+        (numbers result.place)) result }
 {
-    let value = shift(plan, from, up, word)?;
+    let value = shift(plan, from, up, word);
     if saturate {
-        let below = held_below(plan, from, up, value)?;
+        let below = held_below(plan, from, up, value);
         return held_above(plan, from, up, below);
     }
-    Ok(value)
+    value
 }
 
 /// The number divided by 2 to the power `by`, rounded by the mode, and put into the word.
@@ -127,15 +126,15 @@ fn settle_quotient(
     word: Word,
     mode: Rounding,
     saturate: bool,
-) -> Made
+) -> Operand
     requires at { IsAt plan.old from }
     requires some { 1 ≤ by }
     requires word { IsWord word.width word.signed }
-    ensures { IfOk result (λ made. IsMade plan.old plan.new word (λ numbers. (frac : ℤ)
+    ensures { IsMade plan.old plan.new word (λ numbers. (frac : ℤ)
         → StoresQuotient (numbers from.place) (2 ^ by) (Num word.signed word.width frac) mode
-        saturate (numbers made.place)) made) }
+        saturate (numbers result.place)) result }
 {
-    let whole = round(plan, from, by, mode)?;
+    let whole = round(plan, from, by, mode);
     settle(plan, whole, 0, word, saturate)
 }
 
@@ -147,14 +146,14 @@ pub fn convert(
     to: FxType,
     mode: Rounding,
     saturate: bool,
-) -> Made
+) -> Operand
     requires at { IsAt plan.old from }
     requires low { negsuc 63 ≤ℤ frac }
     requires high { frac ≤ℤ pos 128 }
     requires to { IsType to }
-    ensures { IfOk result (λ made. IsMade plan.old plan.new (word_of to) (λ numbers.
+    ensures { IsMade plan.old plan.new (word_of to) (λ numbers.
         (kind : FxType) → frac_of kind ≡ frac
-        → Converts (numbers from.place) kind to mode saturate (numbers made.place)) made) }
+        → Converts (numbers from.place) kind to mode saturate (numbers result.place)) result }
 {
     let FxType::Num {
         signed,

@@ -16,6 +16,7 @@ use Rattle.hw_net.specs.Operation.{Operands, arity, given_by, low_bits, shifted_
 use Rattle.hw_lower.specs.declared.plan.Word.{Word}
 use Rattle.hw_lower.specs.declared.plan.Step.{Step}
 use Rattle.hw_lower.specs.declared.plan.Operand.{Operand}
+use Rattle.hw_lower.specs.declared.plan.Plan.{Plan}
 
 -- the word of a type
 abbrev pub word_of : FxType → Word
@@ -64,12 +65,16 @@ pub record Obeys (plan : List Step) (inputs numbers : Numbers) : Type 0 where
       → IsWrapped (given_by step.op inputs (operands_of numbers step)) step.word.width
       step.word.signed (numbers k)
 
--- the operand is a step of the plan, in its word
-pub record IsAt (plan : List Step) (one : Operand) : Type 0 where
+-- the operand is one of the steps, in its word
+pub record IsStep (steps : List Step) (one : Operand) : Type 0 where
   pub step : Step
-  pub is : slice_get plan one.place ≡ Some step
+  pub is : slice_get steps one.place ≡ Some step
   pub word : step.word ≡ one.word
+
+-- the operand is a step of the plan, unless memory was wanting
+pub record IsAt (plan : Plan) (one : Operand) : Type 0 where
   pub valid : IsWord one.word.width one.word.signed
+  pub there : plan.wanting ≡ false → IsStep plan.steps one
 
 -- the bits of a Slice are there in the word of the step that it reads
 abbrev pub HasParts : List Step → ℕ → NetOp → Type 0
@@ -146,16 +151,21 @@ pub record Adds (old new : List Step) (part : NetOp → Type 0) : Type 0 where
       → IsSound new k step
   pub parts : (k : ℕ) (step : Step) → length old ≤ k → slice_get new k ≡ Some step → part step.op
 
--- none of them is an input or a Multiply
-abbrev pub Grows : List Step → List Step → Type 0
-Grows old new = Adds old new IsPlain
+-- none of them is an input or a Multiply, unless memory was wanting
+pub record Grows (old new : Plan) : Type 0 where
+  pub adds : new.wanting ≡ false
+      → (old.wanting ≡ false) × Adds old.steps new.steps IsPlain
 
--- in whatever numbers the plan's steps have, P holds
-pub record Gives (plan : List Step) (P : Numbers → Type 0) : Type 0 where
-  pub holds : (inputs numbers : Numbers) → Obeys plan inputs numbers → P numbers
+-- in whatever numbers the steps have, P holds
+pub record Give (steps : List Step) (P : Numbers → Type 0) : Type 0 where
+  pub holds : (inputs numbers : Numbers) → Obeys steps inputs numbers → P numbers
+
+-- in whatever numbers the plan's steps have, P holds, unless memory was wanting
+pub record Gives (plan : Plan) (P : Numbers → Type 0) : Type 0 where
+  pub give : plan.wanting ≡ false → Give plan.steps P
 
 -- the operand is one of the plan that has grown, in the word, and P holds
-pub record IsMade (old new : List Step) (word : Word) (P : Numbers → Type 0)
+pub record IsMade (old new : Plan) (word : Word) (P : Numbers → Type 0)
     (made : Operand) : Type 0 where
   pub grows : Grows old new
   pub at : IsAt new made
@@ -164,7 +174,7 @@ pub record IsMade (old new : List Step) (word : Word) (P : Numbers → Type 0)
 
 -- the operand is one of the plan that has grown: what the operation gives of the three, cut to the
 -- word
-abbrev pub IsGiven : List Step → List Step → NetOp → Operand → Operand → Operand → Word → Operand
+abbrev pub IsGiven : Plan → Plan → NetOp → Operand → Operand → Operand → Word → Operand
     → Type 0
 IsGiven old new op first second third word made =
     IsMade old new word (λ numbers.
@@ -172,10 +182,15 @@ IsGiven old new op first second third word made =
     (numbers made.place)) made
 
 -- the operand is the step that was put behind the others
-pub record IsPut (old new : List Step) (step : Step) (made : Operand) : Type 0 where
+pub record IsLast (old new : List Step) (step : Step) (made : Operand) : Type 0 where
   pub is : new ≡ old ++ step ∷ []
   pub place : made.place ≡ length old
+
+-- the same of a plan, unless memory was wanting
+pub record IsPut (old new : Plan) (step : Step) (made : Operand) : Type 0 where
   pub word : made.word ≡ step.word
+  pub put : new.wanting ≡ false
+      → (old.wanting ≡ false) × IsLast old.steps new.steps step made
 
 -- the second number where the first isn't 0, else the third
 pub record IsChosen (test chosen other result : ℤ) : Type 0 where
@@ -205,46 +220,46 @@ pub record IsSwitched (test : Bool) (first other result : ℤ) : Type 0 where
   pub fails : test ≡ false → result ≡ other
 
 -- the operand is one of the plan that has grown: the given one by a power of two, rounded
-abbrev pub IsRounded : Rounding → List Step → List Step → Operand → ℕ → Operand → Type 0
+abbrev pub IsRounded : Rounding → Plan → Plan → Operand → ℕ → Operand → Type 0
 IsRounded mode old new from by made =
     IsMade old new from.word (λ numbers.
     Rounds mode (numbers from.place) (2 ^ by) (numbers made.place)) made
 
 -- the operand is one of the plan that has grown: the given value, or the greatest number of its
 -- word where the given one by a power of two is above that
-abbrev pub HoldsBelow : List Step → List Step → Operand → ℕ → Operand → Operand → Type 0
+abbrev pub HoldsBelow : Plan → Plan → Operand → ℕ → Operand → Operand → Type 0
 HoldsBelow old new from up value made =
     IsMade old new value.word (λ numbers.
     IsHeldBelow value.word (numbers from.place *ℤ pos (2 ^ up)) (numbers value.place)
     (numbers made.place)) made
 
 -- the same of the least number
-abbrev pub HoldsAbove : List Step → List Step → Operand → ℕ → Operand → Operand → Type 0
+abbrev pub HoldsAbove : Plan → Plan → Operand → ℕ → Operand → Operand → Type 0
 HoldsAbove old new from up value made =
     IsMade old new value.word (λ numbers.
     IsHeldAbove value.word (numbers from.place *ℤ pos (2 ^ up)) (numbers value.place)
     (numbers made.place)) made
 
 -- the number can stand in place of the value, where the test isn't 0
-pub record CanHold (plan : List Step) (test value : Operand) (end : ℤ) : Type 0 where
+pub record CanHold (plan : Plan) (test value : Operand) (end : ℤ) : Type 0 where
   pub at : IsAt plan test
   pub value_at : IsAt plan value
   pub fits : InWord value.word.width value.word.signed end
 
 -- the step can be rounded without some of its bits
-pub record CanRound (plan : List Step) (from : Operand) (by : ℕ) : Type 0 where
+pub record CanRound (plan : Plan) (from : Operand) (by : ℕ) : Type 0 where
   pub at : IsAt plan from
   pub some : 1 ≤ by
 
 -- a carry of one bit can be added to the step without some of its bits
-pub record CanRaise (plan : List Step) (from : Operand) (by : ℕ) (carry : Operand) : Type 0 where
+pub record CanRaise (plan : Plan) (from : Operand) (by : ℕ) (carry : Operand) : Type 0 where
   pub at : IsAt plan from
   pub one : IsAt plan carry
   pub bit : carry.word ≡ bit_word
   pub some : 1 ≤ by
 
 -- the bits are there by which a step without some of its bits is rounded
-pub record CanPassTie (plan : List Step) (from : Operand) (by : ℕ)
+pub record CanPassTie (plan : Plan) (from : Operand) (by : ℕ)
     (half tie : Operand) : Type 0 where
   pub at : IsAt plan from
   pub first : IsAt plan half

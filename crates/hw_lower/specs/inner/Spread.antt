@@ -1,5 +1,5 @@
 -- Plans of whole operations: their arguments, their one Multiply, and what they give.
-use Rattle.std.specs.Prelude.{◌≡◌, ℕ, ◌+◌, ◌<◌, ◌≤◌, ℤ, List, length, slice_get, Option}
+use Rattle.std.specs.Prelude.{◌≡◌, false, ℕ, ◌+◌, ◌<◌, ◌≤◌, ℤ, List, length, slice_get, Option}
 use Rattle.std.specs.Prelude.{◌⊎◌, ◌≤ℤ◌, All, Some, count_by, ◌%◌, ◌==◌, ◌*ℤ◌, ◌-ℤ◌, pos, Bool}
 use Rattle.std.specs.List.{list_all, list_any}
 use Rattle.fx_num.specs.Word.{IsWord, InWord}
@@ -16,6 +16,7 @@ use Rattle.hw_lower.specs.declared.gates.Joining.TheVariants.{Every, Any, Odd}
 use Rattle.hw_lower.specs.declared.plan.Word.{Word}
 use Rattle.hw_lower.specs.declared.plan.Step.{Step}
 use Rattle.hw_lower.specs.declared.plan.Operand.{Operand}
+use Rattle.hw_lower.specs.declared.plan.Plan.{Plan}
 use Rattle.hw_lower.specs.inner.Planned.{Numbers, Adds, IsAt, IsPlain, Gives, IsChosen, word_of, step_of}
 
 -- argument k of an operation, as a step of its plan
@@ -27,17 +28,17 @@ abbrev pub side_of : List FxType → ℕ → Side
 side_of types input = record { kind = type_of types input; from = argument_of types input }
 
 -- the plan begins with the arguments
-pub record HasArguments (plan : List Step) (types : List FxType) : Type 0 where
+pub record HasArguments (plan : Plan) (types : List FxType) : Type 0 where
   pub each : (input : ℕ) → input < length types → IsAt plan (argument_of types input)
 
 -- there are from 1 to 32 arguments
-pub record HasSome (plan : List Step) (types : List FxType) : Type 0 where
+pub record HasSome (plan : Plan) (types : List FxType) : Type 0 where
   pub arguments : HasArguments plan types
   pub some : 1 ≤ length types
   pub few : length types ≤ 32
 
 -- the same with a sign each
-pub record AreTerms (plan : List Step) (signs : List Bool) (types : List FxType) : Type 0 where
+pub record AreTerms (plan : Plan) (signs : List Bool) (types : List FxType) : Type 0 where
   pub arguments : HasArguments plan types
   pub signed : length signs ≡ length types
   pub some : 1 ≤ length types
@@ -45,7 +46,7 @@ pub record AreTerms (plan : List Step) (signs : List Bool) (types : List FxType)
   pub valid : All IsType types
 
 -- the number can be had with so many bits behind the point, cut to the word
-pub record CanAlign (plan : List Step) (side : Side) (frac : ℤ) (to : Word) : Type 0 where
+pub record CanAlign (plan : Plan) (side : Side) (frac : ℤ) (to : Word) : Type 0 where
   pub at : IsAt plan side.from
   pub kind : IsType side.kind
   pub above : frac_of side.kind ≤ℤ frac
@@ -53,18 +54,22 @@ pub record CanAlign (plan : List Step) (side : Side) (frac : ℤ) (to : Word) : 
   pub word : IsWord to.width to.signed
 
 -- the steps of a choice are there, and the threshold is of the word of the control
-pub record CanSwitch (plan : List Step) (of : Branches) (threshold : ℤ) : Type 0 where
+pub record CanSwitch (plan : Plan) (of : Branches) (threshold : ℤ) : Type 0 where
   pub control : IsAt plan of.control
   pub first : IsAt plan of.first
   pub other : IsAt plan of.other
   pub word : of.first.word ≡ of.other.word
   pub bound : InWord of.control.word.width of.control.word.signed threshold
 
--- the plan is the first arguments, as inputs
-pub record AreInputs (plan : List Step) (types : List FxType) (count : ℕ) : Type 0 where
-  pub size : length plan ≡ count
+-- the steps are the first arguments, as inputs
+pub record AreInputs (steps : List Step) (types : List FxType) (count : ℕ) : Type 0 where
+  pub size : length steps ≡ count
   pub each : (input : ℕ) → input < count
-      → slice_get plan input ≡ Some (step_of (Input input) 0 0 0 (word_of (type_of types input)))
+      → slice_get steps input ≡ Some (step_of (Input input) 0 0 0 (word_of (type_of types input)))
+
+-- the plan is the first arguments, unless memory was wanting
+pub record BeginsWith (plan : Plan) (types : List FxType) (count : ℕ) : Type 0 where
+  pub are : plan.wanting ≡ false → AreInputs plan.steps types count
 
 -- the arguments have these numbers, in the ranges of their types
 pub record AreArguments (types : List FxType) (numbers : Numbers) (values : List ℤ) : Type 0 where
@@ -92,9 +97,10 @@ pub record Spreads (old new : List Step) (multiply : Option ℕ) : Type 0 where
   pub only : (place : ℕ) → IsMultiplyAt new (length old + place) → multiply ≡ Some place
 
 -- as `IsMade`, of a plan that may have the one Multiply
-pub record IsPlanned (old new : List Step) (multiply : Option ℕ) (word : Word)
+pub record IsPlanned (old new : Plan) (multiply : Option ℕ) (word : Word)
     (P : Numbers → Type 0) (made : Operand) : Type 0 where
-  pub spreads : Spreads old new multiply
+  pub spreads : new.wanting ≡ false
+      → (old.wanting ≡ false) × Spreads old.steps new.steps multiply
   pub at : IsAt new made
   pub has_word : made.word ≡ word
   pub gives : Gives new P

@@ -4,7 +4,7 @@ use Rattle.std.proofs.lemmas.Int.{ints}
 use Rattle.fx_num.specs.Word.{IsWrapped}
 use Rattle.fx_type.specs.FxType.{frac_of, aligned}
 use Rattle.fx_type.proofs.Ranges.{gap_is, frac_bounds}
-use Rattle.hw_lower.proofs.Chained.{if-map}
+use Rattle.hw_lower.proofs.Chained.{made-map}
 use Rattle.hw_lower.proofs.aligning.align.Goals as goal
 
 pub returns : goal.returns
@@ -13,8 +13,8 @@ returns c =
     let x = to_z w16 (of_z w16 (to_z w16 (of_z w16 c.args.frac) -ℤ to_z w16 (of_z w16 c.frac.result))) in
     let difference : x ≡ c.args.frac -ℤ frac_of c.args.side.kind = omega (arith, ints, bounds.0, bounds.1, c.requires.above, c.requires.high, c.frac.ensures) in
     let gap : nat_abs x ≡ int_gap (frac_of c.args.side.kind) c.args.frac = gap_is (frac_of c.args.side.kind) c.args.frac x c.requires.above difference in
-    if-map _ _ _ _ (λ made numbers. IsWrapped (aligned c.args.frac c.args.side.kind (numbers c.args.side.from.place)) c.args.word.width c.args.word.signed (numbers made.place)) _ c.shift.ensures
-    (λ made numbers has p. rw (← gap) p)
+    made-map (λ numbers. IsWrapped (aligned c.args.frac c.args.side.kind (numbers c.args.side.from.place)) c.args.word.width c.args.word.signed (numbers c.shift.result.place)) c.shift.ensures
+    (λ numbers has p. rw (← gap) p)
 
 pub shift-requires-clause-at : goal.shift-requires-clause-at
 shift-requires-clause-at c = c.requires.at

@@ -4,7 +4,7 @@ use Rattle.fx_type.specs.Conversion.{IsTruthOf}
 use Rattle.hw_lower.specs.declared.plan.Word.{Word}
 use Rattle.hw_lower.specs.inner.Planned.{IsMade, bit_word}
 use Rattle.hw_lower.proofs.Made.{at-later}
-use Rattle.hw_lower.proofs.Chained.{if-then, made-self}
+use Rattle.hw_lower.proofs.Chained.{made-self, made-then}
 use Rattle.hw_lower.proofs.Cut.{same-words}
 use Rattle.hw_lower.proofs.Rounded.{bit-truth}
 use Rattle.hw_lower.proofs.bits.truth.Goals as goal
@@ -17,9 +17,9 @@ returns-then-eq c =
     (λ numbers has. bit-truth (numbers c.args.from.place) (subst (λ (w : Word). InWord w.width w.signed (numbers c.args.from.place)) same (has c.args.from c.requires))))
 
 pub both-requires-clause-test : goal.both-requires-clause-test
-both-requires-clause-test c = at-later c.args.plan.now c.constant.new.plan c.args.from c.in_ok-one.ensures.grows c.requires
+both-requires-clause-test c = at-later c.args.plan.now c.constant-one.new.plan c.args.from c.constant-one.ensures.grows c.requires
 
 pub returns : goal.returns
 returns c =
-    if-then _ _ _ _ _ _ _ (λ made numbers. IsTruthOf (numbers c.args.from.place) (numbers made.place)) _ _ c.in_ok-one.ensures c.both.ensures
-    (λ made numbers has later p q. record { zero = q.zero; one = λ h. q.any h ∙ p })
+    made-then (λ numbers. IsTruthOf (numbers c.args.from.place) (numbers c.both.result.place)) c.constant-one.ensures c.both.ensures
+    (λ numbers has later p q. record { zero = q.zero; one = λ h. q.any h ∙ p })

@@ -3,19 +3,19 @@ use Rattle.fx_num.specs.Word.{IsWrapped}
 use Rattle.dg_model.specs.Operation.{stored_truth}
 use Rattle.hw_net.specs.Operation.{truth}
 use Rattle.hw_lower.specs.inner.Planned.{of_two}
-use Rattle.hw_lower.proofs.Chained.{if-then}
+use Rattle.hw_lower.proofs.Chained.{made-then}
 use Rattle.hw_lower.proofs.Truths.{truth-is, not-truth}
 use Rattle.hw_lower.proofs.comparing.opposite.Goals as goal
 
 pub inverse-requires-clause-at : goal.inverse-requires-clause-at
-inverse-requires-clause-at c = c.in_ok-bit.ensures.at
+inverse-requires-clause-at c = c.binary-bit.ensures.at
 
 pub inverse-requires-clause-word : goal.inverse-requires-clause-word
-inverse-requires-clause-word c = c.in_ok-bit.ensures.has_word ∙ c.bit_word.ensures
+inverse-requires-clause-word c = c.binary-bit.ensures.has_word ∙ c.bit_word.ensures
 
 pub returns : goal.returns
 returns c =
-    if-then _ _ _ _ _ _ _ (λ made numbers. (told : Bool) → of_two c.args.op numbers c.args.one c.args.other ≡ truth told → numbers made.place ≡ stored_truth (not told)) _ _ (rw c.bit_word.ensures at c.in_ok-bit.ensures) c.inverse.ensures
-    (λ made numbers has later p q told is.
-    let bit : numbers c.in_ok-bit.bit.place ≡ stored_truth told = truth-is told (numbers c.in_ok-bit.bit.place) (subst (λ (z : ℤ). IsWrapped z 1 false (numbers c.in_ok-bit.bit.place)) is p) in
+    made-then (λ numbers. (told : Bool) → of_two c.args.op numbers c.args.one c.args.other ≡ truth told → numbers c.inverse.result.place ≡ stored_truth (not told)) (rw c.bit_word.ensures at c.binary-bit.ensures) c.inverse.ensures
+    (λ numbers has later p q told is.
+    let bit : numbers c.binary-bit.result.place ≡ stored_truth told = truth-is told (numbers c.binary-bit.result.place) (subst (λ (z : ℤ). IsWrapped z 1 false (numbers c.binary-bit.result.place)) is p) in
     q ∙ ap (λ (z : ℤ). pos 1 -ℤ z) bit ∙ not-truth told)

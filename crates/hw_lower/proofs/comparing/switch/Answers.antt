@@ -3,7 +3,7 @@ use Rattle.std.specs.Int.{w128}
 use Rattle.std.specs.Ordering.{int_eq}
 use Rattle.std.proofs.lemmas.Int.{to_z-of_z}
 use Rattle.hw_lower.specs.inner.Planned.{IsSwitched}
-use Rattle.hw_lower.proofs.Chained.{if-map}
+use Rattle.hw_lower.proofs.Chained.{made-map}
 use Rattle.hw_lower.proofs.Truths.{not-zero-is}
 use Rattle.hw_lower.proofs.comparing.switch.Goals as goal
 
@@ -20,8 +20,8 @@ returns-in-Above c =
 pub returns-in-NotZero : goal.returns-in-NotZero
 returns-in-NotZero c =
     rw c.in-NotZero.is
-    (if-map _ _ _ _ (λ made numbers. IsSwitched (not (int_eq (numbers c.args.of.control.place) (pos 0))) (numbers c.args.of.first.place) (numbers c.args.of.other.place) (numbers made.place)) _ c.choose.ensures
-    (λ made numbers has p. not-zero-is (numbers c.args.of.control.place) (numbers c.args.of.first.place) (numbers c.args.of.other.place) (numbers made.place) p))
+    (made-map (λ numbers. IsSwitched (not (int_eq (numbers c.args.of.control.place) (pos 0))) (numbers c.args.of.first.place) (numbers c.args.of.other.place) (numbers c.choose.result.place)) c.choose.ensures
+    (λ numbers has p. not-zero-is (numbers c.args.of.control.place) (numbers c.args.of.first.place) (numbers c.args.of.other.place) (numbers c.choose.result.place) p))
 
 pub against-requires : goal.against-requires
 against-requires c = rw (to_z-of_z w128 c.args.threshold c.ranges.threshold) c.requires

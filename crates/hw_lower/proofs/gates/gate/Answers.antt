@@ -2,12 +2,12 @@ use Rattle.std.proofs.Common.{◌≡◌, ◌∙◌, ap}
 use Rattle.dg_model.specs.Operation.{stored_truth, gate_of}
 use Rattle.dg_model.specs.declared.kind.Gate.TheVariants.{Nxor}
 use Rattle.hw_lower.specs.inner.Spread.{OfArguments}
-use Rattle.hw_lower.proofs.Chained.{if-map}
+use Rattle.hw_lower.proofs.Chained.{made-map}
 use Rattle.hw_lower.proofs.Gated.{even-is}
 use Rattle.hw_lower.proofs.gates.gate.Goals as goal
 
 pub returns-in-Nxor : goal.returns-in-Nxor
 returns-in-Nxor c =
     rw c.in-Nxor.is
-    (if-map _ _ _ _ (λ made numbers. OfArguments c.args.types.now numbers (λ values. numbers made.place ≡ stored_truth (gate_of Nxor values))) _ c.join_inverted-in-Nxor.ensures
-    (λ made numbers has p values are. p values are ∙ ap stored_truth (even-is values)))
+    (made-map (λ numbers. OfArguments c.args.types.now numbers (λ values. numbers c.join_inverted-in-Nxor.result.place ≡ stored_truth (gate_of Nxor values))) c.join_inverted-in-Nxor.ensures
+    (λ numbers has p values are. p values are ∙ ap stored_truth (even-is values)))

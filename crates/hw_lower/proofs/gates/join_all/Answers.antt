@@ -2,20 +2,20 @@ use Rattle.std.proofs.Common.{◌≡◌, ◌+◌, ◌<◌, ℕ, ℤ, List, lengt
 use Rattle.dg_model.specs.Operation.{stored_truth}
 use Rattle.hw_lower.specs.inner.Spread.{OfArguments, argument_of, truth_of}
 use Rattle.hw_lower.proofs.Made.{at-later}
-use Rattle.hw_lower.proofs.Chained.{made-map, made-both}
+use Rattle.hw_lower.proofs.Chained.{made-both, made-map}
 use Rattle.hw_lower.proofs.Gated.{joined-first, joined-more, of-all}
 use Rattle.hw_lower.proofs.gates.join_all.Goals as goal
 
-pub truth-requires : goal.truth-requires
-truth-requires c = rw c.argument_of-from.ensures (c.requires.arguments.each 0 (omega (arith, c.requires.some)))
+pub truth-first-requires : goal.truth-first-requires
+truth-first-requires c = rw c.argument_of-from.ensures (c.requires.arguments.each 0 (omega (arith, c.requires.some)))
 
 pub loop-input-init : goal.loop-input-init
 loop-input-init c =
-    made-map (λ numbers. OfArguments c.args.types.now numbers (λ values. numbers c.in_ok-first.first.place ≡ stored_truth (truth_of c.args.joining (take 1 values)))) c.in_ok-first.ensures
-    (λ numbers has p. joined-first c.args.types.now numbers c.args.joining (numbers c.in_ok-first.first.place) c.requires.some (rw c.argument_of-from.ensures at p))
+    made-map (λ numbers. OfArguments c.args.types.now numbers (λ values. numbers c.truth-first.result.place ≡ stored_truth (truth_of c.args.joining (take 1 values)))) c.truth-first.ensures
+    (λ numbers has p. joined-first c.args.types.now numbers c.args.joining (numbers c.truth-first.result.place) c.requires.some (rw c.argument_of-from.ensures at p))
 
-pub join-requires-clause-test : goal.join-requires-clause-test
-join-requires-clause-test c =
+pub join-bit-requires-clause-test : goal.join-bit-requires-clause-test
+join-bit-requires-clause-test c =
     let inside : c.loop-input.input < length c.args.types.now = omega (arith, c.loop-input-test.true) in
     rw c.argument_of-one.ensures (at-later _ _ (argument_of c.args.types.now c.loop-input.input) c.loop-input.invariant.grows (c.requires.arguments.each c.loop-input.input inside))
 
@@ -23,9 +23,9 @@ pub loop-input-preserved : goal.loop-input-preserved
 loop-input-preserved c =
     let i : ℕ = c.loop-input.input in
     let inside : i < length c.args.types.now = omega (arith, c.loop-input-test.true) in
-    let chosen = rw c.argument_of-one.ensures at c.in_ok-bit.ensures in
-    made-map (λ numbers. OfArguments c.args.types.now numbers (λ values. numbers c.in_ok-bit.bit.place ≡ stored_truth (truth_of c.args.joining (take (i + 1) values)))) (made-both c.loop-input.invariant chosen)
-    (λ numbers has p. joined-more c.args.types.now numbers c.args.joining i (numbers c.loop-input.bit.place) (numbers c.in_ok-bit.bit.place) inside p.0 p.1)
+    let chosen = rw c.argument_of-one.ensures at c.join-bit.ensures in
+    made-map (λ numbers. OfArguments c.args.types.now numbers (λ values. numbers c.join-bit.result.place ≡ stored_truth (truth_of c.args.joining (take (i + 1) values)))) (made-both c.loop-input.invariant chosen)
+    (λ numbers has p. joined-more c.args.types.now numbers c.args.joining i (numbers c.loop-input.bit.place) (numbers c.join-bit.result.place) inside p.0 p.1)
 
 pub returns : goal.returns
 returns c =

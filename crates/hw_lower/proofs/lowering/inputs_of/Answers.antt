@@ -3,7 +3,7 @@ use Rattle.hw_lower.proofs.Arguments.{inputs-more}
 use Rattle.hw_lower.proofs.lowering.inputs_of.Goals as goal
 
 pub loop-input-preserved : goal.loop-input-preserved
-loop-input-preserved c = inputs-more c.loop-input.plan c.put_alone.new.plan c.args.types.now c.loop-input.input c.loop-input.invariant (rw c.word_of-word.ensures at c.in_ok-made.ensures).is
+loop-input-preserved c = inputs-more c.loop-input.plan c.put_alone.new.plan c.args.types.now c.loop-input.input c.put_alone.result c.loop-input.invariant (rw c.word_of.ensures at c.put_alone.ensures)
 
 pub returns : goal.returns
 returns c =

@@ -4,7 +4,7 @@ use Rattle.std.proofs.lemmas.Int.{to_z-of_z}
 use Rattle.fx_type.specs.FxType.{frac_of}
 use Rattle.fx_type.proofs.Ranges.{frac_bounds}
 use Rattle.dg_model.specs.Operation.{operation_of, IsConverted, type_of}
-use Rattle.hw_lower.proofs.Chained.{if-map}
+use Rattle.hw_lower.proofs.Chained.{made-map}
 use Rattle.hw_lower.proofs.planning.convert_argument.Goals as goal
 use Rattle.hw_lower.proofs.planning.convert_argument.Goals.{After-frac-frac}
 
@@ -28,5 +28,5 @@ convert_to_result-requires-clause-high c =
 pub returns : goal.returns
 returns c =
     let f = frac_is (goal.at.returns c).After-frac-frac in
-    if-map _ _ _ _ (λ made numbers. IsConverted (operation_of c.args.call.now) (numbers c.args.input) (type_of c.args.call.now.types.now c.args.input) (numbers made.place)) _ (rw (c.argument_of-from.ensures, f) at c.convert_to_result.ensures)
-    (λ made numbers has p. p (type_of c.args.call.now.types.now c.args.input) refl)
+    made-map (λ numbers. IsConverted (operation_of c.args.call.now) (numbers c.args.input) (type_of c.args.call.now.types.now c.args.input) (numbers c.convert_to_result.result.place)) (rw (c.argument_of-from.ensures, f) at c.convert_to_result.ensures)
+    (λ numbers has p. p (type_of c.args.call.now.types.now c.args.input) refl)

@@ -10,7 +10,7 @@ use Rattle.hw_lower.specs.inner.Planned.{word_of}
 use Rattle.hw_lower.specs.inner.Spread.{IsScaled}
 use Rattle.hw_lower.proofs.Arguments.{frac_sum}
 use Rattle.hw_lower.proofs.Products.{product-is}
-use Rattle.hw_lower.proofs.Spreading.{multiplied-put, if-after}
+use Rattle.hw_lower.proofs.Spreading.{multiplied-put, made-after}
 use Rattle.hw_lower.proofs.planning.convert_product.Goals as goal
 use Rattle.hw_lower.proofs.planning.convert_product.Goals.{After-frac-2}
 
@@ -26,7 +26,7 @@ pub convert_to_result-requires-clause-at : goal.convert_to_result-requires-claus
 convert_to_result-requires-clause-at c =
     let full : FxType = c.requires.full.0 in
     let word : c.product_word-word.result ≡ word_of full = c.product_word-word.ensures full c.requires.full.1 in
-    (multiplied-put _ _ c.args.one.from c.args.other.from c.product_word-word.result c.in_ok-exact.exact c.requires.one c.requires.other (subst (λ (w : Word). IsWord w.width w.signed) (sym word) (type-word full c.requires.full.1.valid)) c.in_ok-exact.ensures).at
+    (multiplied-put _ _ c.args.one.from c.args.other.from c.product_word-word.result c.multiply-exact.result c.requires.one c.requires.other (subst (λ (w : Word). IsWord w.width w.signed) (sym word) (type-word full c.requires.full.1.valid)) c.multiply-exact.ensures).at
 
 pub convert_to_result-requires-clause-low : goal.convert_to_result-requires-clause-low
 convert_to_result-requires-clause-low c = rw (full_frac (goal.at.convert_to_result-requires-clause-low c).After-frac-2) (frac_bounds c.requires.full.0 c.requires.full.1.valid).0
@@ -38,15 +38,14 @@ pub returns : goal.returns
 returns c =
     let full : FxType = c.requires.full.0 in
     let word : c.product_word-word.result ≡ word_of full = c.product_word-word.ensures full c.requires.full.1 in
-    let put = rw word at c.in_ok-exact.ensures in
-    let multiplied = multiplied-put _ _ c.args.one.from c.args.other.from (word_of full) c.in_ok-exact.exact c.requires.one c.requires.other (type-word full c.requires.full.1.valid) put in
-    if-after _ _ _ c.args.one.from c.args.other.from c.in_ok-exact.exact (word_of full) _ _
-    (λ made numbers. InRange c.args.one.kind (numbers c.args.one.from.place) → InRange c.args.other.kind (numbers c.args.other.from.place) → IsScaled (operation_of c.args.call.now) c.args.one.kind c.args.other.kind (numbers c.args.one.from.place) (numbers c.args.other.from.place) (numbers made.place)) _
+    let put = rw word at c.multiply-exact.ensures in
+    let multiplied = multiplied-put _ _ c.args.one.from c.args.other.from (word_of full) c.multiply-exact.result c.requires.one c.requires.other (type-word full c.requires.full.1.valid) put in
+    made-after (λ numbers. InRange c.args.one.kind (numbers c.args.one.from.place) → InRange c.args.other.kind (numbers c.args.other.from.place) → IsScaled (operation_of c.args.call.now) c.args.one.kind c.args.other.kind (numbers c.args.one.from.place) (numbers c.args.other.from.place) (numbers c.convert_to_result.result.place))
     multiplied c.convert_to_result.ensures
-    (λ made numbers has w p first second. record {
+    (λ numbers w p first second. record {
       full = full;
       is_full = c.requires.full.1;
-      converted = subst (λ (z : ℤ). IsConverted (operation_of c.args.call.now) z full (numbers made.place))
-          (product-is c.args.one.kind c.args.other.kind full (numbers c.args.one.from.place) (numbers c.args.other.from.place) c.requires.left c.requires.right first second c.requires.full.1 (numbers c.in_ok-exact.exact.place) w)
+      converted = subst (λ (z : ℤ). IsConverted (operation_of c.args.call.now) z full (numbers c.convert_to_result.result.place))
+          (product-is c.args.one.kind c.args.other.kind full (numbers c.args.one.from.place) (numbers c.args.other.from.place) c.requires.left c.requires.right first second c.requires.full.1 (numbers c.multiply-exact.result.place) w)
           (p full (sym (full_frac (goal.at.returns c).After-frac-2)));
     })

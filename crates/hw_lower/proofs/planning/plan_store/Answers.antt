@@ -2,7 +2,7 @@ use Rattle.std.proofs.Common.{arith}
 use Rattle.fx_type.specs.Conversion.{Converts}
 use Rattle.dg_model.specs.Operation.{type_of, without_frac}
 use Rattle.hw_lower.proofs.Arguments.{without-type, without-word, without-none}
-use Rattle.hw_lower.proofs.Chained.{if-map}
+use Rattle.hw_lower.proofs.Chained.{made-map}
 use Rattle.hw_lower.proofs.planning.plan_store.Goals as goal
 
 pub convert-requires-clause-at : goal.convert-requires-clause-at
@@ -13,6 +13,5 @@ convert-requires-clause-to c = rw c.without_frac-to.ensures (without-type c.args
 
 pub returns : goal.returns
 returns c =
-    if-map _ _ _ _ (λ made numbers. Converts (numbers 0) (without_frac (type_of c.args.call.now.types.now 0)) (without_frac c.args.call.now.result) c.args.call.now.rounding c.args.call.now.saturate (numbers made.place)) _
-    (rw (c.without_frac-to.ensures, c.argument_of-from.ensures, without-word c.args.call.now.result) at c.convert.ensures)
-    (λ made numbers has p. p (without_frac (type_of c.args.call.now.types.now 0)) (without-none (type_of c.args.call.now.types.now 0)))
+    made-map (λ numbers. Converts (numbers 0) (without_frac (type_of c.args.call.now.types.now 0)) (without_frac c.args.call.now.result) c.args.call.now.rounding c.args.call.now.saturate (numbers c.convert.result.place)) (rw (c.without_frac-to.ensures, c.argument_of-from.ensures, without-word c.args.call.now.result) at c.convert.ensures)
+    (λ numbers has p. p (without_frac (type_of c.args.call.now.types.now 0)) (without-none (type_of c.args.call.now.types.now 0)))

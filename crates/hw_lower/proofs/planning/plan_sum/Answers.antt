@@ -8,7 +8,7 @@ use Rattle.fx_type.specs.FullType.{IsFullSum}
 use Rattle.fx_type.proofs.Ranges.{frac_bounds}
 use Rattle.dg_model.specs.Operation.{operation_of, IsConverted, signed_sum}
 use Rattle.hw_lower.specs.inner.Spread.{OfArguments}
-use Rattle.hw_lower.proofs.Chained.{if-then}
+use Rattle.hw_lower.proofs.Chained.{made-then}
 use Rattle.hw_lower.proofs.planning.plan_sum.Goals as goal
 use Rattle.hw_lower.proofs.planning.plan_sum.Goals.{After-frac}
 
@@ -29,13 +29,12 @@ convert_to_result-requires-clause-high c =
 pub returns : goal.returns
 returns c =
     let f = frac_is (goal.at.returns c).After-frac in
-    if-then _ _ _ _ _ _ _ (λ made numbers. OfArguments c.args.call.now.types.now numbers (λ values. (full : FxType) × IsFullSum (zip c.args.call.now.signs.now c.args.call.now.types.now) full × IsConverted (operation_of c.args.call.now) (signed_sum (frac_of full) (zip c.args.call.now.signs.now c.args.call.now.types.now) values) full (numbers made.place))) _ _
-    c.in_ok-exact.ensures (rw f at c.convert_to_result.ensures)
-    (λ made numbers has later p q values are. (
+    made-then (λ numbers. OfArguments c.args.call.now.types.now numbers (λ values. (full : FxType) × IsFullSum (zip c.args.call.now.signs.now c.args.call.now.types.now) full × IsConverted (operation_of c.args.call.now) (signed_sum (frac_of full) (zip c.args.call.now.signs.now c.args.call.now.types.now) values) full (numbers c.convert_to_result.result.place))) c.sum_arguments-exact.ensures (rw f at c.convert_to_result.ensures)
+    (λ numbers has later p q values are. (
       c.sum_type-full.result,
       c.sum_type-full.ensures,
-      subst (λ (z : ℤ). IsConverted (operation_of c.args.call.now) z c.sum_type-full.result (numbers made.place)) (p values are) (q c.sum_type-full.result refl),
+      subst (λ (z : ℤ). IsConverted (operation_of c.args.call.now) z c.sum_type-full.result (numbers c.convert_to_result.result.place)) (p values are) (q c.sum_type-full.result refl),
     ))
 
-pub sum_arguments-requires-clause-terms : goal.sum_arguments-requires-clause-terms
-sum_arguments-requires-clause-terms c = record { arguments = c.requires.arguments; signed = c.requires.signs; some = c.requires.some; few = c.requires.few; valid = c.requires.types }
+pub sum_arguments-exact-requires-clause-terms : goal.sum_arguments-exact-requires-clause-terms
+sum_arguments-exact-requires-clause-terms c = record { arguments = c.requires.arguments; signed = c.requires.signs; some = c.requires.some; few = c.requires.few; valid = c.requires.types }

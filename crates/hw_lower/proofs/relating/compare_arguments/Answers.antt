@@ -5,7 +5,7 @@ use Rattle.fx_type.specs.FullType.{IsUnion}
 use Rattle.dg_model.specs.Operation.{compares_values, stored_truth, type_of, value_of}
 use Rattle.hw_lower.specs.inner.Spread.{OfArguments, argument_of}
 use Rattle.hw_lower.proofs.Made.{at-later}
-use Rattle.hw_lower.proofs.Chained.{if-then, made-both}
+use Rattle.hw_lower.proofs.Chained.{made-both, made-then}
 use Rattle.hw_lower.proofs.Related.{IsHolder, union-holds, holder-left, holder-right, compared-is}
 use Rattle.dg_model.proofs.SumTerms.{found-ok}
 use Rattle.hw_lower.proofs.relating.compare_arguments.Goals as goal
@@ -17,51 +17,50 @@ holder c = union-holds (type_of c.args.types.now 0) (type_of c.args.types.now 1)
 pub unwrap-both-requires : goal.unwrap-both-requires
 unwrap-both-requires c = found-ok (IsUnion (type_of c.args.types.now 0) (type_of c.args.types.now 1)) c.union.result c.union.ensures.too_wide c.requires.union
 
-pub widen-requires-clause-kind : goal.widen-requires-clause-kind
-widen-requires-clause-kind c = rw c.side_of-one.ensures (c.requires.types 0 _ (omega (arith, c.requires.two)))
+pub widen-left-requires-clause-kind : goal.widen-left-requires-clause-kind
+widen-left-requires-clause-kind c = rw c.side_of-one.ensures (c.requires.types 0 _ (omega (arith, c.requires.two)))
 
-pub widen-requires-2-clause-kind : goal.widen-requires-2-clause-kind
-widen-requires-2-clause-kind c = rw c.side_of-other.ensures (c.requires.types 1 _ (omega (arith, c.requires.two)))
+pub widen-right-requires-clause-kind : goal.widen-right-requires-clause-kind
+widen-right-requires-clause-kind c = rw c.side_of-other.ensures (c.requires.types 1 _ (omega (arith, c.requires.two)))
 
-pub widen-requires-clause-at : goal.widen-requires-clause-at
-widen-requires-clause-at c = rw c.side_of-one.ensures (c.requires.arguments.each 0 (omega (arith, c.requires.two)))
+pub widen-left-requires-clause-at : goal.widen-left-requires-clause-at
+widen-left-requires-clause-at c = rw c.side_of-one.ensures (c.requires.arguments.each 0 (omega (arith, c.requires.two)))
 
-pub widen-requires-clause-holder : goal.widen-requires-clause-holder
-widen-requires-clause-holder c = (holder (goal.at.widen-requires-clause-holder c).After-unwrap-both).valid
+pub widen-left-requires-clause-holder : goal.widen-left-requires-clause-holder
+widen-left-requires-clause-holder c = (holder (goal.at.widen-left-requires-clause-holder c).After-unwrap-both).valid
 
-pub widen-requires-clause-above : goal.widen-requires-clause-above
-widen-requires-clause-above c =
-    rw c.side_of-one.ensures (holder-left (type_of c.args.types.now 0) (type_of c.args.types.now 1) c.unwrap-both.result (holder (goal.at.widen-requires-clause-above c).After-unwrap-both))
+pub widen-left-requires-clause-above : goal.widen-left-requires-clause-above
+widen-left-requires-clause-above c =
+    rw c.side_of-one.ensures (holder-left (type_of c.args.types.now 0) (type_of c.args.types.now 1) c.unwrap-both.result (holder (goal.at.widen-left-requires-clause-above c).After-unwrap-both))
 
-pub widen-requires-clause-holds : goal.widen-requires-clause-holds
-widen-requires-clause-holds c = rw c.side_of-one.ensures (holder (goal.at.widen-requires-clause-holds c).After-unwrap-both).left
+pub widen-left-requires-clause-holds : goal.widen-left-requires-clause-holds
+widen-left-requires-clause-holds c = rw c.side_of-one.ensures (holder (goal.at.widen-left-requires-clause-holds c).After-unwrap-both).left
 
-pub widen-requires-2-clause-at : goal.widen-requires-2-clause-at
-widen-requires-2-clause-at c = rw c.side_of-other.ensures (at-later _ _ (argument_of c.args.types.now 1) c.in_ok-left.ensures.grows (c.requires.arguments.each 1 (omega (arith, c.requires.two))))
+pub widen-right-requires-clause-at : goal.widen-right-requires-clause-at
+widen-right-requires-clause-at c = rw c.side_of-other.ensures (at-later _ _ (argument_of c.args.types.now 1) c.widen-left.ensures.grows (c.requires.arguments.each 1 (omega (arith, c.requires.two))))
 
-pub widen-requires-2-clause-holder : goal.widen-requires-2-clause-holder
-widen-requires-2-clause-holder c = (holder (goal.at.widen-requires-2-clause-holder c).After-unwrap-both).valid
+pub widen-right-requires-clause-holder : goal.widen-right-requires-clause-holder
+widen-right-requires-clause-holder c = (holder (goal.at.widen-right-requires-clause-holder c).After-unwrap-both).valid
 
-pub widen-requires-2-clause-above : goal.widen-requires-2-clause-above
-widen-requires-2-clause-above c =
-    rw c.side_of-other.ensures (holder-right (type_of c.args.types.now 0) (type_of c.args.types.now 1) c.unwrap-both.result (holder (goal.at.widen-requires-2-clause-above c).After-unwrap-both))
+pub widen-right-requires-clause-above : goal.widen-right-requires-clause-above
+widen-right-requires-clause-above c =
+    rw c.side_of-other.ensures (holder-right (type_of c.args.types.now 0) (type_of c.args.types.now 1) c.unwrap-both.result (holder (goal.at.widen-right-requires-clause-above c).After-unwrap-both))
 
-pub widen-requires-2-clause-holds : goal.widen-requires-2-clause-holds
-widen-requires-2-clause-holds c = rw c.side_of-other.ensures (holder (goal.at.widen-requires-2-clause-holds c).After-unwrap-both).right
+pub widen-right-requires-clause-holds : goal.widen-right-requires-clause-holds
+widen-right-requires-clause-holds c = rw c.side_of-other.ensures (holder (goal.at.widen-right-requires-clause-holds c).After-unwrap-both).right
 
 pub compare-requires-clause-one : goal.compare-requires-clause-one
-compare-requires-clause-one c = at-later _ _ c.in_ok-left.left c.in_ok-right.ensures.grows c.in_ok-left.ensures.at
+compare-requires-clause-one c = at-later _ _ c.widen-left.result c.widen-right.ensures.grows c.widen-left.ensures.at
 
 pub returns : goal.returns
 returns c =
     let a : FxType = type_of c.args.types.now 0 in
     let b : FxType = type_of c.args.types.now 1 in
-    if-then _ _ _ _ _ _ _ (λ made numbers. OfArguments c.args.types.now numbers (λ values. numbers made.place ≡ stored_truth (compares_values c.args.operator (type_of c.args.types.now 0) (type_of c.args.types.now 1) (value_of values 0) (value_of values 1)))) _ _
-    (made-both (rw c.side_of-one.ensures at c.in_ok-left.ensures) (rw c.side_of-other.ensures at c.in_ok-right.ensures)) c.compare.ensures
-    (λ made numbers has later p q values are.
+    made-then (λ numbers. OfArguments c.args.types.now numbers (λ values. numbers c.compare.result.place ≡ stored_truth (compares_values c.args.operator (type_of c.args.types.now 0) (type_of c.args.types.now 1) (value_of values 0) (value_of values 1)))) (made-both (rw c.side_of-one.ensures at c.widen-left.ensures) (rw c.side_of-other.ensures at c.widen-right.ensures)) c.compare.ensures
+    (λ numbers has later p q values are.
     let x : numbers 0 ≡ value_of values 0 = are.each 0 (omega (arith, c.requires.two)) in
     let y : numbers 1 ≡ value_of values 1 = are.each 1 (omega (arith, c.requires.two)) in
     let first : InRange a (numbers 0) = subst (InRange a) (sym x) (are.in_range.in_range 0 (omega (arith, c.requires.two))) in
     let second : InRange b (numbers 1) = subst (InRange b) (sym y) (are.in_range.in_range 1 (omega (arith, c.requires.two))) in
-    compared-is c.args.operator a b c.unwrap-both.result (numbers 0) (numbers 1) (value_of values 0) (value_of values 1) (numbers c.in_ok-left.left.place) (numbers c.in_ok-right.right.place) (numbers made.place)
+    compared-is c.args.operator a b c.unwrap-both.result (numbers 0) (numbers 1) (value_of values 0) (value_of values 1) (numbers c.widen-left.result.place) (numbers c.widen-right.result.place) (numbers c.compare.result.place)
     (holder (goal.at.returns c).After-unwrap-both) (p.0 first) (p.1 second) x y q)

@@ -3,7 +3,7 @@ use Rattle.std.specs.Int.{w16}
 use Rattle.std.proofs.lemmas.Int.{to_z-of_z}
 use Rattle.fx_type.specs.FxType.{InRange, frac_of, aligned}
 use Rattle.fx_type.proofs.Ranges.{frac_bounds, type-word}
-use Rattle.hw_lower.proofs.Chained.{if-map}
+use Rattle.hw_lower.proofs.Chained.{made-map}
 use Rattle.hw_lower.proofs.Related.{held-is}
 use Rattle.hw_lower.proofs.relating.widen.Goals as goal
 use Rattle.hw_lower.proofs.relating.widen.Goals.{After-frac}
@@ -25,5 +25,5 @@ align-requires c =
 pub returns : goal.returns
 returns c =
     let f = frac_is (goal.at.returns c).After-frac in
-    if-map _ _ _ _ (λ made numbers. InRange c.args.side.kind (numbers c.args.side.from.place) → numbers made.place ≡ aligned (frac_of c.args.holder) c.args.side.kind (numbers c.args.side.from.place)) _ (rw (c.word_of.ensures, f) at c.align.ensures)
-    (λ made numbers has p range. held-is c.args.holder c.args.side.kind (numbers c.args.side.from.place) (numbers made.place) c.requires.holder c.requires.holds p range)
+    made-map (λ numbers. InRange c.args.side.kind (numbers c.args.side.from.place) → numbers c.align.result.place ≡ aligned (frac_of c.args.holder) c.args.side.kind (numbers c.args.side.from.place)) (rw (c.word_of.ensures, f) at c.align.ensures)
+    (λ numbers has p range. held-is c.args.holder c.args.side.kind (numbers c.args.side.from.place) (numbers c.align.result.place) c.requires.holder c.requires.holds p range)

@@ -3,7 +3,7 @@ use Rattle.hw_net.specs.Operation.{low_bits}
 use Rattle.hw_lower.specs.declared.plan.Word.{Word}
 use Rattle.hw_lower.specs.inner.Planned.{IsMade, IsPastTie}
 use Rattle.hw_lower.proofs.Made.{at-later}
-use Rattle.hw_lower.proofs.Chained.{if-then, made-self}
+use Rattle.hw_lower.proofs.Chained.{made-self, made-then}
 use Rattle.hw_lower.proofs.Rounded.{no-rest}
 use Rattle.hw_lower.proofs.rounding.past_tie.Goals as goal
 
@@ -14,15 +14,15 @@ returns-then-by-eq1 c =
     (λ numbers has. no-rest (c.args.by - 1) (numbers c.args.from.place) (numbers c.args.half.place) (numbers c.args.tie.place) (omega (arith, c.if-by-eq1.true))))
 
 pub choose-requires-clause-chosen : goal.choose-requires-clause-chosen
-choose-requires-clause-chosen c = at-later _ _ c.args.half c.in_ok-rest.ensures.grows c.requires.first
+choose-requires-clause-chosen c = at-later _ _ c.args.half c.lowest-rest.ensures.grows c.requires.first
 
 pub choose-requires-clause-other : goal.choose-requires-clause-other
-choose-requires-clause-other c = at-later _ _ c.args.tie c.in_ok-rest.ensures.grows c.requires.last
+choose-requires-clause-other c = at-later _ _ c.args.tie c.lowest-rest.ensures.grows c.requires.last
 
 pub returns : goal.returns
 returns c =
-    if-then _ _ _ _ _ _ _ (λ made numbers. IsPastTie (low_bits (c.args.by - 1) (numbers c.args.from.place)) (numbers c.args.half.place) (numbers c.args.tie.place) (numbers made.place)) _ _ c.in_ok-rest.ensures (rw c.bit_word.ensures at c.choose.ensures)
-    (λ made numbers has later p q. record {
+    made-then (λ numbers. IsPastTie (low_bits (c.args.by - 1) (numbers c.args.from.place)) (numbers c.args.half.place) (numbers c.args.tie.place) (numbers c.choose.result.place)) c.lowest-rest.ensures (rw c.bit_word.ensures at c.choose.ensures)
+    (λ numbers has later p q. record {
       none = λ e. q.zero (p.1 e);
       some = λ more. q.any (λ e. absurd (omega (arith, p.0 e, more)));
     })

@@ -6,7 +6,7 @@ use Rattle.fx_type.specs.declared.kind.FxType.TheVariants.{Num}
 use Rattle.fx_type.specs.FxType.{frac_of}
 use Rattle.fx_type.specs.Conversion.{Converts}
 use Rattle.fx_type.proofs.Ranges.{gap_is, gap_none}
-use Rattle.hw_lower.proofs.Chained.{if-map}
+use Rattle.hw_lower.proofs.Chained.{made-map}
 use Rattle.hw_lower.proofs.Conversions.{converts-up, converts-down}
 use Rattle.hw_lower.proofs.settling.convert.Goals as goal
 
@@ -17,9 +17,8 @@ returns-then-behind-frac c =
     let difference : x ≡ c.in-Num.behind -ℤ c.args.frac = omega (arith, ints, to_type.1, to_type.2, c.requires.low, c.requires.high) in
     let order : c.args.frac ≤ℤ c.in-Num.behind = omega (arith, ints, to_type.1, to_type.2, c.requires.low, c.requires.high, c.if-behind-frac.true) in
     rw c.in-Num.is
-    (if-map _ _ _ _ (λ made numbers. (kind : FxType) → frac_of kind ≡ c.args.frac → Converts (numbers c.args.from.place) kind (Num c.in-Num.signed c.in-Num.width c.in-Num.behind) c.args.mode c.args.saturate (numbers made.place)) _
-    c.settle.ensures
-    (λ made numbers has p kind e. converts-up (numbers c.args.from.place) kind c.in-Num.signed c.in-Num.width c.in-Num.behind c.args.mode c.args.saturate (numbers made.place) (nat_abs x)
+    (made-map (λ numbers. (kind : FxType) → frac_of kind ≡ c.args.frac → Converts (numbers c.args.from.place) kind (Num c.in-Num.signed c.in-Num.width c.in-Num.behind) c.args.mode c.args.saturate (numbers c.settle.result.place)) c.settle.ensures
+    (λ numbers has p kind e. converts-up (numbers c.args.from.place) kind c.in-Num.signed c.in-Num.width c.in-Num.behind c.args.mode c.args.saturate (numbers c.settle.result.place) (nat_abs x)
     (rw e (gap_is c.args.frac c.in-Num.behind x order difference)) (rw e (gap_none c.in-Num.behind c.args.frac order)) (p c.in-Num.behind)))
 
 pub returns : goal.returns
@@ -29,9 +28,8 @@ returns c =
     let difference : x ≡ c.args.frac -ℤ c.in-Num.behind = omega (arith, ints, to_type.1, to_type.2, c.requires.low, c.requires.high) in
     let order : c.in-Num.behind ≤ℤ c.args.frac = omega (arith, ints, to_type.1, to_type.2, c.requires.low, c.requires.high, c.if-behind-frac.false) in
     rw c.in-Num.is
-    (if-map _ _ _ _ (λ made numbers. (kind : FxType) → frac_of kind ≡ c.args.frac → Converts (numbers c.args.from.place) kind (Num c.in-Num.signed c.in-Num.width c.in-Num.behind) c.args.mode c.args.saturate (numbers made.place)) _
-    c.settle_quotient.ensures
-    (λ made numbers has p kind e. converts-down (numbers c.args.from.place) kind c.in-Num.signed c.in-Num.width c.in-Num.behind c.args.mode c.args.saturate (numbers made.place) (nat_abs x)
+    (made-map (λ numbers. (kind : FxType) → frac_of kind ≡ c.args.frac → Converts (numbers c.args.from.place) kind (Num c.in-Num.signed c.in-Num.width c.in-Num.behind) c.args.mode c.args.saturate (numbers c.settle_quotient.result.place)) c.settle_quotient.ensures
+    (λ numbers has p kind e. converts-down (numbers c.args.from.place) kind c.in-Num.signed c.in-Num.width c.in-Num.behind c.args.mode c.args.saturate (numbers c.settle_quotient.result.place) (nat_abs x)
     (rw e (gap_is c.in-Num.behind c.args.frac x order difference)) (rw e (gap_none c.args.frac c.in-Num.behind order)) (p c.in-Num.behind)))
 
 pub settle-requires-clause-at : goal.settle-requires-clause-at

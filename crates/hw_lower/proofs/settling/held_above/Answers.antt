@@ -4,13 +4,13 @@ use Rattle.std.proofs.lemmas.Int.{ints, to_z-of_z}
 use Rattle.fx_num.specs.Word.{InWord}
 use Rattle.hw_lower.specs.inner.Planned.{IsHeldAbove}
 use Rattle.hw_lower.proofs.Made.{at-later}
-use Rattle.hw_lower.proofs.Chained.{if-then, made-both, made-self}
+use Rattle.hw_lower.proofs.Chained.{made-both, made-self, made-then}
 use Rattle.hw_net.proofs.Words.{lowest-below}
 use Rattle.hw_lower.proofs.Ends.{held-above, highest-least}
 use Rattle.hw_lower.proofs.settling.held_above.Goals as goal
 
-pub constant-requires-clause-value : goal.constant-requires-clause-value
-constant-requires-clause-value c =
+pub constant-end-requires-clause-value : goal.constant-end-requires-clause-value
+constant-end-requires-clause-value c =
     let bound = to_z-of_z w128 c.least-bound.result (record { sfits = c.least-bound.type_inv }) in
     let end = to_z-of_z w128 c.lowest.result (record { sfits = c.lowest.type_inv }) in
     record {
@@ -18,19 +18,19 @@ constant-requires-clause-value c =
       high = omega (arith, ints, bound, c.least-bound.ensures.most, highest-least c.args.from.word.width c.args.from.word.signed);
     }
 
-pub binary-requires-clause-one : goal.binary-requires-clause-one
-binary-requires-clause-one c = at-later _ _ c.args.from c.in_ok-end.ensures.grows c.requires.from
+pub binary-test-requires-clause-one : goal.binary-test-requires-clause-one
+binary-test-requires-clause-one c = at-later _ _ c.args.from c.constant-end.ensures.grows c.requires.from
 
-pub binary-requires-clause-other : goal.binary-requires-clause-other
-binary-requires-clause-other c = c.in_ok-end.ensures.at
+pub binary-test-requires-clause-other : goal.binary-test-requires-clause-other
+binary-test-requires-clause-other c = c.constant-end.ensures.at
 
-pub binary-requires-clause-word : goal.binary-requires-clause-word
-binary-requires-clause-word c = rw c.bit_word.ensures (omega arith, omega arith)
+pub binary-test-requires-clause-word : goal.binary-test-requires-clause-word
+binary-test-requires-clause-word c = rw c.bit_word.ensures (omega arith, omega arith)
 
 pub choose_end-requires : goal.choose_end-requires
 choose_end-requires c =
     let end = to_z-of_z w128 c.lowest-fewest.result (record { sfits = c.lowest-fewest.type_inv }) in
-    record { at = c.in_ok-test.ensures.at; value_at = at-later _ _ c.args.value c.in_ok-test.ensures.grows (at-later _ _ c.args.value c.in_ok-end.ensures.grows c.requires.value); fits = record { low = omega (arith, ints, end, c.lowest-fewest.ensures); high = omega (arith, ints, end, c.lowest-fewest.ensures, lowest-below c.args.value.word.width c.args.value.word.signed, highest-least c.args.value.word.width c.args.value.word.signed) } }
+    record { at = c.binary-test.ensures.at; value_at = at-later _ _ c.args.value c.binary-test.ensures.grows (at-later _ _ c.args.value c.constant-end.ensures.grows c.requires.value); fits = record { low = omega (arith, ints, end, c.lowest-fewest.ensures); high = omega (arith, ints, end, c.lowest-fewest.ensures, lowest-below c.args.value.word.width c.args.value.word.signed, highest-least c.args.value.word.width c.args.value.word.signed) } }
 
 pub returns-then-bound-lowest : goal.returns-then-bound-lowest
 returns-then-bound-lowest c =
@@ -42,5 +42,5 @@ returns-then-bound-lowest c =
 
 pub returns : goal.returns
 returns c =
-    if-then _ _ _ _ _ _ _ (λ made numbers. IsHeldAbove c.args.value.word (numbers c.args.from.place *ℤ pos (2 ^ c.args.up)) (numbers c.args.value.place) (numbers made.place)) _ _ (made-both c.in_ok-end.ensures (rw c.bit_word.ensures at c.in_ok-test.ensures)) c.choose_end.ensures
-    (λ made numbers has later p q. held-above c.args.value.word _ (numbers c.args.from.place) c.least-bound.result _ _ (numbers c.in_ok-test.test.place) _ _ (c.least-bound.ensures.bound (numbers c.args.from.place)) (p.0 ∙ to_z-of_z w128 c.least-bound.result (record { sfits = c.least-bound.type_inv })) (to_z-of_z w128 c.lowest-fewest.result (record { sfits = c.lowest-fewest.type_inv }) ∙ c.lowest-fewest.ensures) p.1 q)
+    made-then (λ numbers. IsHeldAbove c.args.value.word (numbers c.args.from.place *ℤ pos (2 ^ c.args.up)) (numbers c.args.value.place) (numbers c.choose_end.result.place)) (made-both c.constant-end.ensures (rw c.bit_word.ensures at c.binary-test.ensures)) c.choose_end.ensures
+    (λ numbers has later p q. held-above c.args.value.word _ (numbers c.args.from.place) c.least-bound.result _ _ (numbers c.binary-test.result.place) _ _ (c.least-bound.ensures.bound (numbers c.args.from.place)) (p.0 ∙ to_z-of_z w128 c.least-bound.result (record { sfits = c.least-bound.type_inv })) (to_z-of_z w128 c.lowest-fewest.result (record { sfits = c.lowest-fewest.type_inv }) ∙ c.lowest-fewest.ensures) p.1 q)

@@ -2,7 +2,7 @@ use Rattle.std.proofs.Common.{◌≡◌, ◌^◌, pos, ◌*ℤ◌, sym, subst, a
 use Rattle.fx_num.specs.Word.{IsWrapped}
 use Rattle.hw_lower.specs.declared.plan.Word.{Word}
 use Rattle.hw_lower.specs.inner.Planned.{IsMade}
-use Rattle.hw_lower.proofs.Chained.{made-self, if-map}
+use Rattle.hw_lower.proofs.Chained.{made-map, made-self}
 use Rattle.hw_lower.proofs.Cut.{same-words, none-shifted, wrapped-shifted}
 use Rattle.hw_lower.proofs.settling.shift.Goals as goal
 
@@ -25,5 +25,5 @@ unary-requires-2-clause-at c = c.requires.at
 pub returns : goal.returns
 returns c =
     let none : c.args.up ≡ 0 = omega (arith, c.if-up-gt0.false) in
-    if-map _ _ _ _ (λ made numbers. IsWrapped (numbers c.args.from.place *ℤ pos (2 ^ c.args.up)) c.args.word.width c.args.word.signed (numbers made.place)) _ c.unary-2.ensures
-    (λ made numbers has p. wrapped-shifted (numbers c.args.from.place) c.args.up c.args.word.width c.args.word.signed (numbers made.place) none p)
+    made-map (λ numbers. IsWrapped (numbers c.args.from.place *ℤ pos (2 ^ c.args.up)) c.args.word.width c.args.word.signed (numbers c.unary-2.result.place)) c.unary-2.ensures
+    (λ numbers has p. wrapped-shifted (numbers c.args.from.place) c.args.up c.args.word.width c.args.word.signed (numbers c.unary-2.result.place) none p)

@@ -7,7 +7,7 @@ use Rattle.fx_type.proofs.Ranges.{frac_bounds, type-word}
 use Rattle.dg_model.specs.Operation.{signed_sum}
 use Rattle.hw_lower.specs.inner.Spread.{OfArguments, argument_of}
 use Rattle.hw_lower.proofs.Made.{at-later}
-use Rattle.hw_lower.proofs.Chained.{made-map, made-both}
+use Rattle.hw_lower.proofs.Chained.{made-both, made-map}
 use Rattle.fx_type.proofs.Fracs.{bound_at}
 use Rattle.hw_lower.proofs.Summed.{IsTotal, total-more, total-is}
 use Rattle.hw_lower.proofs.sums.sum_arguments.Goals as goal
@@ -17,28 +17,28 @@ use Rattle.hw_lower.proofs.sums.sum_arguments.Goals.{After-frac-frac}
 own_frac : (c : After-frac-frac) → to_z w16 (of_z w16 c.frac-frac.result) ≡ frac_of c.args.full
 own_frac c = to_z-of_z w16 c.frac-frac.result (record { sfits = c.frac-frac.type_inv }) ∙ c.frac-frac.ensures
 
-pub first_term-requires-clause-above : goal.first_term-requires-clause-above
-first_term-requires-clause-above c =
-    let f = own_frac (goal.at.first_term-requires-clause-above c).After-frac-frac in
+pub first_term-first-requires-clause-above : goal.first_term-first-requires-clause-above
+first_term-first-requires-clause-above c =
+    let f = own_frac (goal.at.first_term-first-requires-clause-above c).After-frac-frac in
     rw f (λ k d h. bound_at (frac_of c.args.full) c.args.signs.now c.args.types.now c.requires.full.frac.bound c.requires.terms.signed k d h)
 
-pub first_term-requires-clause-high : goal.first_term-requires-clause-high
-first_term-requires-clause-high c =
-    let f = own_frac (goal.at.first_term-requires-clause-high c).After-frac-frac in
+pub first_term-first-requires-clause-high : goal.first_term-first-requires-clause-high
+first_term-first-requires-clause-high c =
+    let f = own_frac (goal.at.first_term-first-requires-clause-high c).After-frac-frac in
     rw f (frac_bounds c.args.full c.requires.full.valid).1
 
-pub first_term-requires-clause-word : goal.first_term-requires-clause-word
-first_term-requires-clause-word c = rw c.word_of-word.ensures (type-word c.args.full c.requires.full.valid)
+pub first_term-first-requires-clause-word : goal.first_term-first-requires-clause-word
+first_term-first-requires-clause-word c = rw c.word_of-word.ensures (type-word c.args.full c.requires.full.valid)
 
 pub loop-input-init : goal.loop-input-init
 loop-input-init c =
     let f = own_frac (goal.at.loop-input-init c).After-frac-frac in
-    rw (c.word_of-word.ensures, f) at c.in_ok-first.ensures
+    rw (c.word_of-word.ensures, f) at c.first_term-first.ensures
 
-pub add_term-requires-clause-can : goal.add_term-requires-clause-can
-add_term-requires-clause-can c =
+pub add_term-total-requires-clause-can : goal.add_term-total-requires-clause-can
+add_term-total-requires-clause-can c =
     let inside : c.loop-input.input < length c.args.types.now = omega (arith, c.loop-input-test.true) in
-    rw (c.side_of-side.ensures, c.word_of-word.ensures, own_frac (goal.at.add_term-requires-clause-can c).After-frac-frac) (record {
+    rw (c.side_of-side.ensures, c.word_of-word.ensures, own_frac (goal.at.add_term-total-requires-clause-can c).After-frac-frac) (record {
       at = at-later _ _ (argument_of c.args.types.now c.loop-input.input) c.loop-input.invariant.grows (c.requires.terms.arguments.each c.loop-input.input inside);
       kind = c.requires.terms.valid c.loop-input.input _ inside;
       above = bound_at (frac_of c.args.full) c.args.signs.now c.args.types.now c.requires.full.frac.bound c.requires.terms.signed c.loop-input.input _ inside;
@@ -51,8 +51,8 @@ loop-input-preserved c =
     let f = own_frac (goal.at.loop-input-preserved c).After-frac-frac in
     let i : ℕ = c.loop-input.input in
     let inside : i < length c.args.types.now = omega (arith, c.loop-input-test.true) in
-    made-map (λ numbers. IsTotal (frac_of c.args.full) c.args.signs.now c.args.types.now (width_of c.args.full) (is_signed c.args.full) numbers (i + 1) (numbers c.in_ok-total.total.place)) (made-both c.loop-input.invariant (rw (c.side_of-side.ensures, c.word_of-word.ensures, f) at c.in_ok-total.ensures))
-    (λ numbers has p. total-more (frac_of c.args.full) c.args.signs.now c.args.types.now (width_of c.args.full) (is_signed c.args.full) numbers c.requires.terms.signed i (numbers c.loop-input.total.place) (numbers c.in_ok-total.total.place) inside p.0 p.1)
+    made-map (λ numbers. IsTotal (frac_of c.args.full) c.args.signs.now c.args.types.now (width_of c.args.full) (is_signed c.args.full) numbers (i + 1) (numbers c.add_term-total.result.place)) (made-both c.loop-input.invariant (rw (c.side_of-side.ensures, c.word_of-word.ensures, f) at c.add_term-total.ensures))
+    (λ numbers has p. total-more (frac_of c.args.full) c.args.signs.now c.args.types.now (width_of c.args.full) (is_signed c.args.full) numbers c.requires.terms.signed i (numbers c.loop-input.total.place) (numbers c.add_term-total.result.place) inside p.0 p.1)
 
 pub returns : goal.returns
 returns c =
