@@ -3,7 +3,8 @@ use Rattle.std.proofs.Common.{◌≡◌, ℕ, zero, suc, ◌+◌, ◌<◌, ◌�
 use Rattle.std.specs.Prelude.{false, is_some, slice_get, slice_index_or}
 use Rattle.std.proofs.lemmas.Bool.{cases_lt}
 use Rattle.std.proofs.Math.Seq.{take-length}
-use Rattle.std.proofs.lemmas.Option.{none-some, same_Some, slice_get_within, slice_get-get_or}
+use Rattle.std.proofs.lemmas.List.{length-map}
+use Rattle.std.proofs.lemmas.Option.{get_or_from_slice_get, none-some, same_Some, slice_get_within, slice_get-get_or}
 use Rattle.hw_net.specs.declared.netlist.Frame.{Frame}
 use Rattle.hw_net.specs.declared.netlist.NetKind.{NetKind}
 use Rattle.hw_net.specs.declared.netlist.NetKind.TheVariants.{Comb, Reg, EnReg, Bridge, Unit, Counter}
@@ -18,12 +19,12 @@ use Rattle.hw_build.specs.declared.wants.Want.{Want}
 use Rattle.hw_build.specs.declared.wants.Class.{Class}
 use Rattle.hw_build.specs.declared.wants.Seat.{Seat}
 use Rattle.hw_build.specs.inner.Levels.{level_behind}
-use Rattle.hw_build.specs.inner.Wants.{source_by, AreFolded, IsLinePart, class_registers, registers_below, IsClass, AreClasses, IsClassAnswered, IsBegun, IsMetBy, IsClassMet, AreAnswered, IsPlace, ArePlaces, AreSeated, IsSeat, AreTaken, AreMet}
+use Rattle.hw_build.specs.inner.Wants.{source_by, AreFolded, IsLinePart, class_registers, registers_below, IsClass, AreClasses, IsClassAnswered, IsBegun, IsMetBy, IsClassMet, AreAnswered, IsPlace, ArePlaces, AreSeated, IsSeat, AreMet, net_at, nets_at}
 use Rattle.hw_build.proofs.Growth.{goes_same, goes_then, goes_appended}
 use Rattle.hw_build.proofs.Levels.{level_stays, levelled_by_call, answer_level, register_level}
 use Rattle.hw_build.proofs.Soundness.{sound_by_call}
 use Rattle.hw_net.proofs.Extending.{word-stays}
-use Rattle.fx_io.proofs.Places.{get_some}
+use Rattle.fx_io.proofs.Places.{get_some, map_there}
 
 -- ---- one call
 
@@ -226,10 +227,19 @@ places_are before now wants classes seats answers seated answered = record {
     go : (k : ℕ) (seat : Seat) → slice_get seats k ≡ Some seat → ((want : Want) × (slice_get wants k ≡ Some want)) → IsPlace answers seat
     go k seat at (want, here) = seat_place before now wants classes answers want seat answered (seated.each k want seat here at)
 
-pub wants_are_met : (before now : Circuit) (wants : List Want) (classes : List Class) (seats : List Seat) (answers : List (List ℕ)) (numbers : List ℕ) → AreSeated wants classes seats (length wants) → AreAnswered before now classes answers (length classes) → AreTaken seats answers numbers (length seats)
-    → AreMet before now wants numbers
-wants_are_met before now wants classes seats answers numbers seated answered taken = record {
-  size = taken.size ∙ seated.size;
+-- the net of a seat whose place is there
+pub net_stands : (answers : List (List ℕ)) (seat : Seat) → IsPlace answers seat → (own : List ℕ) × (slice_get answers seat.class ≡ Some own) × (slice_get own seat.place ≡ Some (net_at answers seat))
+net_stands answers seat place =
+    let own : slice_index_or answers seat.class [] ≡ place.own = get_or_from_slice_get answers seat.class place.own [] place.is in (
+      place.own,
+      place.is,
+      slice_get-get_or place.own seat.place 0 place.below ∙ ap (λ (xs : List ℕ). Some (slice_index_or xs seat.place 0)) (sym own),
+    )
+
+pub wants_are_met : (before now : Circuit) (wants : List Want) (classes : List Class) (seats : List Seat) (answers : List (List ℕ)) → AreSeated wants classes seats (length wants) → AreAnswered before now classes answers (length classes)
+    → AreMet before now wants (nets_at answers seats)
+wants_are_met before now wants classes seats answers seated answered = record {
+  size = length-map seats (net_at answers) ∙ seated.size;
   extends = answered.extends;
   parts = answered.parts;
   classes = classes;
@@ -242,11 +252,10 @@ wants_are_met before now wants classes seats answers numbers seated answered tak
         next = all.next;
         goes = all.goes;
         each = λ k want number here there.
-            let below = slice_get_within numbers k number there in
-            let seat_at = get_some seats k (omega (arith, below, taken.size)) in
-            let seat : IsSeat classes want seat_at.0 = seated.each k want seat_at.0 here seat_at.1 in
-            let own = taken.each k seat_at.0 number seat_at.1 there in
-            let met = (all.each seat_at.0.class seat.one own.0 seat.is own.1).each seat_at.0.place want.to number seat.at own.2 in
+            let found = map_there (net_at answers) seats k number there in
+            let seat : IsSeat classes want found.0 = seated.each k want found.0 here found.1 in
+            let own = net_stands answers found.0 (seat_place before now wants classes answers want found.0 answered seat) in
+            let met = (all.each found.0.class seat.one own.0 seat.is own.1).each found.0.place want.to number seat.at (own.2 ∙ ap Some found.2) in
             subst (λ (f : Feed). IsMetBy closed hubs now all.next f want.to number) seat.same met;
       };
 }

@@ -26,7 +26,7 @@ abbrev pub with_labels : Circuit → List NetLabel → Circuit
 with_labels netlist labels = record netlist { labels = netlist.labels ++ labels }
 
 -- one more register
-pub stages_next : (before now after : Circuit) (type : FxType) (frame : Frame) (slot begin count end : ℕ) → end ≡ begin + count → now ≡ with_nets before (stage_nets type frame slot begin count) → after ≡ with_net now (stage_net type frame slot end)
+stages_next : (before now after : Circuit) (type : FxType) (frame : Frame) (slot begin count end : ℕ) → end ≡ begin + count → now ≡ with_nets before (stage_nets type frame slot begin count) → after ≡ with_net now (stage_net type frame slot end)
     → after ≡ with_nets before (stage_nets type frame slot begin (count + 1))
 stages_next before now after type frame slot begin count end end_is now_is after_is =
     let one : after ≡ with_net now (stage_net type frame slot (begin + count)) = after_is ∙ ap (λ (k : ℕ). with_net now (stage_net type frame slot k)) end_is in
@@ -37,7 +37,7 @@ stages_next before now after type frame slot begin count end end_is now_is after
     two ∙ flat ∙ ap (λ (n : ℕ). with_nets before (stage_nets type frame slot begin n)) (sym (add-one count))
 
 -- and one more name
-pub labels_next : (before now after : Circuit) (block element begin count : ℕ) → now ≡ with_labels before (stage_labels begin block element count) → after ≡ with_labels now (record { net = begin + (count + 1); name = stage_name block element (count + 1) } ∷ [])
+labels_next : (before now after : Circuit) (block element begin count : ℕ) → now ≡ with_labels before (stage_labels begin block element count) → after ≡ with_labels now (record { net = begin + (count + 1); name = stage_name block element (count + 1) } ∷ [])
     → after ≡ with_labels before (stage_labels begin block element (count + 1))
 labels_next before now after block element begin count now_is after_is =
     let one : after ≡ with_labels now (record { net = begin + suc count; name = stage_name block element (suc count) } ∷ []) = after_is ∙ ap (λ (n : ℕ). with_labels now (record { net = begin + n; name = stage_name block element n } ∷ [])) (add-one count) in
@@ -46,6 +46,18 @@ labels_next before now after block element begin count now_is after_is =
     ap (λ (labels : List NetLabel). record before { labels = labels }) (append_assoc before.labels (stage_labels begin block element count) (record { net = begin + suc count; name = stage_name block element (suc count) } ∷ []))
     in
     two ∙ flat ∙ ap (λ (n : ℕ). with_labels before (stage_labels begin block element n)) (sym (add-one count))
+
+-- one more register with its name
+pub stage_next : (before now added after : Circuit) (type : FxType) (frame : Frame) (slot block element begin count end : ℕ) → end ≡ begin + count
+    → now ≡ with_labels (with_nets before (stage_nets type frame slot begin count)) (stage_labels begin block element count) → added ≡ with_net now (stage_net type frame slot end)
+    → after ≡ with_labels added (record { net = begin + (count + 1); name = stage_name block element (count + 1) } ∷ [])
+    → after ≡ with_labels (with_nets before (stage_nets type frame slot begin (count + 1))) (stage_labels begin block element (count + 1))
+stage_next before now added after type frame slot block element begin count end end_is now_is added_is after_is =
+    let staged : Circuit = with_nets before (stage_nets type frame slot begin count) in
+    let next = stages_next before staged (with_net staged (stage_net type frame slot end)) type frame slot begin count end end_is refl refl in
+    let named : added ≡ with_labels (with_nets before (stage_nets type frame slot begin (count + 1))) (stage_labels begin block element count) =
+    added_is ∙ ap (λ (c : Circuit). with_net c (stage_net type frame slot end)) now_is ∙ ap (λ (c : Circuit). with_labels c (stage_labels begin block element count)) next in
+    labels_next (with_nets before (stage_nets type frame slot begin (count + 1))) added after block element begin count named after_is
 
 pub count_stages : (type : FxType) (frame : Frame) (slot begin count : ℕ) → length (stage_nets type frame slot begin count) ≡ count
 count_stages type frame slot begin zero = refl

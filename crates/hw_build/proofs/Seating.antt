@@ -10,13 +10,12 @@ use Rattle.hw_net.specs.Circuit.{Circuit}
 use Rattle.hw_net.proofs.Growing.{front-some, last-of, split-last}
 use Rattle.hw_lines.specs.declared.source.Use.{Use}
 use Rattle.hw_lines.specs.Chain.{IsSource, IsUse}
-use Rattle.hw_build.proofs.Gathered.{each_more}
 use Rattle.hw_build.specs.declared.wants.Feed.{Feed}
 use Rattle.hw_build.specs.declared.wants.Want.{Want}
 use Rattle.hw_build.specs.declared.wants.Class.{Class}
 use Rattle.hw_build.specs.declared.wants.Seat.{Seat}
 use Rattle.hw_build.specs.inner.Feeds.{is_same_feed, number_at_feed}
-use Rattle.hw_build.specs.inner.Wants.{source_by, IsWant, IsClass, AreClasses, HasFeed, AreIndexed, uses_of_feed, IsFolded, AreFolded, IsClassFor, IsSeat, KeepsUses, KeepsClass, KeepsClasses, IsSeated, AreSeated, AreTaken}
+use Rattle.hw_build.specs.inner.Wants.{source_by, IsWant, IsClass, AreClasses, HasFeed, AreIndexed, uses_of_feed, IsFolded, AreFolded, IsClassFor, IsSeat, KeepsUses, KeepsClass, KeepsClasses, IsSeated, AreSeated}
 use Rattle.hw_build.proofs.Feeding.{feed_same, feed_is, feed_differs}
 use Rattle.dg_tables.proofs.Laid.{set_there}
 use Rattle.hw_build.proofs.Levels.{set_elsewhere}
@@ -352,13 +351,4 @@ seated_more wants old new seats count want seat are at is = record {
   folded =
       let more : take (count + 1) wants ≡ take count wants ++ want ∷ [] = take_one wants count want at in
       subst (λ (ws : List Want). AreFolded ws new) (sym more) (is.folded (take count wants) are.folded);
-}
-
--- ---- the nets at their places
-
-pub taken_more : (seats : List Seat) (answers : List (List ℕ)) (numbers own : List ℕ) (count number : ℕ) (seat : Seat) → AreTaken seats answers numbers count → slice_get seats count ≡ Some seat → slice_get answers seat.class ≡ Some own → slice_get own seat.place ≡ Some number
-    → AreTaken seats answers (numbers ++ number ∷ []) (count + 1)
-taken_more seats answers numbers own count number seat are at there is = record {
-  size = length-append numbers (number ∷ []) ∙ omega (arith, are.size);
-  each = each_more (λ (s : Seat) (n : ℕ). (own : List ℕ) × (slice_get answers s.class ≡ Some own) × (slice_get own s.place ≡ Some n)) seats numbers seat number (ap (slice_get seats) are.size ∙ at) (own, there, is) are.each;
 }

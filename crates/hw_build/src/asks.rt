@@ -2,8 +2,9 @@
 ghost use Rattle.std.specs.Prelude.{◌+◌, ◌<◌, ◌≤◌, ◌^◌, None, Some, IfOk, OnOk, length};
 ghost use Rattle.hw_build.specs.inner.Seeking.{AreNets, AreNumbered, AsksAll, AsksOne, IsNetFor, IsNumber};
 ghost use Rattle.hw_build.specs.inner.Seeking.{hub_from, plain_want, unasked};
+ghost use Rattle.hw_build.specs.inner.Wants.{ArePlaces, nets_at};
 
-use crate::wants::{Feed, Want};
+use crate::wants::{Feed, Seat, Want};
 use fx_io::{OutOfMemory, Sizes};
 use hw_lines::Use;
 use hw_net::Frame;
@@ -77,25 +78,37 @@ pub fn ask_plain(asks: &mut Asks, first: u32, width: u32, frame: Frame, to: Use)
     Ok(())
 }
 
-/// The nets of asks, where those of the wants have these numbers.
-pub fn nets_of(alloc: Global, list: &[Ask], numbers: &[u32]) -> Result<Sizes, OutOfMemory>
-    requires { AreNumbered list.now (length numbers.now) }
-    ensures { IfOk result (λ nets. AreNets list.now numbers.now nets (length list.now)) }
-{
-    let mut nets = Sizes::new(alloc);
-    for ask in list {
-        nets.push(net_of(*ask, numbers))?;
-    }
-    Ok(nets)
-}
-
-/// The net of an ask.
-fn net_of(ask: Ask, numbers: &[u32]) -> u32
-    requires { IsNumber (length numbers.now) ask.want }
-    ensures { IsNetFor numbers.now result ask.hub ask.want }
+/// The net of an ask: its own, or that at the seat of its want.
+fn net_of(ask: Ask, seats: &[Seat], answers: &[Sizes]) -> u32
+    requires number { IsNumber (length seats.now) ask.want }
+    requires places { ArePlaces answers.now seats.now }
+    ensures { IsNetFor (nets_at answers.now seats.now) result ask.hub ask.want }
 {
     match ask.want {
         None => ask.hub,
-        Some(want) => numbers[want as usize],
+        Some(want) => {
+            let seat = seats[want as usize];
+            let own = answers[seat.class as usize].as_slice();
+            own[seat.place as usize]
+        }
     }
+}
+
+/// The nets of asks, where the wants have these seats in the answers of their classes.
+pub fn nets_of(
+    alloc: Global,
+    list: &[Ask],
+    seats: &[Seat],
+    answers: &[Sizes],
+) -> Result<Sizes, OutOfMemory>
+    requires numbered { AreNumbered list.now (length seats.now) }
+    requires places { ArePlaces answers.now seats.now }
+    ensures { IfOk result (λ nets.
+        AreNets list.now (nets_at answers.now seats.now) nets (length list.now)) }
+{
+    let mut nets = Sizes::new(alloc);
+    for ask in list {
+        nets.push(net_of(*ask, seats, answers))?;
+    }
+    Ok(nets)
 }

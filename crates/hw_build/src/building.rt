@@ -4,11 +4,9 @@ ghost use Rattle.dg_model.specs.PlanOf.{IsPlanOf};
 ghost use Rattle.hw_latency.specs.Latency.{AreLatencies};
 ghost use Rattle.hw_sched.specs.Answer.{AreSlots};
 ghost use Rattle.hw_build.specs.Built.{IsBuiltBy, IsBuildFault};
-ghost use Rattle.hw_build.specs.inner.Building.{AreInputBlocks, CanBuild, IsBuiltFor, IsDoneFor, IsEmptyFor, IsFilledFor, empty_circuit};
-ghost use Rattle.hw_build.specs.inner.Designed.{IsDesigned};
-ghost use Rattle.hw_build.specs.inner.Factors.{HasSlots};
+ghost use Rattle.hw_build.specs.inner.Building.{AreInputBlocks, CanBuild, IsDoneFor, IsEmptyFor, IsFilledFor, empty_circuit};
 ghost use Rattle.hw_build.specs.inner.HubPlaces.{HasHubs};
-ghost use Rattle.hw_build.specs.inner.Outgoing.{AreOutputBlocks, IsSmall};
+ghost use Rattle.hw_build.specs.inner.Outgoing.{AreOutputBlocks};
 
 use crate::blocks::{Setting, put_elements};
 use crate::design::Design;
@@ -151,20 +149,6 @@ fn put_all<'a>(alloc: Global, net: &mut Netlist, design: Design<'a>) -> Result<(
     put
 }
 
-/// The netlist of a design that keeps the rule of size.
-fn netlist_of<'a>(alloc: Global, design: Design<'a>) -> Result<Netlist, OutOfMemory>
-    requires designed { IsDesigned design }
-    requires slots { HasSlots design }
-    requires small { IsSmall design }
-    ensures { IfOk result (IsBuiltFor design.entry) }
-{
-    design.checked.keeps_rules();
-    done_is_built();
-    let mut net = Netlist::new(alloc, design.plan.cycles);
-    put_all(alloc, &mut net, design)?;
-    Ok(net)
-}
-
 /// The netlist of a checked diagram by a plan, with its latencies and slots, where it keeps the rule of
 /// size. Its time is n log n in the blocks, lines, elements and registers.
 /// Source: own; HDL Coder, delay balancing and resource sharing.
@@ -185,6 +169,7 @@ pub fn build(
 {
     checked.keeps_rules();
     slots_are_scheduled();
+    done_is_built();
     let sizing = check_size(checked, plan, latencies, slots.ready.as_slice())?;
     let _ = sizing;
     let design = Design {
@@ -193,6 +178,7 @@ pub fn build(
         latencies,
         slots,
     };
-    let net = netlist_of(alloc, design)?;
+    let mut net = Netlist::new(alloc, plan.cycles);
+    put_all(alloc, &mut net, design)?;
     Ok(net)
 }

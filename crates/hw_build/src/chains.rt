@@ -1,11 +1,11 @@
 //! One chain of registers for all readers of a source.
 ghost use Rattle.std.specs.Prelude.{◌<◌, ◌≤◌, IfOk, length};
-ghost use Rattle.hw_build.specs.inner.Wants.{AreAnswered, AreClasses, AreMet, ArePlaces, AreTaken, AreWants};
+ghost use Rattle.hw_build.specs.inner.Wants.{AreAnswered, AreClasses, AreWants};
 ghost use Rattle.hw_build.specs.inner.Seeking.{AreAsked, AreNumbered};
 ghost use Rattle.hw_build.specs.inner.Wants.{IsClass, IsClassAnswered};
 
 use crate::asks::{Asks, nets_of};
-use crate::wants::{Class, Classes, Seat, Want, seats_of};
+use crate::wants::{Class, Classes, seats_of};
 use fx_io::{OutOfMemory, Sizes};
 use hw_lines::chain;
 use hw_net::Netlist;
@@ -51,37 +51,8 @@ fn put_classes(
     Ok(answers)
 }
 
-/// The nets at these places.
-fn nets_at(alloc: Global, answers: &[Sizes], seats: &[Seat]) -> Result<Sizes, OutOfMemory>
-    requires { ArePlaces answers.now seats.now }
-    ensures { IfOk result (λ numbers. AreTaken seats.now answers.now numbers (length seats.now)) }
-{
-    let mut numbers = Sizes::new(alloc);
-    for seat in seats {
-        let own = answers[seat.class as usize].as_slice();
-        numbers.push(own[seat.place as usize])?;
-    }
-    Ok(numbers)
-}
-
-/// Shows sources later to their readers: for each want a net that meets it. Wants of one source
-/// share one chain.
-pub fn put_wants(alloc: Global, net: &mut Netlist, wants: &[Want]) -> Result<Sizes, OutOfMemory>
-    requires low { 0 < net.old.cycles }
-    requires high { net.old.cycles ≤ 1024 }
-    requires wants { AreWants net.old wants.now }
-    ensures { IfOk result (λ numbers. AreMet net.old net.new wants.now numbers) }
-{
-    let mut classes = Classes {
-        list: Vec::new(alloc),
-        numbers: BTreeMap::new(alloc),
-    };
-    let seats = seats_of(alloc, &mut classes, wants)?;
-    let answers = put_classes(alloc, net, classes.list.as_slice())?;
-    nets_at(alloc, answers.as_slice(), seats.as_slice())
-}
-
-/// The nets of what ends ask: one for each ask.
+/// The nets of what ends ask: one for each ask. Sources are shown later to their readers, and those of
+/// one source share one chain.
 pub fn put_asks(alloc: Global, net: &mut Netlist, asks: &Asks) -> Result<Sizes, OutOfMemory>
     requires low { 0 < net.old.cycles }
     requires high { net.old.cycles ≤ 1024 }
@@ -90,6 +61,16 @@ pub fn put_asks(alloc: Global, net: &mut Netlist, asks: &Asks) -> Result<Sizes, 
     ensures { IfOk result (λ nets.
         AreAsked net.old net.new asks.now.list.items asks.now.wants.items nets) }
 {
-    let numbers = put_wants(alloc, net, asks.wants.as_slice())?;
-    nets_of(alloc, asks.list.as_slice(), numbers.as_slice())
+    let mut classes = Classes {
+        list: Vec::new(alloc),
+        numbers: BTreeMap::new(alloc),
+    };
+    let seats = seats_of(alloc, &mut classes, asks.wants.as_slice())?;
+    let answers = put_classes(alloc, net, classes.list.as_slice())?;
+    nets_of(
+        alloc,
+        asks.list.as_slice(),
+        seats.as_slice(),
+        answers.as_slice(),
+    )
 }

@@ -15,19 +15,7 @@ use hw_net::{NetPort, Netlist};
 use hw_sched::width_into;
 use std::alloc::Global;
 
-/// The clock in which a root output shows its first value.
-fn latency_of<'a>(design: Design<'a>, block: u32) -> u64
-    requires can { CanBuild design }
-    requires there { block < length design.checked.now.diagram.blocks }
-    requires small { clocks_to design block ≤ 16777216 }
-    ensures { result ≡ clocks_to design.entry block }
-{
-    let lat = design.latencies.lat.as_slice()[block as usize];
-    let ready = design.slots.ready.as_slice()[block as usize];
-    lat * u64::from(design.plan.cycles) + ready
-}
-
-/// The port of an element of a root output.
+/// The port of an element of a root output, with the clock in which that shows its first value.
 fn output_of<'a>(
     alloc: Global,
     names: &mut Names,
@@ -45,10 +33,11 @@ fn output_of<'a>(
         (IsOutputPort design.entry firsts.now names.old names.new block element) }
 {
     let width = width_into(design.checked, block);
-    let showing = Showing {
-        net: hub_at(firsts, block, 1, element),
-        latency: latency_of(design, block),
-    };
+    let lat = design.latencies.lat.as_slice()[block as usize];
+    let ready = design.slots.ready.as_slice()[block as usize];
+    let latency = lat * u64::from(design.plan.cycles) + ready;
+    let net = hub_at(firsts, block, 1, element);
+    let showing = Showing { net, latency };
     port_of(alloc, names, design.checked, block, width, element, showing)
 }
 

@@ -61,12 +61,16 @@ fn register(kind: FxType, frame: Frame, slot: u32, from: u32) -> Net
     }
 }
 
-/// Puts in registers that take the net before them in a slot of a frame, behind the last net.
-fn put_registers(
+/// Puts in registers that take the net before them in a slot of a frame, behind the last net, each with
+/// its name.
+fn put_stages(
+    alloc: Global,
     net: &mut Netlist,
     kind: FxType,
     frame: Frame,
     slot: u32,
+    block: u32,
+    element: u32,
     begin: u32,
     count: u32,
 ) -> Result<u32, OutOfMemory>
@@ -74,38 +78,17 @@ fn put_registers(
     ensures end { IfOk result (λ end. end ≡ begin + count) }
     ensures grown { OnOk result (net.new ≡ record net.old {
       nets = net.old.nets ++ stage_nets kind frame slot begin count;
+      labels = net.old.labels ++ stage_labels begin block element count;
     }) }
 {
     let mut end = begin;
     for stage in 0..count {
         let one = register(kind, frame, slot, end);
         end = net.add(one)?;
+        let name = label(alloc, b"fx_p", block, element, Some(stage + 1))?;
+        net.add_label(NetLabel { net: end, name })?;
     }
     Ok(end)
-}
-
-/// Names the registers behind a net.
-fn name_registers(
-    alloc: Global,
-    net: &mut Netlist,
-    block: u32,
-    element: u32,
-    begin: u32,
-    count: u32,
-) -> Result<(), OutOfMemory>
-    requires { begin + count < 2 ^ 32 }
-    ensures { OnOk result (net.new ≡ record net.old {
-      labels = net.old.labels ++ stage_labels begin block element count;
-    }) }
-{
-    for stage in 0..count {
-        let name = label(alloc, b"fx_p", block, element, Some(stage + 1))?;
-        net.add_label(NetLabel {
-            net: begin + (stage + 1),
-            name,
-        })?;
-    }
-    Ok(())
 }
 
 /// Puts in the registers of the plan behind an element. Where memory is wanting the netlist is of
@@ -141,7 +124,6 @@ pub fn put_pipeline<'a>(
     let kind = design.checked.result(block);
     let _ = net.counter(frame)?;
     let begin = put_comb(alloc, net, word_of(kind), NetOp::Resize, &[entry])?;
-    let end = put_registers(net, kind, frame, slot, begin, stages)?;
-    name_registers(alloc, net, block, element, begin, stages)?;
+    let end = put_stages(alloc, net, kind, frame, slot, block, element, begin, stages)?;
     Ok(Piped { begin, end })
 }

@@ -5,7 +5,6 @@ use Rattle.dg_model.specs.RootElements.{root_inputs}
 use Rattle.dg_tables.specs.Listing.{AreBlocksOf}
 use Rattle.hw_net.specs.Circuit.{Circuit}
 use Rattle.hw_build.specs.declared.design.Design.{Design}
-use Rattle.hw_build.specs.Built.{IsBuilt}
 use Rattle.hw_build.specs.Places.{Places}
 use Rattle.hw_build.specs.inner.Outgoing.{IsSmall}
 use Rattle.hw_build.specs.inner.Factors.{HasSlots}
@@ -47,7 +46,3 @@ pub record IsDoneFor (design : Design) (netlist : Circuit) : Type 0 where
   pub places : Places
   pub done : IsDone design.checked.now.diagram design.plan.now (times_for design) places
       (hubs_in_all design.checked.now.diagram) netlist
-
-abbrev pub IsBuiltFor : Design → Circuit → Type 0
-IsBuiltFor design netlist =
-    IsBuilt design.checked.now.diagram design.plan.now (times_for design) netlist

@@ -1,6 +1,6 @@
 -- What ends of blocks want of sources that are shown later, and which nets meet it (own). Wants of
 -- one feed, which is a hub with its frames and with what its registers have first, share a chain.
-use Rattle.std.specs.Prelude.{◌≡◌, ℕ, zero, suc, ◌+◌, ◌<◌, ◌≤◌, ◌⊎◌, ◌≢◌, ◌++◌, ◌∷◌, if◌then◌else◌, take, ℤ, pos, true, Bool, All, List, [], length, Option, None, Some, is_some, slice_get, map, ⊤}
+use Rattle.std.specs.Prelude.{◌≡◌, ℕ, zero, suc, ◌+◌, ◌<◌, ◌≤◌, ◌⊎◌, ◌≢◌, ◌++◌, ◌∷◌, if◌then◌else◌, take, ℤ, pos, true, Bool, All, List, [], length, Option, None, Some, is_some, slice_get, slice_index_or, map, ⊤}
 use Rattle.hw_net.specs.Circuit.{Circuit}
 use Rattle.hw_net.specs.declared.netlist.Frame.{Frame}
 use Rattle.hw_net.specs.declared.netlist.Net.{Net}
@@ -240,14 +240,12 @@ pub record AreMet (before now : Circuit) (wants : List Want) (numbers : List ℕ
   pub met : (closed hubs ports : ℕ) (level : ℕ → ℕ) → IsBegun closed hubs ports before level
       → AreWantsMet closed hubs ports before level now wants numbers
 
--- the nets of the first wants are those at their places
-pub record AreTaken (seats : List Seat) (answers : List (List ℕ)) (numbers : List ℕ)
-    (count : ℕ) : Type 0 where
-  pub size : length numbers ≡ count
-  pub each : (k : ℕ) (seat : Seat) (number : ℕ) → slice_get seats k ≡ Some seat
-      → slice_get numbers k ≡ Some number
-      → (own : List ℕ) × (slice_get answers seat.class ≡ Some own)
-      × (slice_get own seat.place ≡ Some number)
+-- the nets at the places of seats
+abbrev pub net_at : List (List ℕ) → Seat → ℕ
+net_at answers seat = slice_index_or (slice_index_or answers seat.class []) seat.place 0
+
+abbrev pub nets_at : List (List ℕ) → List Seat → List ℕ
+nets_at answers seats = map (net_at answers) seats
 
 -- a chain was put in for a class
 pub record IsClassAnswered (before after : Circuit) (one : Class) (numbers : List ℕ) : Type 0 where

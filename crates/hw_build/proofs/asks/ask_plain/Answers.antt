@@ -1,4 +1,4 @@
-use Rattle.std.proofs.Common.{rules, ◌≡◌, ℕ, subst}
+use Rattle.std.proofs.Common.{arith, ◌≡◌, ℕ, subst}
 use Rattle.hw_build.specs.inner.Seeking.{AsksAll, hub_from, plain_want}
 use Rattle.hw_build.proofs.Gathered.{asks_more}
 use Rattle.hw_build.proofs.asks.ask_plain.Goals as goal
@@ -9,5 +9,5 @@ loop-element-preserved c =
 
 pub returns : goal.returns
 returns c =
-    let done : c.loop-element.element ≡ c.args.width = search rules in
+    let done : c.loop-element.element ≡ c.args.width = omega (arith, c.loop-element-test.false, c.loop-element.auto.element-end) in
     subst (λ (n : ℕ). AsksAll c.args.asks.now.list.items c.loop-element.asks.list.items c.args.asks.now.wants.items c.loop-element.asks.wants.items (hub_from c.args.first) (plain_want c.args.first c.args.frame c.args.to) n) done c.loop-element.invariant

@@ -1,5 +1,6 @@
 use Rattle.hw_build.specs.inner.Seeking.{AreNets}
+use Rattle.hw_build.specs.inner.Wants.{nets_at}
 use Rattle.hw_build.proofs.asks.nets_of.Given as goal
 
 abbrev pub invariant-loop-ask : goal.invariant-loop-ask
-invariant-loop-ask l = AreNets l.list l.numbers l.nets l.ask-index
+invariant-loop-ask l = AreNets l.list (nets_at l.answers l.seats) l.nets l.ask-index

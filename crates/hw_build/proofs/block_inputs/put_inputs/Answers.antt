@@ -1,4 +1,3 @@
-use Rattle.std.proofs.Common.{List, ◌≡◌, ℕ}
 use Rattle.std.proofs.lemmas.Result.{on_ok_weaker}
 use Rattle.hw_build.proofs.block_inputs.put_inputs.Goals as goal
 

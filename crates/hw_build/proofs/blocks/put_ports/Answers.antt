@@ -1,4 +1,4 @@
-use Rattle.std.proofs.Common.{rules, ◌≡◌, ℕ, ◌+◌, ◌-◌, subst, arith, ◌∙◌}
+use Rattle.std.proofs.Common.{◌≡◌, ℕ, ◌+◌, ◌-◌, subst, arith, ◌∙◌}
 use Rattle.hw_build.specs.inner.HubPlaces.{hub_start}
 use Rattle.hw_build.specs.inner.Looping.{Reaches, port_start}
 use Rattle.hw_build.proofs.Reaching.{block_ends}
@@ -28,7 +28,7 @@ put_port-requires-clause-to c =
 
 pub returns : goal.returns
 returns c =
-    let done : c.loop-port.port ≡ c.shown_ports-port-end.result = search rules in
+    let done : c.loop-port.port ≡ c.shown_ports-port-end.result = omega (arith, c.loop-port-test.false, c.loop-port.auto.port-end) in
     let wide : c.loop-port.port ≡ shown_ports c.args.owner.one.now.kind c.args.owner.one.now.outputs = done ∙ c.shown_ports-port-end.ensures in
     subst (λ (n : ℕ). Reaches c.args.owner.setting c.loop-port.net n) (block_ends c.args.owner.setting.design.checked.now.diagram c.args.owner.block c.args.owner.one.now c.requires.is c.requires.other)
     (subst (λ (n : ℕ). Reaches c.args.owner.setting c.loop-port.net (port_start c.args.owner.setting.design.checked.now.diagram c.args.owner.block c.args.owner.one.now n)) wide c.loop-port.invariant)

@@ -1,4 +1,30 @@
+use Rattle.std.proofs.Common.{◌≡◌, ◌+◌, ◌*◌, ℕ, List, length, slice_index_or, ap, arith}
+use Rattle.hw_build.specs.inner.Outgoing.{clocks_to}
+use Rattle.hw_build.proofs.Outgoing.{clocks_are}
 use Rattle.hw_build.proofs.outputs.output_of.Goals as goal
 
+pub bounds-as_slice-block : goal.bounds-as_slice-block
+bounds-as_slice-block c =
+    let same : length c.as_slice.result.now ≡ length c.args.design.latencies.now.lat = ap (λ (xs : List ℕ). length xs) c.as_slice.ensures in
+    omega (arith, c.requires.there, same, c.requires.can.designed.scheduled.timed.size)
+
+pub bounds-as_slice-block-2 : goal.bounds-as_slice-block-2
+bounds-as_slice-block-2 c =
+    let same : length c.as_slice-2.result.now ≡ length c.args.design.slots.now.ready = ap (λ (xs : List ℕ). length xs) c.as_slice-2.ensures in
+    omega (arith, c.requires.there, same, c.requires.can.slots.ready.size)
+
+pub overflow_mul-latency : goal.overflow_mul-latency
+overflow_mul-latency c =
+    let all = clocks_are c.args.design c.args.block c.from.result c.as_slice.result.now c.as_slice-2.result.now c.requires.can.slots c.requires.there c.as_slice.ensures c.as_slice-2.ensures c.from.ensures in
+    omega (arith, all, c.requires.small)
+
+pub overflow_add-latency : goal.overflow_add-latency
+overflow_add-latency c =
+    let all = clocks_are c.args.design c.args.block c.from.result c.as_slice.result.now c.as_slice-2.result.now c.requires.can.slots c.requires.there c.as_slice.ensures c.as_slice-2.ensures c.from.ensures in
+    omega (arith, all, c.requires.small)
+
 pub returns : goal.returns
-returns c = rw (c.width_into-width.ensures, c.hub_at.ensures, c.latency_of.ensures) at c.port_of.ensures
+returns c =
+    let all = clocks_are c.args.design c.args.block c.from.result c.as_slice.result.now c.as_slice-2.result.now c.requires.can.slots c.requires.there c.as_slice.ensures c.as_slice-2.ensures c.from.ensures in
+    let clock : slice_index_or c.as_slice.result.now c.args.block 0 * c.from.result + slice_index_or c.as_slice-2.result.now c.args.block 0 ≡ clocks_to c.args.design c.args.block = omega (arith, all) in
+    rw (c.width_into-width.ensures, c.hub_at-net.ensures, clock) at c.port_of.ensures

@@ -14,13 +14,13 @@ pub returns-clause-is : goal.returns-clause-is
 returns-clause-is c =
     let one : Class = record { feed = c.args.feed; uses = c.new.result } in
     let last : c.in-Ok.number ≡ length c.args.classes.now.list.items = search rules in
-    let grown : c.push.new.self.items ≡ c.args.classes.now.list.items ++ one ∷ [] = search rules in
+    let grown : c.push.new.self.items ≡ c.args.classes.now.list.items ++ one ∷ [] = c.in_ok-push.ensures.items in
     class_new c.args.classes.now.list.items c.push.new.self.items c.args.feed c.in-Ok.number one last grown refl c.new.ensures.items (c.requires.none c.args.feed (sym c.get.ensures.value ∙ sym c.copied.ensures ∙ c.in_default.is))
 
 pub returns-clause-indexed : goal.returns-clause-indexed
 returns-clause-indexed c =
     let one : Class = record { feed = c.args.feed; uses = c.new.result } in
     let last : c.in-Ok.number ≡ length c.args.classes.now.list.items = search rules in
-    let grown : c.push.new.self.items ≡ c.args.classes.now.list.items ++ one ∷ [] = search rules in
+    let grown : c.push.new.self.items ≡ c.args.classes.now.list.items ++ one ∷ [] = c.in_ok-push.ensures.items in
     indexed_new c.args.classes.now.list.items c.push.new.self.items c.args.classes.now.numbers.entries c.insert.new.self.entries c.args.feed c.in-Ok.number one c.requires last grown refl
     (λ other. c.in_ok-insert.ensures.updates.0 other ∙ ap (λ (is : Bool). if is then Some c.in-Ok.number else number_at_feed c.args.classes.now.numbers.entries other) (tied_feed c.args.feed other))

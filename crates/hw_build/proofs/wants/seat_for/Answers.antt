@@ -16,7 +16,7 @@ returns-clause-is c =
     let at : slice_get mid number ≡ Some c.index_mut.result.now = slice_get_read mid (length mid) number c.index_mut.result.now refl below c.index_mut.ensures.value in
     let same : ◌≡◌ {A = Class} c.index.result.now c.index_mut.result.now = same_Some c.index.result.now c.index_mut.result.now (sym read ∙ at) in
     let now : Class = record { feed = c.index_mut.result.now.feed; uses = c.push.new.self } in
-    let grown : c.push.new.self.items ≡ c.index_mut.result.now.uses.items ++ c.args.want.to ∷ [] = search rules in
+    let grown : c.push.new.self.items ≡ c.index_mut.result.now.uses.items ++ c.args.want.to ∷ [] = c.in_ok-push.ensures.items in
     let size : c.in-Ok.place ≡ length c.index.result.now.uses.items = search rules in
     seat_more old mid _ c.args.want number c.in-Ok.place c.index_mut.result.now now is at refl refl grown (size ∙ ap (λ (x : Class). length x.uses.items) same)
 

@@ -1,4 +1,4 @@
-use Rattle.std.proofs.Common.{rules, ◌≡◌, ℕ, ◌++◌, ◌∷◌, [], List, length, Some, None, sym, subst, slice_index_or, slice_get}
+use Rattle.std.proofs.Common.{arith, ◌≡◌, ℕ, ◌++◌, ◌∷◌, [], List, length, Some, None, sym, subst, slice_index_or, slice_get}
 use Rattle.std.proofs.lemmas.Option.{slice_get-get_or}
 use Rattle.hw_build.specs.declared.wants.Class.{Class}
 use Rattle.hw_build.specs.declared.wants.Feed.{Feed}
@@ -32,5 +32,5 @@ loop-want-preserved c =
 
 pub returns : goal.returns
 returns c =
-    let done : c.loop-want.want-index ≡ length c.args.wants.now = search rules in
+    let done : c.loop-want.want-index ≡ length c.args.wants.now = omega (arith, c.loop-want-test.false, c.loop-want.auto.want-index-end) in
     subst (λ (n : ℕ). AreSeated c.args.wants.now c.loop-want.classes.list.items c.loop-want.seats.items n) done c.loop-want.invariant.0

@@ -1,0 +1,7 @@
+use Rattle.std.specs.Prelude.{◌≡◌, ◌+◌}
+use Rattle.hw_build.specs.inner.Piping.{stage_labels, stage_nets}
+use Rattle.hw_build.proofs.Piping.{with_labels, with_nets}
+use Rattle.hw_build.proofs.pipelines.put_stages.Given as goal
+
+abbrev pub invariant-loop-stage : goal.invariant-loop-stage
+invariant-loop-stage l = (l.end ≡ l.begin + l.stage) × (l.net ≡ with_labels (with_nets l.fn.net (stage_nets l.kind l.frame l.slot l.begin l.stage)) (stage_labels l.begin l.block l.element l.stage))
