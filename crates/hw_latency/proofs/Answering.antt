@@ -9,8 +9,9 @@ use Rattle.dg_model.specs.Attributes.{attributes_of}
 use Rattle.dg_model.specs.Loop.{IsOrder}
 use Rattle.hw_arcs.specs.declared.arc.Arc.{Arc}
 use Rattle.hw_arcs.specs.declared.found.Found.{Found}
-use Rattle.hw_arcs.specs.declared.found.Found.TheVariants.{Least}
-use Rattle.hw_arcs.specs.Found.{AreLeast, IsFound, IsWhole}
+use Rattle.hw_arcs.specs.declared.found.Found.TheVariants.{Gains, Least}
+use Rattle.hw_arcs.specs.declared.found.Gaining.{Gaining}
+use Rattle.hw_arcs.specs.Found.{AreLeast, IsFound, IsGaining, IsWhole}
 use Rattle.hw_latency.specs.Cone.{AreFed}
 use Rattle.hw_latency.specs.Latency.{AreLatencies}
 use Rattle.hw_latency.specs.Weight.{latency_arcs}
@@ -35,3 +36,8 @@ latencies_found diagram plan fed marks told arcs slice blocks lat tight found ar
     let least : AreLeast slice (length blocks) lat tight = subst (λ (f : Found). IsFound slice (length blocks) f) found_is is in
     let there : AreLeast (latency_arcs diagram plan fed) (length diagram.blocks) lat tight = subst (λ (a : List Arc). AreLeast a (length diagram.blocks) lat tight) all (subst (λ (bs : List Block). AreLeast slice (length bs) lat tight) blocks_are least) in
     subst (λ (f : List Bool). AreLatencies diagram plan (record { lat = lat; tight = tight; fed = f })) (sym told_is) (record { fed = are; size = there.size; least = there.least; tight = there.asked })
+
+pub gaining_found : (diagram : Diagram) (plan : Resolved) (fed marks : List Bool) (arcs slice : List Arc) (count : ℕ) (gaining : Gaining) (found : Found) → marks ≡ fed → arcs ≡ latency_arcs diagram plan marks → slice ≡ arcs
+    → found ≡ Gains gaining → IsFound slice count found → IsGaining (latency_arcs diagram plan fed) gaining
+gaining_found diagram plan fed marks arcs slice count gaining found marks_are arcs_are same found_is is =
+    subst (λ (a : List Arc). IsGaining a gaining) (same ∙ arcs_are ∙ ap (latency_arcs diagram plan) marks_are) (subst (λ (f : Found). IsFound slice count f) found_is is)

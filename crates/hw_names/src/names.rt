@@ -160,18 +160,19 @@ impl Names {
         }
     }
 
-    /// The least number that makes the name free.
-    fn least_number(&self, alloc: Global, name: &Vec<u8>) -> Result<u32, OutOfMemory>
-        ensures small { IfOk result (λ number. number + 1 < 2 ^ 32) }
-        ensures free { IfOk result (λ number. (list : List (List ℕ)) → AreTaken self.now list →
-            ¬ Contains list (numbered_of name.now.items number)) }
-        ensures tried { IfOk result (λ number. (list : List (List ℕ)) → AreTaken self.now list →
-            AreTried list name.now.items number) }
+    /// The name with the least number that makes it free, and that number.
+    fn least_numbered(&self, alloc: Global, name: &Vec<u8>) -> Result<(Vec<u8>, u32), OutOfMemory>
+        ensures name { IfOk result (λ pair. pair.0.items ≡ numbered_of name.now.items pair.1) }
+        ensures small { IfOk result (λ pair. pair.1 + 1 < 2 ^ 32) }
+        ensures free { IfOk result (λ pair. (list : List (List ℕ)) → AreTaken self.now list →
+            ¬ Contains list (numbered_of name.now.items pair.1)) }
+        ensures tried { IfOk result (λ pair. (list : List (List ℕ)) → AreTaken self.now list →
+            AreTried list name.now.items pair.1) }
     {
         for number in self.first_number(name)..u32::MAX {
             let other = numbered_name(alloc, name.as_slice(), number)?;
             if !self.is_taken(&other) {
-                return Ok(number);
+                return Ok((other, number));
             }
         }
         // word: the number behind a name, and one more, of 32 bits
@@ -197,8 +198,7 @@ impl Names {
         if !self.is_taken(&name) {
             return self.put(alloc, name);
         }
-        let number = self.least_number(alloc, &name)?;
-        let other = numbered_name(alloc, name.as_slice(), number)?;
+        let (other, number) = self.least_numbered(alloc, &name)?;
         let text = self.put(alloc, other)?;
         let _ = self.numbers.insert(name, number + 1)?;
         Ok(text)
