@@ -1,4 +1,4 @@
-use Rattle.std.proofs.Common.{◌≡◌, ◌<◌, [], ◌∙◌, ℕ, List, Some, length, ap, sym, refl, subst, slice_get, slice_index_or}
+use Rattle.std.proofs.Common.{◌≡◌, ◌<◌, [], ◌∙◌, ℕ, List, Some, length, ap, sym, refl, subst, slice_get, slice_index_or, arith}
 use Rattle.std.proofs.lemmas.Option.{get_or_from_slice_get, same_Some, slice_get_read, slice_get_within, slice_get-get_or}
 use Rattle.std.specs.Prelude.{get_or}
 use Rattle.fx_io.proofs.Places.{there_map}
@@ -40,3 +40,15 @@ returns-in-Some c =
     let same = same_own c.args.answers.now seat.class place.own c.index-answers-seat.result place.is c.index-answers-seat.is ∙ sym c.as_slice-own.ensures in
     let own = get_or_from_slice_get c.args.answers.now seat.class place.own [] place.is ∙ same in
     rw c.in-Some.is (there_map (net_at c.args.answers.now) c.args.seats.now c.in-Some.want seat at ∙ ap (λ (xs : List ℕ). Some (slice_index_or xs seat.place 0)) own)
+
+pub offset_bounds-seats-want : goal.offset_bounds-seats-want
+offset_bounds-seats-want c =
+    let inside = rw c.in-Some.is at c.requires.number in
+    omega (arith, inside)
+
+pub offset_bounds-answers-seat : goal.offset_bounds-answers-seat
+offset_bounds-answers-seat c =
+    let inside = rw c.in-Some.is at c.requires.number in
+    let seat : Seat = slice_index_or c.args.seats.now c.in-Some.want no_seat in
+    let place = c.requires.places.each c.in-Some.want seat (slice_get-get_or c.args.seats.now c.in-Some.want no_seat inside) in
+    omega (arith, slice_get_within c.args.answers.now seat.class place.own place.is)

@@ -1,4 +1,4 @@
-use Rattle.std.proofs.Common.{◌≡◌, Some, ap, sym, ◌∙◌}
+use Rattle.std.proofs.Common.{◌≡◌, Some, ap, sym, ◌∙◌, ℕ, List, length, arith}
 use Rattle.dg_model.specs.Attributes.{attributes_of}
 use Rattle.hw_latency.specs.Control.{control_ever}
 use Rattle.hw_latency.specs.Weight.{samples}
@@ -57,3 +57,13 @@ frame_after-frame-requires-clause-designed c = c.requires.can.designed
 
 pub frame_after-frame-requires-clause-period : goal.frame_after-frame-requires-clause-period
 frame_after-frame-requires-clause-period c = sym c.period.ensures ∙ c.in-Some-period.is
+
+pub bounds-as_slice-block : goal.bounds-as_slice-block
+bounds-as_slice-block c =
+    let same = ap (λ (xs : List ℕ). length xs) c.as_slice.ensures in
+    omega (arith, c.requires.there, same, c.requires.can.designed.scheduled.timed.size)
+
+pub offset_bounds-as_slice-block : goal.offset_bounds-as_slice-block
+offset_bounds-as_slice-block c =
+    let same = ap (λ (xs : List ℕ). length xs) c.as_slice.ensures in
+    omega (arith, c.requires.there, same, c.requires.can.designed.scheduled.timed.size)

@@ -1,4 +1,4 @@
-use Rattle.std.proofs.Common.{◌≡◌, Option, Some, slice_get, MatchOption, refl, ap, sym, ◌∙◌, subst}
+use Rattle.std.proofs.Common.{◌≡◌, Option, Some, slice_get, MatchOption, refl, ap, sym, ◌∙◌, subst, arith}
 use Rattle.std.specs.Int.{w128}
 use Rattle.std.proofs.lemmas.Int.{to_z-of_z}
 use Rattle.std.proofs.lemmas.Option.{slice_get_read}
@@ -38,3 +38,9 @@ returns-clause-one c v =
     let one = c.storing_gives_one.ensures c.index-list-place_in.result c.args.kind c.requires.kind in
     let given = subst (λ (o : Option Decimal). MatchOption o ⊥ (λ decimal. Stores decimal c.args.kind v)) entry stored in
     rw (to_z-of_z w128 c.to_stored.result (record { sfits = c.to_stored.type_inv })) (one.only v given ∙ sym (one.only c.to_stored.result c.to_stored.ensures))
+
+pub offset_bounds-list-place_in : goal.offset_bounds-list-place_in
+offset_bounds-list-place_in c =
+    let fit = c.operations_prepare.ensures.fit c.args.site.design.checked.now.diagram c.args.site.design.checked.now.order c.args.site.place.block c.args.site.one.now (record { checked = c.keeps_rules.ensures.checked; ordered = c.keeps_rules.ensures.ordered }) c.requires.shown.block_is in
+    let inside = entry_there c.args.site.design.checked.now.diagram c.args.site.place.block c.args.site.one.now c.args.site.place.port c.args.site.place.element c.place_in.result c.args.list.now c.keeps_rules.ensures.checked c.requires.shown fit.1 c.requires.list c.place_in.ensures in
+    omega (arith, inside)

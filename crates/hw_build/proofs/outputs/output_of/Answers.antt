@@ -28,3 +28,13 @@ returns c =
     let all = clocks_are c.args.design c.args.block c.from.result c.as_slice.result.now c.as_slice-2.result.now c.requires.can.slots c.requires.there c.as_slice.ensures c.as_slice-2.ensures c.from.ensures in
     let clock : slice_index_or c.as_slice.result.now c.args.block 0 * c.from.result + slice_index_or c.as_slice-2.result.now c.args.block 0 ≡ clocks_to c.args.design c.args.block = omega (arith, all) in
     rw (c.width_into-width.ensures, c.hub_at-net.ensures, clock) at c.port_of.ensures
+
+pub offset_bounds-as_slice-block : goal.offset_bounds-as_slice-block
+offset_bounds-as_slice-block c =
+    let same : length c.as_slice.result.now ≡ length c.args.design.latencies.now.lat = ap (λ (xs : List ℕ). length xs) c.as_slice.ensures in
+    omega (arith, c.requires.there, same, c.requires.can.designed.scheduled.timed.size)
+
+pub offset_bounds-as_slice-block-2 : goal.offset_bounds-as_slice-block-2
+offset_bounds-as_slice-block-2 c =
+    let same : length c.as_slice-2.result.now ≡ length c.args.design.slots.now.ready = ap (λ (xs : List ℕ). length xs) c.as_slice-2.ensures in
+    omega (arith, c.requires.there, same, c.requires.can.slots.ready.size)

@@ -19,6 +19,11 @@ index-requires c =
     let low = below_columns (slice_index_or c.args.outputs.now c.loop-column.column 0) c.in_ok-columns.columns.items c.as_slice.result.now c.diagram.result.now c.args.design.checked.now.diagram here.there c.in_ok-columns.ensures.size c.as_slice.ensures c.diagram.ensures in
     omega (arith, low)
 
+pub overflow_cast-block : goal.overflow_cast-block
+overflow_cast-block c =
+    let here = output_here c.args.design c.args.firsts.now c.args.outputs.now c.in_ok-columns.columns.items c.loop-column.column c.requires.can.designed.scheduled.checked c.root_elements_are_listed.ensures.outputs c.requires.can.small c.requires.are c.requires.firsts c.in_ok-columns.ensures.least c.loop-column-test.true in
+    record { fits = omega (arith, here.there, c.requires.can.designed.scheduled.checked.wired.size) }
+
 pub overflow_sub-element : goal.overflow_sub-element
 overflow_sub-element c =
     let here = output_here c.args.design c.args.firsts.now c.args.outputs.now c.in_ok-columns.columns.items c.loop-column.column c.requires.can.designed.scheduled.checked c.root_elements_are_listed.ensures.outputs c.requires.can.small c.requires.are c.requires.firsts c.in_ok-columns.ensures.least c.loop-column-test.true in

@@ -66,3 +66,8 @@ returns c =
     (pipeline_put (timing_for c.args.design) c.args.net.now c.counter.new.self c.put_comb.new.net (with_nets c.put_comb.new.net (stage_nets c.result-kind.result c.own_frame_of-frame.result c.last_slot-slot.result c.in_ok-begin.begin (slice_index_or c.as_slice.result.now c.args.block 0))) c.put_stages.new.net _ c.result-kind.result c.args.block c.args.element c.in-Some.period c.args.entry c.in_ok-begin.begin (slice_index_or c.as_slice.result.now c.args.block 0) c.last_slot-slot.result c.in_ok-counter.field-0 c.own_frame_of-frame.result (wire_of c.result-kind.result c.args.entry)
     (c.result-kind.ensures 1) c.own_frame_of-frame.ensures c.last_slot-slot.ensures stages c.in_ok-counter.ensures.counted c.in_ok-counter.ensures.found c.in_ok-begin.ensures.number refl wired refl c.in_ok-end.ensures.grown)
     (c.in_ok-end.ensures.end ∙ ap (λ (n : ℕ). c.in_ok-begin.begin + n) stages)
+
+pub offset_bounds-as_slice-block : goal.offset_bounds-as_slice-block
+offset_bounds-as_slice-block c =
+    let same = ap (λ (xs : List ℕ). length xs) c.as_slice.ensures in
+    omega (arith, same, c.requires.there, c.requires.designed.scheduled.planned.size)

@@ -83,3 +83,10 @@ returns-clause-made c =
           subst (λ (one : Block). IsSecond diagram (offered_at diagram c.args.operands.now) c.args.net.now c.second_of.new.net c.args.block c.args.element (row_of one.kind).types.full c.in_ok-right.right)
           (same_Some c.args.one.now b (sym c.requires.block ∙ at)) c.in_ok-right.ensures.is;
     }
+
+pub offset_bounds-as_slice-block : goal.offset_bounds-as_slice-block
+offset_bounds-as_slice-block c =
+    let inside = slice_get_within _ c.args.block c.args.one.now c.requires.block in
+    let size = c.requires.can.designed.scheduled.timed.size in
+    let same : length c.as_slice.result.now ≡ length c.args.design.latencies.now.lat = ap length c.as_slice.ensures in
+    omega (arith, inside, size, same)

@@ -35,7 +35,7 @@ loop-place-preserved c =
     let earlier = (c.requires.sound place step past there).before in
     let made : c.in_ok-one.one ≡ net_of args base step = (rw c.as_slice.ensures.value at c.in_ok-one.ensures) ∙ net-same args base place c.loop-place.numbers.items step inv.numbers earlier in
     let grown : c.add.new.self ≡ with_net c.loop-place.net (net_of args base step) = rw made at c.in_ok-number.ensures.grown in
-    let items : c.push.new.self.items ≡ c.loop-place.numbers.items ++ c.in_ok-number.number ∷ [] = search rules in
+    let items : c.push.new.self.items ≡ c.loop-place.numbers.items ++ c.in_ok-number.number ∷ [] = c.in_ok-push.ensures.items in
     rw items (record {
       numbers = numbers-more args base place c.in_ok-number.number c.loop-place.numbers.items inv.numbers past (omega (arith, c.in_ok-number.ensures.number, inv.nets.size));
       nets = nets-more c.args.net.now c.loop-place.net c.add.new.self steps args place step c.requires past there inv.nets grown;
