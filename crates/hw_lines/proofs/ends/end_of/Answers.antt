@@ -6,6 +6,9 @@ use Rattle.hw_lines.specs.inner.Ends.{IsEnd, Ends}
 use Rattle.hw_lines.proofs.Ended.{nothing-ends, plain-ends, registered-ends, bridge-ends, phase-ends}
 use Rattle.hw_lines.proofs.ends.end_of.Goals as goal
 
+pub bounds-taps-one : goal.bounds-taps-one
+bounds-taps-one c = rw c.from-own.ensures c.requires.size
+
 pub returns-then-rest-eq0-clause-end : goal.returns-then-rest-eq0-clause-end
 returns-then-rest-eq0-clause-end c = rw c.from-own.ensures (registered-ends c.args.net.now c.args.source c.args.taps.now c.args.one c.requires c.tap_holds.ensures c.if-source.true (rw c.from-own.ensures at c.if-rest-eq0.true))
 

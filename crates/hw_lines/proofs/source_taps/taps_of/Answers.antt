@@ -1,4 +1,4 @@
-use Rattle.std.proofs.Common.{rules, ◌≡◌, ◌+◌, ◌-◌, ◌*◌, ◌∷◌, [], ◌++◌, ℕ, List, slice_get, ap, sym, ◌∙◌, subst, arith, refl, FitsSigned, length-append}
+use Rattle.std.proofs.Common.{rules, ◌≡◌, ◌-◌, ◌*◌, ◌∷◌, [], ◌++◌, ℕ, List, slice_get, ap, sym, ◌∙◌, subst, arith, refl, FitsSigned, length-append}
 use Rattle.std.specs.Int.{w128}
 use Rattle.std.proofs.lemmas.Int.{to_z-of_z}
 use Rattle.hw_net.specs.declared.netlist.Frame.{Frame}

@@ -12,6 +12,12 @@ bounds-numbers-one c =
     let one : Operation = slice_index_or c.args.operations.now c.loop-one.one-index no-operation in
     c.requires.can.inside c.loop-one.one-index one (slice_get-get_or c.args.operations.now c.loop-one.one-index no-operation c.loop-one-test.true)
 
+pub offset_bounds-numbers-one : goal.offset_bounds-numbers-one
+offset_bounds-numbers-one c =
+    let one : Operation = slice_index_or c.args.operations.now c.loop-one.one-index no-operation in
+    let inside = c.requires.can.inside c.loop-one.one-index one (slice_get-get_or c.args.operations.now c.loop-one.one-index no-operation c.loop-one-test.true) in
+    omega (arith, inside)
+
 pub overflow_cast-one : goal.overflow_cast-one
 overflow_cast-one c =
     let one : Operation = slice_index_or c.args.operations.now c.loop-one.one-index no-operation in
