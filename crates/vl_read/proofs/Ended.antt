@@ -20,7 +20,8 @@ use Rattle.vl_read.specs.declared.places.HeadSpot.{HeadSpot}
 use Rattle.vl_read.specs.declared.places.HeadSpot.TheVariants.{Event, OpenEvent, Posedge, Clock, CloseEvent, Begin, Test, OpenTest, Reset, CloseTest}
 use Rattle.vl_read.specs.inner.Lexemes.{class_of, extends, kind_of, dec_of, sized_of, Move, move, moved, lexemes_from}
 use Rattle.vl_read.specs.inner.Turns.{IsBeyond, feed, ahead}
-use Rattle.vl_read.specs.inner.Plain.{parser_at, goes, parse, start, head_word, after_head, step, attr_step, net_item, declared, net_step, goal_step, spot_step, step_at}
+use Rattle.vl_read.specs.inner.Plain.{parse, start, head_word, after_head, step, attr_step, net_item, declared, net_step, goal_step, spot_step, step_at}
+use Rattle.vl_read.specs.inner.Going.{parser_at, goes}
 use Rattle.vl_read.proofs.LexemeKinds.{name_kind}
 use Rattle.vl_read.proofs.Scanned.{silent}
 use Rattle.vl_read.proofs.Lexed.{identifier_text}

@@ -13,7 +13,8 @@ use Rattle.vl_read.specs.inner.Places.AttrSpot.{AttrName}
 use Rattle.vl_read.specs.inner.Places.Place.{Start, Attributes, Title, Ports, Port as PortPlace, AfterPort, AfterPorts, Items, Done}
 use Rattle.vl_read.specs.declared.places.Draft.{Draft}
 use Rattle.vl_read.specs.inner.Lexemes.{kind_of}
-use Rattle.vl_read.specs.inner.Plain.{parser_at, step, parse, start, goal_step, declared, item_step, attr_step, net_step, compound_step, operand_step, unary_or_left, opened_step, braced_step, left_step, frame_step, spot_step, step_at}
+use Rattle.vl_read.specs.inner.Plain.{step, parse, start, goal_step, declared, item_step, attr_step, net_step, compound_step, operand_step, unary_or_left, opened_step, braced_step, left_step, frame_step, spot_step, step_at}
+use Rattle.vl_read.specs.inner.Going.{parser_at}
 use Rattle.vl_read.proofs.Written.{Writes, Reads, writes_as, next, sign, key, name}
 use Rattle.vl_read.proofs.ReadPorts.{attrs_read, with_port, port_read, ports_read}
 use Rattle.vl_read.proofs.ReadItems.{items_read}

@@ -14,7 +14,8 @@ use Rattle.vl_read.specs.inner.Places.AttrSpot.{AttrName, AttrSign, AttrValue, M
 use Rattle.vl_read.specs.inner.Places.Place.{Start, Attributes, Port as PortPlace, Net, AfterPort, Semicolon}
 use Rattle.vl_read.specs.declared.places.Draft.{Draft}
 use Rattle.vl_read.specs.inner.Lexemes.{kind_of, dec_of, sized_of}
-use Rattle.vl_read.specs.inner.Plain.{parser_at, step, parse, goal_step, net_item, declared, item_step, attr_step, net_step, compound_step, operand_step, unary_or_left, opened_step, braced_step, left_step, frame_step, spot_step, step_at}
+use Rattle.vl_read.specs.inner.Plain.{step, parse, goal_step, net_item, declared, item_step, attr_step, net_step, compound_step, operand_step, unary_or_left, opened_step, braced_step, left_step, frame_step, spot_step, step_at}
+use Rattle.vl_read.specs.inner.Going.{parser_at}
 use Rattle.vl_read.proofs.Written.{Writes, Reads, writes_as, next, sign, key, name, number}
 use Rattle.vl_read.proofs.ModuleTokens.{more_attrs, attrs_rest, direction, port_text, port_words, port_is}
 

@@ -19,7 +19,8 @@ use Rattle.vl_read.specs.inner.Places.{Place, Parser}
 use Rattle.vl_read.specs.inner.Places.Place.{Start, Attributes, Title, Ports, Port as PortPlace, Net, AfterPort, AfterPorts, Items, AssignName, AssignSign, Head, ClockedName, ClockedSign, First, AfterFirst, Else, Branch, If, Again, NextSign, Expression, Semicolon, End, Done}
 use Rattle.vl_read.specs.declared.places.Draft.{Draft}
 use Rattle.vl_read.specs.inner.Lexemes.{kind_of}
-use Rattle.vl_read.specs.inner.Plain.{goes, has_none, item_step, step_at, step, module_at, parse, start}
+use Rattle.vl_read.specs.inner.Plain.{has_none, item_step, step_at, step, module_at, parse, start}
+use Rattle.vl_read.specs.inner.Going.{goes}
 use Rattle.vl_read.proofs.Written.{WritesEach}
 use Rattle.vl_read.proofs.ModuleTokens.{three_before}
 use Rattle.vl_read.proofs.KindSound.{then_some, IsOfKind, kind_means}

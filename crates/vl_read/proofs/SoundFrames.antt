@@ -16,7 +16,8 @@ use Rattle.vl_read.specs.inner.Places.{Spot, Goal, Parser}
 use Rattle.vl_read.specs.inner.Places.Spot.{Operand, Value}
 use Rattle.vl_read.specs.inner.Places.Place.{Expression}
 use Rattle.vl_read.specs.declared.places.Draft.{Draft}
-use Rattle.vl_read.specs.inner.Plain.{parser_at, spot_at}
+use Rattle.vl_read.specs.inner.Plain.{spot_at}
+use Rattle.vl_read.specs.inner.Going.{parser_at}
 use Rattle.fx_io.proofs.Tests.{cond_some}
 use Rattle.vl_read.proofs.Consumed.{frame_tokens, frames_tokens, frames_push, frame_depth, frames_depth, depth_push, is_frame_filled, IsGood, Begun}
 

@@ -19,7 +19,8 @@ use Rattle.vl_read.specs.inner.Places.Place.{Net, Items, AssignName, Head, Clock
 use Rattle.vl_read.specs.declared.places.Draft.{Draft}
 use Rattle.vl_read.specs.declared.places.HeadSpot.{HeadSpot}
 use Rattle.vl_read.specs.declared.places.HeadSpot.TheVariants.{Event, OpenEvent, Posedge, Clock, CloseEvent, Begin, Test, OpenTest, Reset, CloseTest}
-use Rattle.vl_read.specs.inner.Plain.{goes, head_token, head_word, after_head, goal_step, item_step, step_at}
+use Rattle.vl_read.specs.inner.Plain.{head_token, head_word, after_head, goal_step, item_step, step_at}
+use Rattle.vl_read.specs.inner.Going.{goes}
 use Rattle.vl_read.proofs.KindSound.{IsOfKind}
 use Rattle.vl_read.proofs.ConsumedItems.{head_before, clocked_tokens, goal_tokens, IsGoal, ExpressionAt, IsBegunItem, opened_tokens, BodyParts, InBody, InItem, ItemAt, Has}
 use Rattle.vl_read.proofs.SoundFrames.{expected, either_word, grow, Goes}

@@ -17,7 +17,8 @@ use Rattle.vl_read.specs.declared.places.NetSpot.TheVariants.{Word, Signed, Rang
 use Rattle.vl_read.specs.inner.Places.AttrSpot.{AttrName, AttrSign, AttrValue, More}
 use Rattle.vl_read.specs.inner.Places.Place.{Start, Attributes, Port as PortPlace, Net, AfterPort, Semicolon}
 use Rattle.vl_read.specs.declared.places.Draft.{Draft}
-use Rattle.vl_read.specs.inner.Plain.{parser_at, goes, is_name, attr_step, net_item, declared, net_step}
+use Rattle.vl_read.specs.inner.Plain.{attr_step, net_item, declared, net_step}
+use Rattle.vl_read.specs.inner.Going.{parser_at, goes, is_name}
 use Rattle.vl_read.proofs.ModuleTokens.{three_before}
 use Rattle.vl_read.proofs.KindSound.{IsOfKind}
 use Rattle.vl_read.proofs.Consumed.{before_next, before_push, joined_push}

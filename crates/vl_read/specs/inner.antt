@@ -1,3 +1,4 @@
+pub mod Going
 pub mod Lexemes
 pub mod Places
 pub mod Plain

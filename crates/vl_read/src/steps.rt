@@ -3,7 +3,8 @@ ghost use Rattle.vl_ast.specs.declared.modules.ModItem.TheVariants.{Always};
 ghost use Rattle.vl_read.specs.declared.scan.Kind.TheVariants.{Fixed};
 ghost use Rattle.vl_read.specs.inner.Lexemes.{kind_of};
 ghost use Rattle.vl_read.specs.inner.Places.{Items, Start, Port, AfterPort, Title, Branch, First, Expression, Operand, End, Semicolon};
-ghost use Rattle.vl_read.specs.inner.Plain.{expect, step, step_at, again_step, net_item};
+ghost use Rattle.vl_read.specs.inner.Plain.{step, step_at, again_step, net_item};
+ghost use Rattle.vl_read.specs.inner.Going.{expect};
 ghost use Rattle.vl_read.specs.inner.Seen.{seen, goal_of, next_of};
 ghost use Rattle.vl_read.specs.inner.Turns.{stepped};
 

@@ -6,7 +6,6 @@ use Rattle.std.specs.Prelude.{ℕ, ◌+◌, nat_lt, Bool, true, false, ◌&&◌,
 use Rattle.vl_ast.specs.declared.expressions.UnOp.{UnOp}
 use Rattle.vl_ast.specs.declared.expressions.BinOp.{BinOp}
 use Rattle.vl_ast.specs.declared.expressions.ShiftOp.{ShiftOp}
-use Rattle.vl_ast.specs.declared.expressions.Sized.{Sized}
 use Rattle.vl_ast.specs.declared.expressions.Expr.{Expr}
 use Rattle.vl_ast.specs.declared.expressions.Expr.TheOpen.{Expr-F}
 use Rattle.vl_ast.specs.declared.expressions.Expr.TheViews.{roll-Expr, out-Expr}
@@ -33,52 +32,8 @@ use Rattle.vl_read.specs.inner.Places.AttrSpot.{AttrName, AttrSign, AttrValue, M
 use Rattle.vl_read.specs.inner.Places.Place.{Start, Attributes, Title, Ports, Port as PortPlace, Net, AfterPort, AfterPorts, Items, AssignName, AssignSign, Head, ClockedName, ClockedSign, First, AfterFirst, Else, Branch, If, Again, NextSign, Expression, Semicolon, End, Done}
 use Rattle.vl_read.specs.declared.places.Draft.{Draft}
 use Rattle.vl_read.specs.declared.scan.Mode.TheVariants.{Between}
+use Rattle.vl_read.specs.inner.Going.{parser_at, goes, expect, on_name, on_number, on_based}
 use Rattle.vl_read.specs.inner.Lexemes.{kind_of, lexemes_from}
-
--- a parser at a place
-abbrev pub parser_at : Draft → Place → Parser
-parser_at draft place = record { draft = draft; place = place }
-
--- on to a place
-abbrev pub goes : Draft → Place → Option Parser
-goes draft place = Some (parser_at draft place)
-
--- the lexeme is this word, and then a place is next
-abbrev pub expect : List ℕ → List ℕ → Draft → Place → Option Parser
-expect word lexeme draft place = if bytes_eq lexeme word then goes draft place else None
-
--- whether a lexeme is a name
-abbrev pub is_name : Kind → Bool
-is_name Name = true
-is_name (Count number) = false
-is_name (Constant number) = false
-is_name Fixed = false
-
--- the one for a name, and the other for what is none
-abbrev pub on_name : Kind → Option Parser → Option Parser → Option Parser
-on_name kind named other = if is_name kind then named else other
-
--- the number, where it has no base
-abbrev pub count_of : Kind → Option ℕ
-count_of Name = None
-count_of (Count number) = Some number
-count_of (Constant number) = None
-count_of Fixed = None
-
--- the number with its base
-abbrev pub constant_of : Kind → Option Sized
-constant_of Name = None
-constant_of (Count number) = None
-constant_of (Constant number) = Some number
-constant_of Fixed = None
-
--- on with a number without base
-abbrev pub on_number : Kind → (ℕ → Option Parser) → Option Parser
-on_number kind numbered = option_and_then numbered (count_of kind)
-
--- on with a number with its base
-abbrev pub on_based : Kind → (Sized → Option Parser) → Option Parser
-on_based kind sized = option_and_then sized (constant_of kind)
 
 -- the next lexeme in a list of attributes
 unfoldable pub attr_step : Draft → Bool → List Attr → AttrSpot → Kind → List ℕ → Option Parser
