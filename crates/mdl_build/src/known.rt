@@ -88,16 +88,6 @@ impl<'a> Known<'a> {
         self.blocks.add_all(&self.layout, &self.roles)
     }
 
-    /// The path of the block at a place.
-    pub fn path(&self, alloc: Global, place: usize) -> Result<Text, OutOfMemory>
-        requires known { IsKnown self.now }
-        requires within { place < length self.now.layout.items.now }
-        requires counts { is_block (role_of self.now.layout.items.now place) ≡ true }
-        ensures { IfOk result (λ path. path ≡ path_of self.now.layout.items.now place) }
-    {
-        path_of(alloc, &self.layout, &self.roles, place)
-    }
-
     /// The rule of library, or of parameter, broken by the block at a place, which shows a word.
     pub fn broken_at(
         &self,
@@ -112,7 +102,7 @@ impl<'a> Known<'a> {
         ensures { IfOk result (λ fault. fault
             ≡ fault_of rule (path_of self.now.layout.items.now place) (Word word.now)) }
     {
-        let path = self.path(alloc, place)?;
+        let path = path_of(alloc, &self.layout, &self.roles, place)?;
         let word = Text::copy(alloc, word)?;
         Ok(rule_fault(rule, path, Shown::Word(word)))
     }
@@ -128,7 +118,7 @@ impl<'a> Known<'a> {
         match first_misshapen(alloc, &self.layout, &self.roles, &self.blocks)? {
             None => Ok(None),
             Some(place) => {
-                let path = self.path(alloc, place)?;
+                let path = path_of(alloc, &self.layout, &self.roles, place)?;
                 Ok(Some(rule_fault(Rule::Structure, path, Shown::Nothing)))
             }
         }

@@ -135,23 +135,6 @@ fn section_of(
     }
 }
 
-/// The values of a type's parameters where a block has none.
-fn texts_of<'a>(
-    alloc: Global,
-    layout: &Layout<'a>,
-    roles: &[Role],
-    all: Option<usize>,
-    block_type: BlockType,
-) -> Result<Vec<&'a [u8]>, OutOfMemory>
-    requires roles { roles.now ≡ roles_of layout.now.items.now }
-    requires all { all ≡ first_defaults layout.now.items.now }
-    ensures { IfOk result (λ texts. contents_of texts.items
-        ≡ fallbacks_of layout.now.items.now block_type) }
-{
-    let section = section_of(layout, roles, all, block_type);
-    fallbacks(alloc, layout, section, parameters(block_type))
-}
-
 /// The values that a model and the table give for these types.
 fn texts_of_all<'a>(
     alloc: Global,
@@ -166,7 +149,8 @@ fn texts_of_all<'a>(
     let all = first_defaults(roles);
     let mut defaults = Vec::new(alloc);
     for block_type in block_types {
-        let texts = texts_of(alloc, layout, roles, all, *block_type)?;
+        let section = section_of(layout, roles, all, *block_type);
+        let texts = fallbacks(alloc, layout, section, parameters(*block_type))?;
         defaults.push(texts)?;
     }
     Ok(defaults)

@@ -2,8 +2,8 @@ use Rattle.std.proofs.Common.{sym, ◌∙◌}
 use Rattle.mdl_build.proofs.KnownLemmas.{found_block}
 use Rattle.mdl_build.proofs.known.Known.block_fault.Goals as goal
 
-pub path-requires-clause-within : goal.path-requires-clause-within
-path-requires-clause-within c = (found_block c.args.self.now.layout.items.now _ c.in-Some.place (sym c.in_ok-first_misshapen.ensures ∙ c.in-Some.is)).within
+pub path_of-requires-clause-within : goal.path_of-requires-clause-within
+path_of-requires-clause-within c = (found_block c.args.self.now.layout.items.now _ c.in-Some.place (sym c.in_ok-first_misshapen.ensures ∙ c.in-Some.is)).within
 
-pub path-requires-clause-counts : goal.path-requires-clause-counts
-path-requires-clause-counts c = (found_block c.args.self.now.layout.items.now _ c.in-Some.place (sym c.in_ok-first_misshapen.ensures ∙ c.in-Some.is)).counts
+pub path_of-requires-clause-counts : goal.path_of-requires-clause-counts
+path_of-requires-clause-counts c = (found_block c.args.self.now.layout.items.now _ c.in-Some.place (sym c.in_ok-first_misshapen.ensures ∙ c.in-Some.is)).counts
