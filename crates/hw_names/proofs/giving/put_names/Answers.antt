@@ -53,3 +53,12 @@ loop-column-preserved c =
     let given = given_to diagram c.args.side c.loop-column.names c.put_name.new.names column.e block c.width_of-width.result (c.in-Ok.number - first) c.block_at.result.now.path added.name column.block_is path c.width_of-width.ensures element_is added.given in
     subst (λ (texts : List (List ℕ)). AddsNames diagram c.args.side c.args.names.now c.put_name.new.names c.args.texts.now texts (k + 1)) (sym added.is)
     (names_more diagram c.args.side c.args.names.now c.loop-column.names c.put_name.new.names c.args.texts.now c.loop-column.texts k column.e added.name c.loop-column.invariant column.at given)
+
+pub offset_bounds-firsts-block : goal.offset_bounds-firsts-block
+offset_bounds-firsts-block c =
+    let column = column_on c.args.checked.now.diagram c.args.side c.args.blocks.now c.loop-column.column c.keeps_rules.ensures.checked c.root_elements_are_listed.ensures.inputs c.root_elements_are_listed.ensures.outputs c.requires c.loop-column-test.true in
+    let low = block_there c.args.checked.now.diagram c.args.side c.args.blocks.now c.loop-column.column column in
+    let many = ap (λ (bs : List Block). length bs) (c.as_slice.ensures ∙ ap (λ (d : Diagram). d.blocks) c.diagram.ensures) in
+    let size = c.in_ok-columns.ensures.size in
+    let whole = ap (λ (xs : List ℕ). length xs) c.as_slice-firsts.ensures.value in
+    omega (arith, low, many, size, whole)

@@ -49,3 +49,15 @@ returns-clause-long c = (parts c).1
 
 pub returns-clause-grown : goal.returns-clause-grown
 returns-clause-grown c = (parts c).2
+
+pub offset_bounds-nets-left : goal.offset_bounds-nets-left
+offset_bounds-nets-left c =
+    let can = c.requires in
+    let size = ap (λ (nets : List Net). length nets) c.nets.ensures in
+    omega (arith, size, slice_get_within c.args.net.now.nets c.args.ends.left can.left.net can.left.is)
+
+pub offset_bounds-nets-right : goal.offset_bounds-nets-right
+offset_bounds-nets-right c =
+    let can = c.requires in
+    let size = ap (λ (nets : List Net). length nets) c.nets-2.ensures in
+    omega (arith, size, slice_get_within c.args.net.now.nets c.args.ends.right can.right.net can.right.is)
