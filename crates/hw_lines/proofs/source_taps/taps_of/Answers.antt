@@ -71,3 +71,6 @@ returns-clause-grown c = c.loop-step.invariant.grown
 
 pub returns-clause-few : goal.returns-clause-few
 returns-clause-few c = omega (arith, c.loop-step.invariant.few, c.loop-step-test.false, c.loop-step.auto.step-end)
+
+pub overflow_mul-slot : goal.overflow_mul-slot
+overflow_mul-slot c = record { fits = rw c.cycles.ensures c.requires.room }
