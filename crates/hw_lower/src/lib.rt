@@ -2,9 +2,9 @@
 //!
 //! An operation is planned first: steps on steps before them (`Plan`), each a `NetOp` in a word,
 //! whose numbers are told by `Obeys` of `specs/inner/Planned`. A plan grows at its end (`IsMade`),
-//! so what is said of its numbers stays. It remembers whether memory was wanting, which `lower` asks
-//! once, and all of this is said unless it was. Then every step behind the arguments is a net, and in the
-//! rows of each later netlist that keeps these nets they have the numbers of the plan
+//! so what is said of its numbers stays. It remembers whether memory was wanting, which `lower`
+//! asks once, and all of this is said unless it was. Then every step behind the arguments is a net,
+//! and in the rows of each later netlist that keeps these nets they have the numbers of the plan
 //! (`proofs/Shown`). `specs/Lowered` says what `lower` owes. All of it stays within 128 bits:
 //! rounding in the word of the source, as the number below and a carry of one bit, bounds compared
 //! before a shift up, sums and products in the word of their full type.
