@@ -24,3 +24,8 @@ pub bounds-depths-control : goal.bounds-depths-control
 bounds-depths-control c =
     let there = control_there c.args.checked.now.diagram c.args.place c.block_at.result.now c.in-Some.control c.keeps_rules.ensures.checked.wired c.block_at.ensures (sym c.control_now.ensures ∙ c.in-Some.is) in
     omega (arith, there, c.requires.size)
+
+pub offset_bounds-depths-control : goal.offset_bounds-depths-control
+offset_bounds-depths-control c =
+    let there = control_there c.args.checked.now.diagram c.args.place c.block_at.result.now c.in-Some.control c.keeps_rules.ensures.checked.wired c.block_at.ensures (sym c.control_now.ensures ∙ c.in-Some.is) in
+    omega (arith, there, c.requires.size)

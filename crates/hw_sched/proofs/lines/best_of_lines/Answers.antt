@@ -73,3 +73,11 @@ loop-edge-init c =
     let start : first ≡ first + 0 = omega arith in
     subst (λ (count : ℕ). IsGreatest (IsLineFrom c.args.checked.now.diagram count c.args.place) c.args.depths.now 0) start
     (lines_begin c.args.checked.now.diagram c.args.place c.args.depths.now first (first_as c.args.checked.now.diagram.edges c.as_slice-edges.result.now c.args.place first es c.first_into-first.ensures))
+
+pub offset_bounds-depths-edge : goal.offset_bounds-depths-edge
+offset_bounds-depths-edge c =
+    let es = c.as_slice-edges.ensures ∙ ap (λ (d : Diagram). d.edges) c.diagram.ensures in
+    let at = rest_read c.args.checked.now.diagram.edges c.as_slice-edges.result.now c.first_into-first.result c.loop-edge.edge-index none es c.loop-edge-test.true in
+    let inside = from_there c.args.checked.now.diagram c.args.place (c.first_into-first.result + c.loop-edge.edge-index) _ c.keeps_rules.ensures.checked.wired at in
+    let many = c.requires.size in
+    omega (arith, inside, many)
