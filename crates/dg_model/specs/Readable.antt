@@ -1,5 +1,5 @@
--- When a block is such as its text in a model can be, by the row of its kind (Simulink reference, each
--- block's page; the limits are own).
+-- When a block is such as its text in a model can be, by the row of its kind (Simulink reference,
+-- each block's page; the limits are own).
 use Rattle.std.specs.Prelude.{◌≡◌, ℕ, Bool, IsFalse, MatchBool, ⊤}
 use Rattle.fx_type.specs.declared.rounding.Rounding.{Rounding}
 use Rattle.fx_type.specs.declared.rounding.Rounding.TheVariants.{Floor}
@@ -7,6 +7,7 @@ use Rattle.dg_model.specs.declared.diagram.Block.{Block}
 use Rattle.dg_model.specs.declared.kind.Kind.{Kind}
 use Rattle.dg_model.specs.KindRow.{IsSpec}
 use Rattle.dg_model.specs.Library.{row_of}
+
 -- how many input and output ports a kind has
 abbrev pub HasPorts : Kind → ℕ → ℕ → Type 0
 HasPorts kind inputs outputs =

@@ -57,8 +57,8 @@ fn disagreeing(periods: &[Option<u32>], joins: bool, own: Option<u32>, asked: &[
     None
 }
 
-/// The sources that a block's period is held against: the control of its enabled subsystem, which is
-/// the last one, isn't asked of a block whose value never changes.
+/// The sources that a block's period is held against: the control of its enabled subsystem, which
+/// is the last one, isn't asked of a block whose value never changes.
 fn asked_of<'a>(sources: &'a [u32], own: Option<u32>, enable: Option<u32>) -> &'a [u32]
     requires { IsSome enable → 0 < length sources.now }
     ensures { result.now ≡ asked_among own enable sources.now }

@@ -51,8 +51,8 @@ fn put_classes(
     Ok(answers)
 }
 
-/// The nets of what ends ask: one for each ask. Sources are shown later to their readers, and those of
-/// one source share one chain.
+/// The nets of what ends ask: one for each ask. Sources are shown later to their readers, and those
+/// of one source share one chain.
 pub fn put_asks(alloc: Global, net: &mut Netlist, asks: &Asks) -> Result<Sizes, OutOfMemory>
     requires low { 0 < net.old.cycles }
     requires high { net.old.cycles ≤ 1024 }

@@ -61,8 +61,8 @@ fn register(kind: FxType, frame: Frame, slot: u32, from: u32) -> Net
     }
 }
 
-/// Puts in registers that take the net before them in a slot of a frame, behind the last net, each with
-/// its name.
+/// Puts in registers that take the net before them in a slot of a frame, behind the last net, each
+/// with its name.
 fn put_stages(
     alloc: Global,
     net: &mut Netlist,

@@ -74,8 +74,8 @@ impl<'a> Known<'a> {
     ghost use Rattle.mdl_build.specs.inner.Known.{IsFound};
     ghost use Rattle.mdl_build.specs.inner.Names.{AreNumbered};
 
-    /// Finds the blocks. Tells whether the model has its root, is shallow, and has no more blocks than
-    /// it may.
+    /// Finds the blocks. Tells whether the model has its root, is shallow, and has no more blocks
+    /// than it may.
     fn find_blocks(&mut self) -> Result<bool, OutOfMemory>
         requires roles { self.old.roles.items ≡ roles_of self.old.layout.items.now }
         requires none { self.old.blocks.places.items ≡ [] }

@@ -166,7 +166,8 @@ fn sources<'a>(
     Ok(sources)
 }
 
-/// Puts the line to the end of a branch at the end, if it has one. Tells whether all is well formed.
+/// Puts the line to the end of a branch at the end, if it has one. Tells whether all is well
+/// formed.
 fn push_line(
     lines: &mut NestedLines,
     source: Option<Source>,
@@ -195,8 +196,8 @@ fn push_line(
     }
 }
 
-/// Puts the line to the end of the item at a place at the end, if it is a branch that has one. Tells
-/// whether all is well formed.
+/// Puts the line to the end of the item at a place at the end, if it is a branch that has one.
+/// Tells whether all is well formed.
 fn add_line<'a>(
     lines: &mut NestedLines,
     layout: &Layout<'a>,
@@ -221,8 +222,8 @@ fn add_line<'a>(
     push_line(lines, sources[line], goal)
 }
 
-/// Puts the lines of a tree, one for each of their ends, in the order of these. Tells whether each end
-/// names a block of its System, and has a port's number.
+/// Puts the lines of a tree, one for each of their ends, in the order of these. Tells whether each
+/// end names a block of its System, and has a port's number.
 pub fn put_lines<'a>(
     alloc: Global,
     lines: &mut NestedLines,

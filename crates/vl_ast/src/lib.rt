@@ -2,14 +2,14 @@
 //!
 //! The crate holds types, definitions, what a module and its ports say as attributes, what makes
 //! expressions, items, ports and modules from their parts, and laws as functions that do nothing.
-//! The definitions are in `specs/`, by subject: `Operators` (how they are written), `Spelling` (the one
-//! written text of a module), `Tokens` and `Grammar` (which bytes spell a module), `Spellable` (what some
-//! text spells), `Context` (length and sign of an expression), `Value` (its value), `Nets` (what is
-//! declared and where names stand), `Runs` (the rows of a module), `Steps` (a row, and an edge to the
-//! next), `Room` (what fits), `Conditions` (the six conditions), `Attributes`, `Control` (ports that carry
-//! no numbers), `Windows` (which rows count, and what a name shows over them), `Driven` (how a module is
-//! reset and driven), `Stalls` (rows that don't count), `Gated` (registers that stand still), `Listing`
-//! (lists that grow at their end) and `Multiplications`.
+//! The definitions are in `specs/`, by subject: `Operators` (how they are written), `Spelling` (the
+//! one written text of a module), `Tokens` and `Grammar` (which bytes spell a module), `Spellable`
+//! (what some text spells), `Context` (length and sign of an expression), `Value` (its value),
+//! `Nets` (what is declared and where names stand), `Runs` (the rows of a module), `Steps` (a row,
+//! and an edge to the next), `Room` (what fits), `Conditions` (the six conditions), `Attributes`,
+//! `Control` (ports that carry no numbers), `Windows` (which rows count, and what a name shows over
+//! them), `Driven` (how a module is reset and driven), `Stalls` (rows that don't count), `Gated`
+//! (registers that stand still), `Listing` (lists that grow at their end) and `Multiplications`.
 #![tactic(auto)]
 
 mod attributes;

@@ -306,7 +306,8 @@ fn timing(alloc: Global, input: bool, period: u64, latency: u64) -> Made<Attrs>
 }
 
 /// Puts a port that carries numbers behind the others. Its word is its width and whether it has a
-/// sign; its period is that of `fx_period`, and its latency that of `fx_latency`, which an input lacks.
+/// sign; its period is that of `fx_period`, and its latency that of `fx_latency`, which an input
+/// lacks.
 pub fn put_data_port(
     alloc: Global,
     out: &mut Listing<Port>,
@@ -329,7 +330,8 @@ pub fn put_data_port(
     put(out, port(own, attrs, input, word));
 }
 
-/// A module of this name, a base sample of which has so many clocks. The only error is want of memory.
+/// A module of this name, a base sample of which has so many clocks. The only error is want of
+/// memory.
 pub fn whole_module(
     alloc: Global,
     name: &[u8],

@@ -158,8 +158,8 @@ fn next_value(
     choose(alloc, test, value, Ok(Expr::Literal(begun)))
 }
 
-/// Puts the item of a register with enable. Where `enable` is 0 it begins anew with `reset`, else it keeps
-/// its value.
+/// Puts the item of a register with enable. Where `enable` is 0 it begins anew with `reset`, else
+/// it keeps its value.
 pub fn put_enabled(
     alloc: Global,
     out: &mut Listing<ModItem>,

@@ -22,8 +22,8 @@ fn put_each(alloc: Global, out: &mut Listing<Port>, netlist: &Netlist, own: &[Ne
     }
 }
 
-/// The clock, the reset, the clock enable, and the ports of a netlist in order, with `ce_out` before
-/// its outputs.
+/// The clock, the reset, the clock enable, and the ports of a netlist in order, with `ce_out`
+/// before its outputs.
 pub fn ports_of(alloc: Global, netlist: &Netlist) -> Made<Ports>
     requires { AreReady netlist.now }
     ensures { IfOk result (λ ports. ports ≡ ports_of netlist.now) }

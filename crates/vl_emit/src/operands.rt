@@ -38,8 +38,8 @@ pub fn text_of(alloc: Global, called: Called) -> Made<Text>
     }
 }
 
-/// A name that ends with a number: that of a net without a label begins with `fx_n`, and that of the
-/// register that holds a bridge's value with `fx_h`.
+/// A name that ends with a number: that of a net without a label begins with `fx_n`, and that of
+/// the register that holds a bridge's value with `fx_h`.
 pub fn numbered(alloc: Global, front: &[u8], number: usize) -> Made<Text>
     ensures { IfOk result (λ text. text ≡ front.now ++ decimal number) }
 {

@@ -6,7 +6,8 @@ use crate::operators::half_of;
 use crate::ops::{OneOp, Op};
 use vl_ast::mask_of;
 
-/// Operations that are added, and whether memory or a number of 64 bits was wanting for some of them.
+/// Operations that are added, and whether memory or a number of 64 bits was wanting for some of
+/// them.
 #[derive(Drop)]
 pub struct Additions {
     pub code: Code,

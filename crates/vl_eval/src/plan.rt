@@ -36,8 +36,8 @@ pub struct Output {
     pub signed: bool,
 }
 
-/// The operations of a module, and where its names have their values: input ports and registers below
-/// `base`, and each wire and output where its assignment's last operation has it.
+/// The operations of a module, and where its names have their values: input ports and registers
+/// below `base`, and each wire and output where its assignment's last operation has it.
 #[derive(Drop)]
 pub struct Plan {
     pub base: usize,
@@ -90,8 +90,8 @@ fn assignment_of<'a>(
     }
 }
 
-/// Adds the operations of the assignments, each behind those whose names it reads, and notes where the
-/// names then have their values.
+/// Adds the operations of the assignments, each behind those whose names it reads, and notes where
+/// the names then have their values.
 fn wires(
     ops: &mut Additions,
     slots: &mut Vec<usize>,
@@ -133,7 +133,8 @@ fn put_capture(ops: &mut Additions, captures: &mut Vec<Capture>, capture: Captur
     }
 }
 
-/// Adds the operations of what the registers take at an edge, and puts into an empty list what that is.
+/// Adds the operations of what the registers take at an edge, and puts into an empty list what that
+/// is.
 fn captures(ops: &mut Additions, site: &Site<'_, '_>, source: &Module, captures: &mut Vec<Capture>)
     requires sound { BreaksNone source.now }
     requires scope { IsScopeOf source.now site.now.scope.now }

@@ -7,14 +7,16 @@ use Rattle.dg_model.specs.declared.diagram.Block.{Block}
 use Rattle.dg_model.specs.declared.diagram.Edge.{Edge}
 use Rattle.dg_model.specs.Periods.{control_of, drivers_of, sources_of}
 
--- so many blocks read blocks that are there, and these know them as their readers; those before `selves` are readers of themselves
+-- so many blocks read blocks that are there, and these know them as their readers; those before
+-- `selves` are readers of themselves
 pub record AreTied (count selves : ℕ) (sources readers : List (List ℕ)) : Type 0 where
   pub sources_size : length sources ≡ count
   pub readers_size : length readers ≡ count
   pub there : (block : ℕ) → All (λ source. source < count) (row_at sources block)
   pub readers_there : (block : ℕ) → All (λ reader. reader < count) (row_at readers block)
   pub own : (block : ℕ) → block < selves → is_in block (row_at readers block) ≡ true
-  pub known : (block k source : ℕ) → slice_get (row_at sources block) k ≡ Some source → is_in block (row_at readers source) ≡ true
+  pub known : (block k source : ℕ) → slice_get (row_at sources block) k ≡ Some source
+      → is_in block (row_at readers source) ≡ true
 
 -- the rows have the drivers of these edges, in order
 pub record AreDrivers (count : ℕ) (edges : List Edge) (rows : List (List ℕ)) : Type 0 where

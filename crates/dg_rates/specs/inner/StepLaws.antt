@@ -18,7 +18,9 @@ same_sources old new (x ∷ xs) same =
     let tail : known_of old xs ≡ known_of new xs = same_sources old new xs (λ k source at. same (suc k) source at) in
     cc
 
-pub step_is_local : (rests : List Bool) (sources readers : List (List ℕ)) (old new : Periods) (block : ℕ) → AreTied (length sources) (length sources) sources readers → block < length sources
+pub step_is_local : (rests : List Bool) (sources readers : List (List ℕ)) (old new : Periods)
+    (block : ℕ) → AreTied (length sources) (length sources) sources readers
+    → block < length sources
     → ((source : ℕ) → is_in block (row_at readers source) ≡ true → slice_get old source ≡ slice_get new source) → next_known rests sources old block ≡ next_known rests sources new block
 step_is_local rests sources readers old new block tied inside same =
     let own = same_known old new block (same block (tied.own block inside)) in
