@@ -58,7 +58,9 @@ chmod +x "$2"
 """
 
 
+# The last lines of the toolchain, of a program without threads and of one with.
 ENDED = "checked: ended status={0}\nrun=ended status={0} runners=1 proved=no\n"
+WITH_THREADS = "checked: ended status={0}\nraces: not looked for, since a kit has no ThreadSanitizer\nrun=ended status={0} runners=1 races=unchecked proved=no\n"
 
 
 class Launcher(unittest.TestCase):
@@ -275,10 +277,11 @@ class Launcher(unittest.TestCase):
 
     def test_unproved_answers_end_as_the_program_does(self):
         folder, name = os.path.split(self.model)
-        self.pretend("ended", "MODEL: line 2: not MDL text\n" + ENDED.format(5))
-        done = self.run_with("generate", name, "-", folder=folder)
-        self.assertEqual((done.returncode, done.stdout), (5, "tried generate\na model"))
-        self.assertEqual(done.stderr.splitlines()[1:], ["a b.mdl: line 2: not MDL text"])
+        for ended in (ENDED, WITH_THREADS):
+            self.pretend("ended", "MODEL: line 2: not MDL text\n" + ended.format(5))
+            done = self.run_with("generate", name, "-", folder=folder)
+            self.assertEqual((done.returncode, done.stdout), (5, "tried generate\na model"))
+            self.assertEqual(done.stderr.splitlines()[1:], ["a b.mdl: line 2: not MDL text"])
         done = self.run_with("simulate", name, "gone", folder=folder)
         self.assertEqual((done.returncode, done.stderr.splitlines()[1:]), (3, ["gone: cannot be read"]))
         self.pretend("ended", "a fault\nrun=none proved=no\n")
