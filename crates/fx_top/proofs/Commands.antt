@@ -1,23 +1,79 @@
 -- What the words of a command say, and what its causes say of the bytes of its first file.
-use Rattle.std.proofs.Common.{◌≡◌, ◌⊎◌, ⊎_elim, inl, inr, ap, ◌∙◌, Bool, true, false, if◌then◌else◌, ℕ, List, [], ◌∷◌, length, map, Option, None, Some, refl, subst, sym, arith}
+use Rattle.std.proofs.Common.{◌≡◌, ◌⊎◌, ⊎_elim, inl, inr, ap, ◌∙◌, Bool, true, false, if◌then◌else◌, ℕ, List, codes, [], ◌∷◌, length, map, Option, None, Some, refl, subst, sym, arith}
+use Rattle.std.specs.Prelude.{IfSome, bytes_eq}
+use Rattle.std.specs.Option.{option_map}
+use Rattle.std.proofs.lemmas.Slice.Eq.{bytes_eq-Decides}
 use Rattle.dg_model.specs.declared.diagram.Diagram.{Diagram}
 use Rattle.dg_model.specs.declared.fault.RuleFault.{RuleFault}
 use Rattle.mdl_text.specs.declared.tree.Tree.{Tree}
 use Rattle.mdl_text.specs.Stands.{Stands}
 use Rattle.fx_tables.specs.declared.table.TableCause.{TableCause}
 use Rattle.vl_ast.specs.declared.modules.Module.{Module}
-use Rattle.fx_top.specs.Command.{Command, Generate, Replay, Simulate, Explore, Check, Stream, asked_of, model_of, verilog_of, first_of}
+use Rattle.fx_explored.specs.RangeWord.{range_of}
+use Rattle.hw_explore.specs.declared.range.Range.{Range}
+use Rattle.mdl_values.specs.Words.{value_beside}
+use Rattle.fx_top.specs.declared.task.Task.{Task}
+use Rattle.fx_top.specs.declared.task.Task.TheVariants as task
+use Rattle.fx_top.specs.Command.{Asked, Command, OfFiles, Generate, Replay, Simulate, Explore, Check, Stream, asked_of, explored, model_of, plan_word, verilog_of, first_of}
+use Rattle.fx_top.specs.inner.Named.{over_files}
+use Rattle.fx_top.specs.inner.Tasks.{IsTask}
 use Rattle.fx_model.specs.Model.{IsModelOf, IsBrokenModel, IsAccepted}
 use Rattle.fx_top.specs.Outcome.{Yields, IsBadFor}
 use Rattle.fx_top.specs.Output.{IsBadTable}
 use Rattle.fx_replayed.specs.Replayed.{IsSoundText}
 
--- a choice is its first part where the test holds, and else its second
-pub if-then : {A : Type 0} {test : Bool} {one goal : A} (other : A) → test ≡ true → goal ≡ one → goal ≡ (if test then one else other)
-if-then {A} {test} {one} other holds is = is ∙ ap (λ (b : Bool). if b then one else other) (sym holds)
+-- ---- tasks
 
-pub if-else : {A : Type 0} {test : Bool} {other goal : A} (one : A) → test ≡ false → goal ≡ other → goal ≡ (if test then one else other)
-if-else {A} {test} {other} one fails is = is ∙ ap (λ (b : Bool). if b then one else other) (sym fails)
+-- the word of the task that hangs on a range asks for it
+pub explored-asked : (verb first second : List ℕ) → bytes_eq verb (codes "explore") ≡ true → (range : Option Range) → range ≡ range_of second → explored first range ≡ asked_of (verb ∷ first ∷ second ∷ [])
+explored-asked verb first second named range is =
+    ap (explored first) is ∙ ap (λ (word : List ℕ). asked_of (word ∷ first ∷ second ∷ [])) (sym ((bytes_eq-Decides verb (codes "explore")).0 named))
+
+-- the tasks that hang on none, by their words
+abbrev pub plain_tasks : List (List ℕ × Task)
+plain_tasks =
+    (codes "generate", task.Generate) ∷ (codes "replay", task.Replay) ∷ (codes "simulate", task.Simulate)
+    ∷ (codes "check", task.Check) ∷ (codes "stream", task.Stream) ∷ []
+
+abbrev plain : Bool → Bool → Bool → Bool → Bool → Option Task
+plain generate replay simulate check stream =
+    if generate then Some task.Generate else (if replay then Some task.Replay else (if simulate then Some task.Simulate
+    else (if check then Some task.Check else (if stream then Some task.Stream else None))))
+
+abbrev asked : List ℕ → List ℕ → Bool → Bool → Bool → Bool → Bool → Bool → Option Asked
+asked first second generate replay simulate explore check stream =
+    if generate then Some (OfFiles (Generate first (plan_word second))) else (if replay then Some (OfFiles (Replay first second))
+    else (if simulate then Some (OfFiles (Simulate first second)) else (if explore then explored first (range_of second)
+    else (if check then Some (OfFiles (Check first (plan_word second))) else (if stream then Some (OfFiles (Stream first (plan_word second))) else None)))))
+
+same-asked : (first second : List ℕ) (generate replay simulate check stream : Bool)
+    → option_map (over_files first second) (plain generate replay simulate check stream) ≡ asked first second generate replay simulate false check stream
+same-asked first second true replay simulate check stream = refl
+same-asked first second false true simulate check stream = refl
+same-asked first second false false true check stream = refl
+same-asked first second false false false true stream = refl
+same-asked first second false false false false true = refl
+same-asked first second false false false false false = refl
+
+pub plain-asked : (verb first second : List ℕ) → bytes_eq verb (codes "explore") ≡ false → (own : Option Task) → own ≡ value_beside plain_tasks verb → option_map (over_files first second) own ≡ asked_of (verb ∷ first ∷ second ∷ [])
+plain-asked verb first second other own is =
+    let named : List ℕ → Bool = λ word. bytes_eq verb word in
+    ap (option_map (over_files first second)) is
+    ∙ same-asked first second (named (codes "generate")) (named (codes "replay")) (named (codes "simulate")) (named (codes "check")) (named (codes "stream"))
+    ∙ ap (λ (explore : Bool). asked first second (named (codes "generate")) (named (codes "replay")) (named (codes "simulate")) explore (named (codes "check")) (named (codes "stream"))) (sym other)
+
+plain-is : (generate replay simulate check stream : Bool) → IfSome (plain generate replay simulate check stream) IsTask
+plain-is true replay simulate check stream = tt
+plain-is false true simulate check stream = tt
+plain-is false false true check stream = tt
+plain-is false false false true stream = tt
+plain-is false false false false true = tt
+plain-is false false false false false = tt
+
+pub plain-task : (verb : List ℕ) (own : Option Task) → own ≡ value_beside plain_tasks verb → IfSome own IsTask
+plain-task verb own is =
+    let named : List ℕ → Bool = λ word. bytes_eq verb word in
+    subst (λ (found : Option Task). IfSome found IsTask) (sym is) (plain-is (named (codes "generate")) (named (codes "replay")) (named (codes "simulate")) (named (codes "check")) (named (codes "stream")))
 
 -- so many words ask for nothing
 pub none_asked : {W : Type 0} (bytes : W → List ℕ) (words : List W) → (length words ≡ 2 → ⊥) → (length words ≡ 3 → ⊥) → None ≡ asked_of (map bytes words)

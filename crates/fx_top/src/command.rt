@@ -6,9 +6,19 @@ ghost use Rattle.fx_top.specs.inner.Tasks.{IsTask};
 
 use crate::task::Task;
 use fx_explored::{plain_number, read_range};
+use mdl_values::value_beside;
 
 /// The greatest number of a sample (own).
 const GREATEST_SAMPLE: u64 = 5000;
+
+/// The tasks that hang on no range, by their words (own).
+const TASKS: &'static [(&'static str, Task)] = &[
+    ("generate", Task::Generate),
+    ("replay", Task::Replay),
+    ("simulate", Task::Simulate),
+    ("check", Task::Check),
+    ("stream", Task::Stream),
+];
 
 /// What the words of a call ask for.
 #[derive(Clone, Copy)]
@@ -69,28 +79,14 @@ fn task_of(verb: &str, second: &str) -> Option<Task>
         ≡ asked_of (verb.now ∷ first ∷ second.now ∷ []) }
     ensures range { IfSome result IsTask }
 {
-    if verb == "generate" {
-        return Some(Task::Generate);
-    }
-    if verb == "replay" {
-        return Some(Task::Replay);
-    }
-    if verb == "simulate" {
-        return Some(Task::Simulate);
-    }
     if verb == "explore" {
         return match read_range(second.as_bytes()) {
             Some(range) => Some(Task::Explore { range }),
             None => None,
         };
     }
-    if verb == "check" {
-        return Some(Task::Check);
-    }
-    if verb == "stream" {
-        return Some(Task::Stream);
-    }
-    None
+    let word = verb.as_bytes();
+    value_beside(TASKS, word)
 }
 
 /// The command that a word names over one other, where it names one.
