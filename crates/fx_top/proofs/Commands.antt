@@ -1,5 +1,5 @@
 -- What the words of a command say, and what its causes say of the bytes of its first file.
-use Rattle.std.proofs.Common.{◌≡◌, ◌⊎◌, ⊎_elim, inl, inr, ap, ◌∙◌, Bool, true, false, if◌then◌else◌, ℕ, List, codes, [], ◌∷◌, length, map, Option, None, Some, refl, subst, sym, arith}
+use Rattle.std.proofs.Common.{◌≡◌, ◌⊎◌, ⊎_elim, inl, inr, ap, ◌∙◌, Bool, true, false, if◌then◌else◌, ◌==◌, ℕ, List, codes, [], ◌∷◌, length, map, Option, None, Some, refl, subst, sym, arith}
 use Rattle.std.specs.Prelude.{IfSome, bytes_eq}
 use Rattle.std.specs.Option.{option_map}
 use Rattle.std.proofs.lemmas.Slice.Eq.{bytes_eq-Decides}
@@ -82,6 +82,27 @@ none_asked bytes (one ∷ []) two three = refl
 none_asked bytes (one ∷ other ∷ []) two three = absurd (two refl)
 none_asked bytes (one ∷ other ∷ more ∷ []) two three = absurd (three refl)
 none_asked bytes (one ∷ other ∷ more ∷ most ∷ words) two three = refl
+
+-- two words, three and more
+pub two_asked : {W : Type 0} (bytes : W → List ℕ) (words more others : List W) (verb first : W) (one other : List ℕ) → words ≡ verb ∷ more → more ≡ first ∷ others → length others ≡ 0 → one ≡ bytes verb → other ≡ bytes first
+    → asked_of (one ∷ other ∷ []) ≡ asked_of (map bytes words)
+two_asked {W} bytes words more [] verb first one other words_are more_are none one_is other_is =
+    ap (λ (word : List ℕ). asked_of (word ∷ other ∷ [])) one_is ∙ ap (λ (word : List ℕ). asked_of (bytes verb ∷ word ∷ [])) other_is
+    ∙ sym (ap (λ (own : List W). asked_of (map bytes own)) (words_are ∙ ap (λ (rest : List W). verb ∷ rest) more_are))
+two_asked bytes words more (next ∷ others) verb first one other words_are more_are none one_is other_is = absurd (omega (arith, none))
+
+pub three_asked : {W : Type 0} (bytes : W → List ℕ) (words more others rest : List W) (verb first second : W) (one other third : List ℕ) → words ≡ verb ∷ more → more ≡ first ∷ others → others ≡ second ∷ rest → length rest ≡ 0
+    → one ≡ bytes verb → other ≡ bytes first → third ≡ bytes second → asked_of (one ∷ other ∷ third ∷ []) ≡ asked_of (map bytes words)
+three_asked {W} bytes words more others [] verb first second one other third words_are more_are others_are none one_is other_is third_is =
+    ap (λ (word : List ℕ). asked_of (word ∷ other ∷ third ∷ [])) one_is ∙ ap (λ (word : List ℕ). asked_of (bytes verb ∷ word ∷ third ∷ [])) other_is
+    ∙ ap (λ (word : List ℕ). asked_of (bytes verb ∷ bytes first ∷ word ∷ [])) third_is
+    ∙ sym (ap (λ (own : List W). asked_of (map bytes own)) (words_are ∙ ap (λ (left : List W). verb ∷ left) (more_are ∙ ap (λ (left : List W). first ∷ left) others_are)))
+three_asked bytes words more others (next ∷ rest) verb first second one other third words_are more_are others_are none one_is other_is third_is = absurd (omega (arith, none))
+
+pub more_asked : {W : Type 0} (bytes : W → List ℕ) (words more others rest : List W) (verb first second : W) → words ≡ verb ∷ more → more ≡ first ∷ others → others ≡ second ∷ rest → (length rest == 0) ≡ false → None ≡ asked_of (map bytes words)
+more_asked bytes words more others [] verb first second words_are more_are others_are some = absurd (cc some)
+more_asked {W} bytes words more others (next ∷ rest) verb first second words_are more_are others_are some =
+    sym (ap (λ (own : List W). asked_of (map bytes own)) (words_are ∙ ap (λ (left : List W). verb ∷ left) (more_are ∙ ap (λ (left : List W). first ∷ left) others_are)))
 
 -- the first file of a command is a model, or else a Verilog text
 abbrev ReadsModel : Command → Type 0

@@ -37,7 +37,6 @@ pub enum Command<'a> {
 
 impl<'a> Command<'a> {
     /// The command that the words name, where they have a listed shape.
-    #[tactic(auto, using(crate::proofs::Commands::none_asked))]
     pub fn of_words(words: &'a [String]) -> Option<Command<'a>>
         ensures is { option_map named result ≡ asked_of (map string_bytes words.now) }
         ensures range { IfSome result HasRange }
