@@ -1,6 +1,7 @@
 -- When the outputs of a sample show their first numbers, and what its module says of itself.
-use Rattle.std.proofs.Common.{◌≡◌, ◌<◌, ℕ, zero, suc, List, [], ◌∷◌, All, None, Some, length, map, refl, ap, sym, subst, ◌∙◌}
+use Rattle.std.proofs.Common.{◌≡◌, ◌<◌, ◌≤◌, ℕ, zero, suc, List, [], ◌∷◌, All, None, Some, length, map, refl, ap, sym, subst, ◌∙◌, arith}
 use Rattle.std.specs.Prelude.{slice_get, slice_index_or}
+use Rattle.std.proofs.lemmas.List.{length-map}
 use Rattle.std.proofs.lemmas.Option.{slice_get-get_or, slice_get_within}
 use Rattle.dg_model.specs.declared.diagram.Diagram.{Diagram}
 use Rattle.dg_model.specs.declared.resolved.Resolved.{Resolved}
@@ -40,6 +41,11 @@ number_of_some f [] place block at = absurd (none_some block at)
 number_of_some f (e ∷ elements) zero block at = ap f (sym (same_Some e.block block at))
 number_of_some f (e ∷ elements) (suc place) block at = number_of_some f elements place block at
 
+number_past : (f : ℕ → ℕ) (elements : List RootElement) (place : ℕ) → length elements ≤ place → 0 ≡ slice_index_or (map (λ (e : RootElement). f e.block) elements) place 0
+number_past f [] place past = refl
+number_past f (e ∷ elements) zero past = absurd (omega (arith, past))
+number_past f (e ∷ elements) (suc place) past = number_past f elements place (omega (arith, past))
+
 module _ (diagram : Diagram) where
   -- the blocks of the outputs are there
   pub outputs_there : OutputsAreListed → IsWired diagram → (blocks : List ℕ) → AreBlocksOf (root_outputs diagram (attributes_of diagram)) blocks → All (λ block. block < length diagram.blocks) blocks
@@ -54,6 +60,13 @@ module _ (diagram : Diagram) where
     pub latency_there : (block clocks : ℕ) → slice_get blocks place ≡ Some block → clocks ≡ declared_latency diagram (attributes_of diagram) plan timing block → clocks ≡ latency_of_output diagram plan timing place
     latency_there block clocks at is =
         is ∙ number_of_some (declared_latency diagram (attributes_of diagram) plan timing) (root_outputs diagram (attributes_of diagram)) place block (ap (λ (xs : List ℕ). slice_get xs place) (sym are) ∙ at)
+
+    -- and where there is none
+    pub latency_past : length blocks ≤ place → 0 ≡ latency_of_output diagram plan timing place
+    latency_past past =
+        let elements = root_outputs diagram (attributes_of diagram) in
+        let size = ap (λ (xs : List ℕ). length xs) are ∙ length-map elements (λ e. e.block) in
+        number_past (declared_latency diagram (attributes_of diagram) plan timing) elements place (omega (arith, past, size))
 
   -- what a module says of itself is what is owed
   is_made : (plan : Resolved) (timing : Timing) (own : Module) (made : Made) → IsModuleOf own diagram plan timing → IsOwed diagram plan timing made → IsMade own diagram plan timing made
