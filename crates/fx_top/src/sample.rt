@@ -74,11 +74,15 @@ fn made_of(alloc: Global, checked: &Checked, planned: &Planned) -> Result<Made, 
 {
     checked.keeps_rules();
     dg_model::root_elements_are_listed();
+    let owed = multiplications(checked, &planned.resolved, &planned.times)?;
     let outputs = output_blocks(alloc, checked)?;
+    let out = latency_at(checked, planned, outputs.as_slice(), 0);
+    let slow = latency_at(checked, planned, outputs.as_slice(), 1);
+    drop(outputs);
     Ok(Made {
-        multiplications: multiplications(checked, &planned.resolved, &planned.times)?,
-        out_latency: latency_at(checked, planned, outputs.as_slice(), 0)?,
-        slow_latency: latency_at(checked, planned, outputs.as_slice(), 1)?,
+        multiplications: owed,
+        out_latency: out?,
+        slow_latency: slow?,
     })
 }
 
