@@ -8,8 +8,9 @@ use std::io::ErrorKind;
 pub fn words<R: Env + Alloc<A = Global>>(rt: &R) -> Result<Vec<String>, OutOfMemory> {
     let mut words = Vec::new(rt.alloc());
     match env::args(rt) {
-        Ok(args) => {
-            for word in args.skip(1) {
+        Ok(mut left) => {
+            let _ = left.next();
+            while let Some(word) = left.next() {
                 words.push(word)?;
             }
         }
