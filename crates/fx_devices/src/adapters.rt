@@ -1,5 +1,6 @@
 ghost use Rattle.std.specs.Prelude.{◌≡◌, ◌<◌, ◌≤◌, length, take, None, IfOk, IsOk, OnErr};
 ghost use Rattle.std.specs.Io.KnownBytes.{WriteAppends};
+ghost use Rattle.fx_devices.specs.inner.Fetching.{IsCounted};
 ghost use Rattle.fx_io.specs.Cause.{Rose};
 ghost use Rattle.fx_devices.specs.declared.adapters.Rest.TheVariants.{Dropped};
 ghost use Rattle.fx_io.specs.Sink.{also_took, untold};
@@ -43,17 +44,41 @@ impl<'a, R: Files> Shelf for FileShelf<'a, R> {
     ghost steady = { λ _. ⊥ };
 
     fn fetch(&mut self, alloc: Global, name: &str, limit: u64) -> Result<Text, FetchFault> {
-        match read_file(self.files, alloc, name, limit) {
-            Ok(bytes) if bytes.len() as u64 <= limit => Ok(Text::from_vec(alloc, bytes)?),
-            Ok(_) => {
-                self.overlong = self.overlong.saturating_add(1);
-                Err(FetchFault::TooLong { length: limit + 1 })
-            }
-            Err(fault) if fault.kind() == ErrorKind::OutOfMemory => Err(FetchFault::OutOfMemory),
-            Err(_) => {
-                self.faults = self.faults.saturating_add(1);
-                Err(FetchFault::Failed)
-            }
+        fetched(
+            self.files,
+            alloc,
+            name,
+            limit,
+            &mut self.faults,
+            &mut self.overlong,
+        )
+    }
+}
+
+/// A file of at most `limit` bytes, whole. A fault is counted, and so is a longer file.
+fn fetched<R: Files>(
+    files: &R,
+    alloc: Global,
+    name: &str,
+    limit: u64,
+    faults: &mut u64,
+    overlong: &mut u64,
+) -> Result<Text, FetchFault>
+    ensures { IsCounted limit faults.old faults.new overlong.old overlong.new result }
+{
+    match read_file(files, alloc, name, limit) {
+        Ok(bytes) if bytes.len() as u64 <= limit => match Text::from_vec(alloc, bytes) {
+            Ok(text) => Ok(text),
+            Err(OutOfMemory) => Err(FetchFault::OutOfMemory),
+        },
+        Ok(_) => {
+            *overlong = overlong.saturating_add(1);
+            Err(FetchFault::TooLong { length: limit + 1 })
+        }
+        Err(fault) if fault.kind() == ErrorKind::OutOfMemory => Err(FetchFault::OutOfMemory),
+        Err(_) => {
+            *faults = faults.saturating_add(1);
+            Err(FetchFault::Failed)
         }
     }
 }
