@@ -25,17 +25,23 @@ in-range low high v e = let both = and_both (int_le low v) (int_le v high) e in 
     and_both true b h = (refl, h)
     and_both false b h = absurd (cc h)
 
-place-below : (lines columns t place cells : ℕ) → t < lines → place < columns → cells ≡ lines * columns → t * columns + place < cells
-place-below lines columns t place cells below within is =
+-- the numbers of a sample's row stand among all
+pub row-below : (lines columns t cells : ℕ) → t < lines → cells ≡ lines * columns → t * columns + columns ≤ cells
+row-below lines columns t cells below is =
     let whole : (t + 1) * columns ≤ lines * columns = mul-le (t + 1) lines columns (omega (arith, below)) in
     let next : (t + 1) * columns ≡ t * columns + columns = next-one t columns in
-    omega (arith, within, is, whole, next)
+    omega (arith, is, whole, next)
   where
     mul-le : (a b c : ℕ) → a ≤ b → a * c ≤ b * c
     mul-le a b c h = grind (arith, h)
 
     next-one : (a b : ℕ) → (a + 1) * b ≡ a * b + b
     next-one a b = grind arith
+
+place-below : (lines columns t place cells : ℕ) → t < lines → place < columns → cells ≡ lines * columns → t * columns + place < cells
+place-below lines columns t place cells below within is =
+    let row = row-below lines columns t cells below is in
+    omega (arith, within, row)
 
 pub are-columns : (diagram : Diagram) (rows : Rows) → rows.columns ≡ length (input_columns diagram) → FitsColumns (input_columns diagram) rows
     → AreColumns (root_inputs diagram (attributes_of diagram)) (number_in rows) rows.lines

@@ -54,11 +54,8 @@ impl Responding {
         let numbers = rows.cells.as_slice();
         let columns = rows.columns as usize;
         let first = sample as usize * columns;
-        self.sim.step(
-            checked,
-            &numbers[first..first + columns],
-            self.row.as_mut_slice(),
-        );
+        let row = &numbers[first..first + columns];
+        self.sim.step(checked, row, self.row.as_mut_slice());
     }
 
     /// The numbers of the latest sample, one for each root output element.

@@ -1,13 +1,63 @@
-use Rattle.std.proofs.Common.{◌≡◌, ◌*◌, ◌+◌, ℤ, List, length, take, drop, sym, ap, subst, ◌∙◌}
+use Rattle.std.proofs.Common.{◌≡◌, ◌<◌, ◌≤◌, ◌*◌, ◌+◌, ℕ, ℤ, List, length, take, drop, sym, ap, subst, ◌∙◌, arith}
 use Rattle.std.specs.Vec.{with_items}
-use Rattle.std.proofs.lemmas.List.{with_items_is}
+use Rattle.std.proofs.lemmas.List.{length-map, with_items_is}
+use Rattle.fx_tables.specs.declared.table.Rows.{Rows}
+use Rattle.dg_model.specs.Attributes.{attributes_of}
+use Rattle.dg_model.specs.RootElements.{root_outputs}
 use Rattle.dg_sim.specs.Sim.{IsAt, IsStepped}
 use Rattle.dg_response.specs.declared.responding.Responding.{Responding}
 use Rattle.dg_response.specs.Responding.{IsBefore, IsRowAt, row_of}
-use Rattle.dg_response.specs.Response.{stimulus_of}
+use Rattle.dg_response.specs.Response.{column_of, stimulus_of}
 use Rattle.dg_response.proofs.Stepping.{is-at, moved-on, part-is, stimulus-is}
+use Rattle.dg_response.proofs.Stimulated.{row-below}
 use Rattle.dg_response.proofs.responding.Responding.step.Goals as goal
 use Rattle.dg_response.proofs.responding.Responding.step.Goals.{After-step}
+
+-- the numbers of the sample stand among those of the rows
+row-within : (rows : Rows) (numbers : List ℤ) (t : ℕ) → numbers ≡ rows.cells → t < rows.lines → t * rows.columns + rows.columns ≤ length numbers
+row-within rows numbers t same below =
+    let size = ap (λ (xs : List ℤ). length xs) same in
+    let inside = row-below rows.lines rows.columns t (length rows.cells) below rows.full in
+    omega (arith, size, inside)
+
+pub overflow_mul-first : goal.overflow_mul-first
+overflow_mul-first c =
+    let within = row-within c.args.rows.now c.as_slice-numbers.result.now c.args.sample c.as_slice-numbers.ensures c.requires.within in
+    omega arith
+
+pub overflow_add-row : goal.overflow_add-row
+overflow_add-row c =
+    let within = row-within c.args.rows.now c.as_slice-numbers.result.now c.args.sample c.as_slice-numbers.ensures c.requires.within in
+    omega arith
+
+pub slice_bounds-row-count : goal.slice_bounds-row-count
+slice_bounds-row-count c = omega arith
+
+pub slice_bounds-row-start : goal.slice_bounds-row-start
+slice_bounds-row-start c = omega arith
+
+pub slice_bounds-row-end : goal.slice_bounds-row-end
+slice_bounds-row-end c = row-within c.args.rows.now c.as_slice-numbers.result.now c.args.sample c.as_slice-numbers.ensures c.requires.within
+
+pub offset_bounds-numbers-first : goal.offset_bounds-numbers-first
+offset_bounds-numbers-first c =
+    let within = row-within c.args.rows.now c.as_slice-numbers.result.now c.args.sample c.as_slice-numbers.ensures c.requires.within in
+    omega arith
+
+pub step-requires-clause-sim : goal.step-requires-clause-sim
+step-requires-clause-sim c = c.requires.before.sim_of
+
+pub step-requires-clause-room : goal.step-requires-clause-room
+step-requires-clause-room c =
+    let samples = c.requires.before.samples in
+    let few = c.requires.before.few in
+    let below = c.requires.within in
+    omega (arith, samples, few, below)
+
+pub step-requires-clause-out : goal.step-requires-clause-out
+step-requires-clause-out c =
+    let diagram = c.args.checked.now.diagram in
+    ap length c.as_mut_slice.ensures.value ∙ c.requires.before.wide ∙ length-map (root_outputs diagram (attributes_of diagram)) column_of
 
 pub step-requires-clause-at : goal.step-requires-clause-at
 step-requires-clause-at c =
@@ -54,3 +104,8 @@ returns-clause-before c = (moved (goal.at.returns-clause-before c).After-step).0
 
 pub returns-clause-row : goal.returns-clause-row
 returns-clause-row c = (moved (goal.at.returns-clause-row c).After-step).1
+
+pub returns-clause-wide : goal.returns-clause-wide
+returns-clause-wide c =
+    let after = (goal.at.returns-clause-wide c).After-step in
+    ap length (row_is after) ∙ long after
