@@ -12,19 +12,26 @@ use crate::plain::without_pipelines;
 use crate::range::Range;
 use crate::timed::{BySharing, Timed};
 use dg_model::{CheckFault, Checked, Resolved, Rule, RuleFault, Shown};
-use fx_io::{Flags, Longs, OutOfMemory, Periods, Sizes};
+use fx_io::{OutOfMemory, Sequence};
 use hw_latency::Latencies;
 use hw_rules::{Times, multiplications, times_by};
 use std::alloc::Global;
+
+/// A copy of a list.
+fn copied<T: Copy>(alloc: Global, list: &Sequence<T>) -> Result<Sequence<T>, OutOfMemory>
+    ensures { IfOk result (λ copy. copy ≡ list.now) }
+{
+    Ok(Sequence::from_vec(Vec::from_slice(alloc, list.as_slice())?))
+}
 
 /// A copy of latencies.
 fn copy_of(alloc: Global, latencies: &Latencies) -> Result<Latencies, OutOfMemory>
     ensures { IfOk result (λ copy. copy ≡ latencies.now) }
 {
     Ok(Latencies {
-        lat: Longs::from_vec(latencies.lat.as_slice().to_vec(alloc)?),
-        tight: Periods::from_vec(latencies.tight.as_slice().to_vec(alloc)?),
-        fed: Flags::from_vec(latencies.fed.as_slice().to_vec(alloc)?),
+        lat: copied(alloc, &latencies.lat)?,
+        tight: copied(alloc, &latencies.tight)?,
+        fed: copied(alloc, &latencies.fed)?,
     })
 }
 
@@ -82,7 +89,7 @@ impl Timed {
             Timed::Gaining { blocks, total } => Ok(Judged::Bad {
                 rule: Rule::Latency,
                 shown: Shown::Latency {
-                    blocks: Sizes::from_vec(blocks.as_slice().to_vec(alloc)?),
+                    blocks: copied(alloc, blocks)?,
                     total: *total,
                 },
             }),
