@@ -4,7 +4,7 @@ ghost use Rattle.hw_explore.specs.Candidates.{IsFinding};
 ghost use Rattle.hw_explore.specs.Findings.{AreFindings, IsLeast, IsRanked};
 ghost use Rattle.hw_explore.specs.declared.rank.Rank.{Rank};
 ghost use Rattle.hw_explore.specs.inner.Best.{IsBest};
-ghost use Rattle.hw_explore.specs.inner.Timed.{AreTimed};
+ghost use Rattle.hw_explore.specs.inner.Timed.{AreTimed, CanFind};
 ghost use Rattle.hw_explore.specs.Range.{IsRange, most_pairs, pairs_of};
 
 use crate::finding::{Finding, Judged};
@@ -98,8 +98,7 @@ fn all_found<R: Threads + Sync, G: Gate + Sync>(
         .with_min_len(1)
         .map(
             |place: u32| -> Result<Finding, OutOfMemory>
-                requires { IsRange range × (place < pairs_of range)
-                    × AreTimed checked.now.diagram timed.now }
+                requires { CanFind checked.now.diagram timed.now range place }
                 ensures { IfOk result (IsFinding checked.entry.now.diagram range place) }
             {
                 gate.pass(u64::from(place));

@@ -7,15 +7,15 @@ use Rattle.fx_io.specs.declared.fault.OutOfMemory.{OutOfMemory}
 use Rattle.hw_explore.specs.declared.finding.Finding.{Finding}
 use Rattle.hw_explore.proofs.Found.{found_all}
 use Rattle.hw_explore.specs.Candidates.{IsFinding}
-use Rattle.hw_explore.specs.Range.{IsRange, pairs_of}
-use Rattle.hw_explore.specs.inner.Timed.{AreTimed}
+use Rattle.hw_explore.specs.Range.{pairs_of}
+use Rattle.hw_explore.specs.inner.Timed.{CanFind}
 use Rattle.hw_explore.proofs.exploring.all_found.Goals as goal
 
 pub collect-requires-clause-ready : goal.collect-requires-clause-ready
 collect-requires-clause-ready g c =
     let ends = c.into_par_iter.ensures in
-    let inside = nat_range-All (λ i. IsRange c.args.range × (i < pairs_of c.args.range) × AreTimed c.args.checked.now.diagram c.args.timed.now) 0 c.pairs-pairs.result
-    (λ i low high. (c.requires.range, subst (λ (n : ℕ). i < n) c.pairs-pairs.ensures high, c.requires.timed)) in
+    let inside = nat_range-All (λ i. CanFind c.args.checked.now.diagram c.args.timed.now c.args.range i) 0 c.pairs-pairs.result
+    (λ i low high. record { is_range = c.requires.range; there = subst (λ (n : ℕ). i < n) c.pairs-pairs.ensures high; timed_is = c.requires.timed }) in
     rw (c.map.ensures.base, c.with_min_len.ensures.base, c.map.ensures.f, ends.0, ends.1) (λ a b k d lt. (inside k d lt, λ y p. tt))
 
 pub returns : goal.returns
