@@ -1,11 +1,24 @@
-use Rattle.std.proofs.Common.{◌≡◌, ℕ, List, Option, ap, subst, ◌∙◌, arith}
+use Rattle.std.proofs.Common.{◌≡◌, ℕ, List, Option, length, ap, sym, subst, ◌∙◌, arith}
 use Rattle.fx_io.specs.Sink.{TookProperPrefix, also_took}
 use Rattle.fx_tables.specs.Response.{response}
 use Rattle.fx_tables.specs.RowText.{periods_of}
 use Rattle.fx_tables.proofs.ResponseLines.{took-part}
+use Rattle.vl_ast.specs.Driven.{output_ports}
+use Rattle.vl_ast.specs.declared.modules.Module.{Module}
 use Rattle.fx_replayed.proofs.Responses.{goes-on, line-on, more-on}
 use Rattle.fx_io.proofs.Taken.{also_took-append}
 use Rattle.fx_replayed.proofs.response.put_lines.Goals as goal
+
+pub line-requires : goal.line-requires
+line-requires g c =
+    let goes = c.loop-sample.invariant.goes in
+    c.row.ensures.long ∙ ap (λ (m : Module). length (output_ports m)) (c.advance.ensures.source ∙ goes.source) ∙ c.requires.wide ∙ ap (λ (periods : List ℕ). length periods) (sym goes.periods)
+
+pub returns-in-Err-clause-cause : goal.returns-in-Err-clause-cause
+returns-in-Err-clause-cause g c =
+    let later = c.loop-sample.invariant.later in
+    let rose = c.in-Err.ensures.cause in
+    omega (arith, later, rose)
 
 pub returns-in-Err-clause-cut : goal.returns-in-Err-clause-cut
 returns-in-Err-clause-cut g c = λ table is.
