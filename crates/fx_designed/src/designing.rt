@@ -48,10 +48,12 @@ fn plan_of(alloc: Global, text: &[u8]) -> Result<Plan, DesignFault>
 }
 
 /// The fault of a rule that a plan breaks on a diagram, by its line.
-fn told_of(alloc: Global, checked: &Checked, fault: &RuleFault) -> DesignFault
-    ensures { IsRefusedBy checked.now.diagram fault.now result }
+fn told_of(alloc: Global, checked: &Checked, fault: RuleFault) -> DesignFault
+    ensures { IsRefusedBy checked.now.diagram fault result }
 {
-    match rule_text(alloc, fault, checked.diagram().blocks.as_slice()) {
+    let line = rule_text(alloc, &fault, checked.diagram().blocks.as_slice());
+    drop(fault);
+    match line {
         Ok(line) => DesignFault::BreaksRule { line },
         Err(OutOfMemory) => DesignFault::OutOfMemory,
     }
@@ -65,7 +67,7 @@ fn planned_on(alloc: Global, checked: &Checked, plan: &Plan) -> Result<Planned, 
 {
     match plan_on(alloc, checked, plan) {
         Ok(planned) => Ok(planned),
-        Err(CheckFault::Broken(fault)) => Err(told_of(alloc, checked, &fault)),
+        Err(CheckFault::Broken(fault)) => Err(told_of(alloc, checked, fault)),
         Err(CheckFault::OutOfMemory) => Err(DesignFault::OutOfMemory),
     }
 }
