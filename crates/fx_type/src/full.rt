@@ -63,8 +63,12 @@ fn shifted_span(low: i128, high: i128, by: u32) -> Result<Span, TooWide>
         let greatest = high *ℤ pos (2 ^ by) in
         MatchResult result (IsSpan least greatest) (λ _. ¬ FitSpan least greatest) }
 {
-    let least = fx_num::shift_up(low, by).ok_or(TooWide)?;
-    let greatest = fx_num::shift_up(high, by).ok_or(TooWide)?;
+    let Some(least) = fx_num::shift_up(low, by) else {
+        return Err(TooWide);
+    };
+    let Some(greatest) = fx_num::shift_up(high, by) else {
+        return Err(TooWide);
+    };
     Ok(Span {
         low: least,
         high: greatest,
@@ -99,8 +103,12 @@ fn sum_of_spans(a: Span, b: Span) -> Result<Span, TooWide>
         let greatest = a.high +ℤ b.high in
         MatchResult result (IsSpan least greatest) (λ _. ¬ FitSpan least greatest) }
 {
-    let least = a.low.checked_add(b.low).ok_or(TooWide)?;
-    let greatest = a.high.checked_add(b.high).ok_or(TooWide)?;
+    let Some(least) = a.low.checked_add(b.low) else {
+        return Err(TooWide);
+    };
+    let Some(greatest) = a.high.checked_add(b.high) else {
+        return Err(TooWide);
+    };
     Ok(Span {
         low: least,
         high: greatest,

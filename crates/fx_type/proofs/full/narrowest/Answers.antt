@@ -21,3 +21,15 @@ returns-else-span-lt0 c =
     rw (to_z-of_z w16 c.args.frac c.ranges.frac)
     (unsigned_type c.args.span.low c.args.span.high c.args.frac h c.bit_length-above.result (omega (arith, ints)) above c.requires.least c.requires.greatest
     c.max-else-span-lt0.result (omega (arith, ints)) (omega arith))
+
+pub overflow_add-result : goal.overflow_add-result
+overflow_add-result c = omega (arith, ints)
+
+pub overflow_cast-span : goal.overflow_cast-span
+overflow_cast-span c = omega (arith, ints)
+
+pub overflow_cast-span-then-span-lt0 : goal.overflow_cast-span-then-span-lt0
+overflow_cast-span-then-span-lt0 c = omega (arith, ints)
+
+pub overflow_sub-span : goal.overflow_sub-span
+overflow_sub-span c = omega (arith, ints)

@@ -1,8 +1,10 @@
-use Rattle.std.proofs.Common.{take, get_or, ℤ, ◌+ℤ◌, pos, false, Bool, ap₂, subst₂, sym, ◌∙◌}
+use Rattle.std.proofs.Common.{take, get_or, ℤ, ◌+ℤ◌, pos, false, Bool, ap₂, subst, subst₂, sym, ◌∙◌}
 use Rattle.std.specs.Int.{w16}
 use Rattle.std.proofs.lemmas.Int.{to_z-of_z}
+use Rattle.std.proofs.lemmas.List.{take_all}
 use Rattle.fx_type.specs.declared.kind.FxType.{FxType}
 use Rattle.fx_type.specs.declared.kind.FxType.TheVariants.{Num}
+use Rattle.fx_type.specs.FullType.{Terms}
 use Rattle.fx_type.specs.Span.{least_term, greatest_term, sum_of, IsSpan, FitSpan}
 use Rattle.fx_type.proofs.Ends.{term_fits, parts_fit, sum_of-more, refuses}
 use Rattle.fx_type.proofs.full.sum_span.Goals as goal
@@ -46,3 +48,20 @@ loop-subtracted-preserved c =
       high = c.in_ok-total.ensures.high ∙ ap₂ ◌+ℤ◌ inv.high s.high
           ∙ sym (sum_of-more (greatest_term c.args.frac) c.args.terms.now i no_term c.loop-subtracted-test.true);
     })
+
+pub term_span-requires-clause-valid : goal.term_span-requires-clause-valid
+unfolding no_term
+term_span-requires-clause-valid c = c.requires.valid c.loop-subtracted.subtracted-index no_term c.loop-subtracted-test.true
+
+pub term_span-requires-clause-least : goal.term_span-requires-clause-least
+unfolding no_term
+term_span-requires-clause-least c = rw (to_z-of_z w16 c.args.frac c.ranges.frac) (c.requires.least c.loop-subtracted.subtracted-index no_term c.loop-subtracted-test.true)
+
+pub term_span-requires-clause-greatest : goal.term_span-requires-clause-greatest
+term_span-requires-clause-greatest c = rw (to_z-of_z w16 c.args.frac c.ranges.frac) c.requires.greatest
+
+pub returns : goal.returns
+returns c =
+    let f = to_z-of_z w16 c.args.frac c.ranges.frac in
+    let inv : IsSpan (sum_of (least_term c.args.frac) (take c.loop-subtracted.subtracted-index c.args.terms.now)) (sum_of (greatest_term c.args.frac) (take c.loop-subtracted.subtracted-index c.args.terms.now)) c.loop-subtracted.total = rw f at c.loop-subtracted.invariant in
+    subst (λ (xs : Terms). IsSpan (sum_of (least_term c.args.frac) xs) (sum_of (greatest_term c.args.frac) xs) c.loop-subtracted.total) (take_all c.loop-subtracted.subtracted-index c.args.terms.now c.loop-subtracted-test.false) inv
