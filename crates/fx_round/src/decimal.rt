@@ -35,10 +35,11 @@ fn is_minus(text: &[u8]) -> bool
 fn after_sign(text: &[u8]) -> &[u8]
     ensures { result.now ≡ after_sign text.now }
 {
-    if text.is_empty() {
-        text
-    } else if text[0] == b'+' || text[0] == b'-' {
-        &text[1..]
+    let Some((first, rest)) = text.split_first() else {
+        return text;
+    };
+    if *first == b'+' || *first == b'-' {
+        rest
     } else {
         text
     }
@@ -49,10 +50,11 @@ fn split_fraction(text: &[u8]) -> (&[u8], &[u8])
     ensures front { result.0.now ≡ fraction_digits text.now }
     ensures back { result.1.now ≡ after_fraction text.now }
 {
-    if text.is_empty() {
-        text.split_at(0)
-    } else if text[0] == b'.' {
-        split_digits(&text[1..])
+    let Some((first, rest)) = text.split_first() else {
+        return text.split_at(0);
+    };
+    if *first == b'.' {
+        split_digits(rest)
     } else {
         text.split_at(0)
     }
@@ -96,13 +98,13 @@ fn written_exponent(text: &[u8]) -> Option<i16>
 fn exponent_of(text: &[u8]) -> Option<i16>
     ensures { result ≡ exponent_of text.now }
 {
-    if text.is_empty() {
+    let Some((first, rest)) = text.split_first() else {
         return Some(0);
-    }
-    if text[0] != b'e' && text[0] != b'E' {
+    };
+    if *first != b'e' && *first != b'E' {
         return None;
     }
-    written_exponent(&text[1..])
+    written_exponent(rest)
 }
 
 /// The number `start` with further digits behind it, or the least number of 19 digits where it is
