@@ -121,3 +121,18 @@ lowered_far-requires c = record {
   some = omega (arith, ints, limits c.in-Num.is c.requires.to, c.if-frac-ge0.false);
   word = (number_type c.in-Num.is c.requires.to).0;
 }
+
+pub overflow_cast-up : goal.overflow_cast-up
+overflow_cast-up c = omega (arith, ints, limits c.in-Num.is c.requires.to, limits c.in-Num-from.is c.requires.from, c.if-up-ge0.true)
+
+pub overflow_sub-up-else-up-ge0 : goal.overflow_sub-up-else-up-ge0
+overflow_sub-up-else-up-ge0 c = omega (arith, ints, limits c.in-Num.is c.requires.to, limits c.in-Num-from.is c.requires.from, c.if-up-ge0.false)
+
+pub overflow_sub-frac : goal.overflow_sub-frac
+overflow_sub-frac c = omega (arith, ints, limits c.in-Num.is c.requires.to)
+
+pub overflow_cast-frac : goal.overflow_cast-frac
+overflow_cast-frac c = omega (arith, ints, limits c.in-Num.is c.requires.to, c.if-frac-ge0.true)
+
+pub overflow_cast-frac-in-Logical-2 : goal.overflow_cast-frac-in-Logical-2
+overflow_cast-frac-in-Logical-2 c = omega (arith, ints, limits c.in-Num.is c.requires.to, c.if-frac-ge0.false)
