@@ -13,7 +13,7 @@ use Rattle.hw_net.specs.Growing.{with_net}
 use Rattle.hw_net.specs.declared.netlist.Net.{Net}
 use Rattle.hw_net.specs.Frames.{is_frame, counted_frame, counter_from, counter_of}
 use Rattle.hw_net.specs.ByFrame.{is_same_frame, compare_frames, number_at_frame}
-use Rattle.hw_net.specs.inner.Index.{IsIndex}
+use Rattle.hw_net.specs.inner.Index.{IsIndex, IsKnown}
 use Rattle.fx_io.proofs.Tests.{tied}
 
 -- the index tells frames apart as they are
@@ -101,6 +101,14 @@ module _ (nets : List Net) (entries : List (Frame × ℕ)) (net : Net) (index : 
             let none : counter_of nets frame ≡ None = sym (index.each frame) ∙ ap (number_at_frame entries) (sym (same-is own frame e)) ∙ absent in
             rw none refl
         by frame false e = index.each frame ∙ sym (or-none (counter_of nets frame))
+
+  -- a net that is no first Counter of a frame
+  pub index-kept : IsKnown entries (counted_frame net.kind) → IsIndex (nets ++ net ∷ []) entries
+  index-kept known = go (counted_frame net.kind) refl known
+    where
+      go : (found : Option Frame) → counted_frame net.kind ≡ found → IsKnown entries found → IsIndex (nets ++ net ∷ []) entries
+      go None counts known = index-other counts
+      go (Some own) counts known = index-known own counts (subst IsSome (index.each own) known)
 
 -- a net in place of one that counts the same
 pub counter-set : (nets : List Net) (k start : ℕ) (was is : Net) (frame : Frame) → slice_get nets k ≡ Some was → counted_frame is.kind ≡ counted_frame was.kind → counter_from (set nets k is) start frame ≡ counter_from nets start frame

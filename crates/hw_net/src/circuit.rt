@@ -1,11 +1,12 @@
 //! A netlist that grows: its data, with an index of its Counters.
 ghost use Rattle.std.specs.Prelude.{◌≡◌, ◌↔◌, ℕ, List, ◌+◌, ◌*◌, ◌-◌, ◌<◌, ◌++◌, ◌∷◌, [], length};
 ghost use Rattle.std.specs.Prelude.{IfOk, OnOk, OnErr, Option};
-ghost use Rattle.std.specs.Prelude.{None, Some, IsTrue, false, pos};
+ghost use Rattle.std.specs.Prelude.{None, Some, IsTrue, MatchOption, false, pos};
+ghost use Rattle.hw_net.specs.ByFrame.{number_at_frame};
 ghost use Rattle.hw_net.specs.Circuit.{Circuit};
 ghost use Rattle.hw_net.specs.Frames.{counter_of, counted_frame};
 ghost use Rattle.hw_net.specs.Growing.{with_net, IsCounted, IsResize, IsConnected};
-ghost use Rattle.hw_net.specs.inner.Index.{IsIndex};
+ghost use Rattle.hw_net.specs.inner.Index.{IsIndex, IsKnown};
 ghost use Rattle.fx_num.specs.Word.{IsWord, InWord};
 
 use crate::frame_index::FrameIndex;
@@ -171,12 +172,17 @@ impl Netlist {
     }
 }
 
-/// The frame that a net counts, if it is a Counter.
-fn counted_frame(kind: &NetKind) -> Option<Frame>
-    ensures { result ≡ counted_frame kind.now }
+/// The frame of which a net of this kind would be the first Counter, if of any.
+fn new_frame(counters: &FrameIndex, kind: &NetKind) -> Option<Frame>
+    ensures { MatchOption result (IsKnown counters.now (counted_frame kind.now))
+        (λ frame. (counted_frame kind.now ≡ Some frame)
+        × (number_at_frame counters.now frame ≡ None)) }
 {
     match kind {
-        NetKind::Counter { frame } => Some(*frame),
+        NetKind::Counter { frame } => match counters.find(*frame) {
+            Some(_) => None,
+            None => Some(*frame),
+        },
         NetKind::Comb { .. }
         | NetKind::Reg { .. }
         | NetKind::EnReg { .. }
@@ -197,14 +203,10 @@ fn append(nets: &mut Nets, counters: &mut FrameIndex, net: Net) -> Result<u32, O
         // word: the number of a net, of 32 bits
         return Err(OutOfMemory);
     };
-    let Some(frame) = counted_frame(&net.kind) else {
+    let Some(frame) = new_frame(counters, &net.kind) else {
         nets.push(net)?;
         return Ok(number);
     };
-    if counters.find(frame).is_some() {
-        nets.push(net)?;
-        return Ok(number);
-    }
     counters.put(frame, number)?;
     if let Err(fault) = nets.push(net) {
         counters.remove(frame);
