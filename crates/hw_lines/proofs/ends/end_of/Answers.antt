@@ -1,6 +1,8 @@
-use Rattle.std.proofs.Common.{rules, ◌≡◌, ◌-◌, ◌*◌, ◌/◌, ◌%◌, ℕ, slice_index_or, IfOk, OnOk, ap, arith, FitsSigned}
+use Rattle.std.proofs.Common.{rules, ◌≡◌, ◌-◌, ◌*◌, ◌/◌, ◌%◌, ◌^◌, ◌<◌, ◌≤◌, ℕ, slice_index_or, IfOk, OnOk, ap, arith, length, mul-le-mul_right, mul-pos, FitsSigned}
 use Rattle.std.specs.Int.{w128}
 use Rattle.std.proofs.lemmas.Int.{to_z-of_z}
+use Rattle.std.proofs.lemmas.Nat.{mod_below}
+use Rattle.std.proofs.Math.Nat.{le-mul_of_pos_right}
 use Rattle.hw_lines.specs.Register.{CanHold}
 use Rattle.hw_lines.specs.inner.Ends.{IsEnd, Ends}
 use Rattle.hw_lines.proofs.Ended.{nothing-ends, plain-ends, registered-ends, bridge-ends, phase-ends}
@@ -8,6 +10,63 @@ use Rattle.hw_lines.proofs.ends.end_of.Goals as goal
 
 pub bounds-taps-one : goal.bounds-taps-one
 bounds-taps-one c = rw c.from-own.ensures c.requires.size
+
+pub offset_bounds-taps-one : goal.offset_bounds-taps-one
+offset_bounds-taps-one c =
+    let inside : c.args.one.shift / c.from-own.result < length c.args.taps.now = rw c.from-own.ensures c.requires.size in
+    omega (arith, inside)
+
+pub nonzero_div-tap : goal.nonzero_div-tap
+nonzero_div-tap c = omega (arith, c.requires.some, c.from-own.ensures)
+
+pub nonzero_rem-rest : goal.nonzero_rem-rest
+nonzero_rem-rest c = omega (arith, c.requires.some, c.from-own.ensures)
+
+pub overflow_cast-rest : goal.overflow_cast-rest
+overflow_cast-rest c =
+    let below : c.args.one.shift % c.args.source.frame.period < c.args.source.frame.period = mod_below c.args.one.shift c.args.source.frame.period c.requires.some in
+    let wide : c.args.source.frame.period ≤ c.args.source.frame.period * c.args.net.now.cycles = le-mul_of_pos_right c.args.source.frame.period c.requires.cycles in
+    let few : c.args.one.shift % c.args.source.frame.period < 2 ^ 32 = omega (arith, below, wide, c.requires.room) in
+    record { fits = rw c.from-own.ensures few }
+
+pub overflow_mul-slot : goal.overflow_mul-slot
+overflow_mul-slot c =
+    let rest : ℕ = c.args.one.shift % c.args.source.frame.period in
+    let below : rest < c.args.source.frame.period = mod_below c.args.one.shift c.args.source.frame.period c.requires.some in
+    let less : rest * c.args.net.now.cycles ≤ c.args.source.frame.period * c.args.net.now.cycles = mul-le-mul_right c.args.net.now.cycles (omega (arith, below)) in
+    let few : rest * c.args.net.now.cycles < 2 ^ 32 = omega (arith, less, c.requires.room) in
+    record { fits = rw (c.from-own.ensures, c.cycles.ensures) few }
+
+pub overflow_sub-slot : goal.overflow_sub-slot
+overflow_sub-slot c =
+    let rest : ℕ = c.args.one.shift % c.args.source.frame.period in
+    let some = rw c.from-own.ensures at c.if-rest-eq0.false in
+    let more : 0 < rest * c.args.net.now.cycles = mul-pos (omega (arith, some)) c.requires.cycles in
+    rw (c.from-own.ensures, c.cycles.ensures) (omega (arith, more))
+
+pub overflow_sub-source : goal.overflow_sub-source
+overflow_sub-source c =
+    let below : c.args.one.shift % c.args.source.frame.period < c.args.source.frame.period = mod_below c.args.one.shift c.args.source.frame.period c.requires.some in
+    rw c.from-own.ensures (omega (arith, below))
+
+pub bridge_at-requires-clause-live : goal.bridge_at-requires-clause-live
+bridge_at-requires-clause-live c =
+    let below : c.args.one.shift % c.args.source.frame.period < c.args.source.frame.period = mod_below c.args.one.shift c.args.source.frame.period c.requires.some in
+    rw c.from-own.ensures (omega (arith, below))
+
+pub bridge_at-requires-clause-from : goal.bridge_at-requires-clause-from
+bridge_at-requires-clause-from c =
+    let held : CanHold c.args.net.now (slice_index_or c.args.taps.now (c.args.one.shift / c.args.source.frame.period) 0) c.args.source.first = c.requires.held (c.args.one.shift / c.args.source.frame.period) 0 c.requires.size in
+    rw c.from-own.ensures held.there
+
+pub register_at-requires-clause-cycles : goal.register_at-requires-clause-cycles
+register_at-requires-clause-cycles c = c.requires.cycles
+
+pub register_at-requires-clause-period : goal.register_at-requires-clause-period
+register_at-requires-clause-period c = c.requires.some
+
+pub reader_of-reader-requires : goal.reader_of-reader-requires
+reader_of-reader-requires c = omega (arith, c.requires.early, c.requires.use_is.near)
 
 pub returns-then-rest-eq0-clause-end : goal.returns-then-rest-eq0-clause-end
 returns-then-rest-eq0-clause-end c = rw c.from-own.ensures (registered-ends c.args.net.now c.args.source c.args.taps.now c.args.one c.requires c.tap_holds.ensures c.if-source.true (rw c.from-own.ensures at c.if-rest-eq0.true))
