@@ -1,4 +1,4 @@
-use Rattle.std.proofs.Common.{◌≡◌, ◌<◌, ℕ, List, false, length, get_or, Some, None, ap, sym, ◌∙◌}
+use Rattle.std.proofs.Common.{◌≡◌, ◌<◌, ℕ, List, false, length, get_or, Some, None, ap, sym, ◌∙◌, arith}
 use Rattle.std.specs.Prelude.{Option}
 use Rattle.std.proofs.lemmas.Option.{slice_get-get_or}
 use Rattle.hw_arcs.specs.declared.arc.Arc.{Arc}
@@ -26,3 +26,8 @@ returns-in-Some-clause-slack c = asked (λ arc. arc.slack) c.args.arcs.now _ c.i
 
 pub returns-in-Some-clause-small : goal.returns-in-Some-clause-small
 returns-in-Some-clause-small c = c.requires.known.gain c.in-Some.number _ (slice_get-get_or c.args.arcs.now c.in-Some.number no_arc (inside (goal.at.returns-in-Some-clause-small c).In-Some))
+
+pub offset_bounds-arcs-number : goal.offset_bounds-arcs-number
+offset_bounds-arcs-number c =
+    let below = inside (goal.at.offset_bounds-arcs-number c).In-Some in
+    omega (arith, below)

@@ -1,4 +1,4 @@
-use Rattle.std.proofs.Common.{false, ap, ◌∙◌}
+use Rattle.std.proofs.Common.{◌<◌, false, ap, ◌∙◌, length, arith}
 use Rattle.std.specs.Prelude.{None, Some}
 use Rattle.std.proofs.lemmas.Option.{slice_get-get_or}
 use Rattle.hw_arcs.proofs.WayBack.{walking_on, walking_falls, walking_ends, walking_stops}
@@ -25,3 +25,8 @@ walk-smaller c =
 pub returns : goal.returns
 returns c =
     walking_stops c.args.arcs.now c.args.tight.now c.args.first c.walk.path.items c.as_slice.result.now c.walk.at c.walk.met.items c.index.result.now c.place_of.result c.index.ensures c.walk-test.false c.as_slice.ensures.value c.place_of.ensures c.walk.invariant
+
+pub offset_bounds-arcs-number : goal.offset_bounds-arcs-number
+offset_bounds-arcs-number c =
+    let below : c.in-Some.number < length c.args.arcs.now = c.requires.given.given c.walk.at c.in-Some.number (slice_get-get_or c.args.tight.now c.walk.at None c.walk.invariant.inside ∙ ap Some c.in-Some.is) in
+    omega (arith, below)

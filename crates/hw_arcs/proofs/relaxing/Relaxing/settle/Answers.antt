@@ -27,6 +27,12 @@ bounds-arcs-number c =
     let here = c.requires.row.counted c.loop-number.number-index number (slice_get-get_or c.args.row.now c.loop-number.number-index 0 c.loop-number-test.true) in
     slice_get_within c.args.arcs.now number here.0 here.1
 
+pub offset_bounds-arcs-number : goal.offset_bounds-arcs-number
+offset_bounds-arcs-number c =
+    let number = get_or c.args.row.now c.loop-number.number-index 0 in
+    let here = c.requires.row.counted c.loop-number.number-index number (slice_get-get_or c.args.row.now c.loop-number.number-index 0 c.loop-number-test.true) in
+    omega (arith, slice_get_within c.args.arcs.now number here.0 here.1)
+
 pub relax-requires : goal.relax-requires
 relax-requires c =
     let number = get_or c.args.row.now c.loop-number.number-index 0 in

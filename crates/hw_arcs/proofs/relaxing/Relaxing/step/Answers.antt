@@ -27,6 +27,13 @@ bounds-rows-block c =
     let size = c.requires.rows.size in
     omega (arith, there, size)
 
+pub offset_bounds-rows-block : goal.offset_bounds-rows-block
+offset_bounds-rows-block c =
+    let queue : c.args.self.now.queue.items ≡ c.in-Some.block ∷ c.pop_front.new.self.items = c.in-Some.ensures.items in
+    let there = pop_there c.args.arcs.now (length c.args.self.now.lat.items) c.in-Some.block c.pop_front.new.self.items (seen c.args.self.now) c.requires.state queue in
+    let size = c.requires.rows.size in
+    omega (arith, there, size)
+
 pub settle-requires-clause-row : goal.settle-requires-clause-row
 settle-requires-clause-row c =
     let queue : c.args.self.now.queue.items ≡ c.in-Some.block ∷ c.pop_front.new.self.items = c.in-Some.ensures.items in
