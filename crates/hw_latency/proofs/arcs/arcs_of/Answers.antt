@@ -1,4 +1,4 @@
-use Rattle.std.proofs.Common.{◌≡◌, ◌<◌, ◌≤◌, List, Some, slice_get, length, get_or, sym, ap, subst, ◌∙◌}
+use Rattle.std.proofs.Common.{◌≡◌, ◌<◌, ◌≤◌, List, Some, slice_get, length, get_or, sym, ap, subst, ◌∙◌, arith}
 use Rattle.std.proofs.lemmas.Option.{slice_get-get_or}
 use Rattle.dg_model.specs.declared.diagram.Block.{Block}
 use Rattle.dg_model.specs.declared.diagram.Diagram.{Diagram}
@@ -53,3 +53,8 @@ returns-clause-is c =
 
 pub returns-clause-known : goal.returns-clause-known
 returns-clause-known c = c.loop-place.invariant.known
+
+pub overflow_cast-place : goal.overflow_cast-place
+overflow_cast-place c =
+    let blocks : length c.as_slice-blocks.result.now ≡ length c.args.checked.now.diagram.blocks = ap (λ (bs : List Block). length bs) (c.as_slice-blocks.ensures ∙ ap (λ (d : Diagram). d.blocks) c.diagram-diagram.ensures) in
+    record { fits = omega (arith, blocks, c.loop-place-test.true, c.keeps_rules.ensures.checked.wired.size) }

@@ -10,6 +10,12 @@ bounds-rows-place c =
     let there = c.requires.there in
     omega (arith, size, there)
 
+pub offset_bounds-rows-place : goal.offset_bounds-rows-place
+offset_bounds-rows-place c =
+    let size = c.requires.rows.size in
+    let there = c.requires.there in
+    omega (arith, size, there)
+
 pub is_mark-mark-requires-clause-below : goal.is_mark-mark-requires-clause-below
 is_mark-mark-requires-clause-below c =
     let size = c.requires.rows.size in
