@@ -57,10 +57,11 @@ fn element_name(
         name.items ≡ element_name_of (undoubled false path.now) width element) }
 {
     let mut name = plain_name(alloc, path)?;
-    if width > 1 {
-        name.push(b'_')?;
-        put_number(&mut name, element)?;
+    if width <= 1 {
+        return Ok(name);
     }
+    name.push(b'_')?;
+    put_number(&mut name, element)?;
     Ok(name)
 }
 
@@ -186,8 +187,7 @@ impl Names {
             AreTaken self.new (name.items ∷ list)) }
     {
         self.take(alloc, name.as_slice())?;
-        let text = Text::from_vec(alloc, name)?;
-        Ok(text)
+        Text::from_vec(alloc, name)
     }
 
     /// Gives and takes a free name for a port that is to have this one.
