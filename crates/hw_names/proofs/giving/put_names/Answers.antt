@@ -62,3 +62,20 @@ offset_bounds-firsts-block c =
     let size = c.in_ok-columns.ensures.size in
     let whole = ap (λ (xs : List ℕ). length xs) c.as_slice-firsts.ensures.value in
     omega (arith, low, many, size, whole)
+
+pub bounds-blocks-column : goal.bounds-blocks-column
+bounds-blocks-column c = c.loop-column-test.true
+
+pub offset_bounds-blocks-column : goal.offset_bounds-blocks-column
+offset_bounds-blocks-column c = omega (arith, c.loop-column-test.true)
+
+pub overflow_cast-element : goal.overflow_cast-element
+overflow_cast-element c =
+    let column = column_on c.args.checked.now.diagram c.args.side c.args.blocks.now c.loop-column.column c.keeps_rules.ensures.checked c.root_elements_are_listed.ensures.inputs c.root_elements_are_listed.ensures.outputs c.requires c.loop-column-test.true in
+    let low = block_there c.args.checked.now.diagram c.args.side c.args.blocks.now c.loop-column.column column in
+    record { fits = omega (arith, low, c.keeps_rules.ensures.checked.wired.size) }
+
+pub returns : goal.returns
+returns c =
+    let all : c.loop-column.column ≡ length c.args.blocks.now = omega (arith, c.loop-column-test.false, c.loop-column.auto.column-end) in
+    subst (λ (n : ℕ). AddsNames c.args.checked.now.diagram c.args.side c.args.names.now c.loop-column.names c.args.texts.now c.loop-column.texts n) all c.loop-column.invariant
