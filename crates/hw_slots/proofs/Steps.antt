@@ -1,8 +1,10 @@
 -- One operation more, in counts and in greatest numbers.
-use Rattle.std.proofs.Common.{◌≡◌, ℕ, zero, suc, ◌+◌, ◌<◌, ◌≤◌, Bool, true, false, cond, List, [], ◌∷◌, ◌++◌, length, map, take, refl, sym, ap, subst, ◌∙◌, inl, inr, length-append, arith}
+use Rattle.std.proofs.Common.{◌≡◌, ℕ, zero, suc, ◌+◌, ◌-◌, ◌*◌, ◌/◌, ◌%◌, min, ◌<◌, ◌≤◌, Bool, true, false, cond, List, [], ◌∷◌, ◌++◌, length, map, take, refl, sym, ap, subst, ◌∙◌, inl, inr, length-append, arith}
 use Rattle.std.specs.Prelude.{slice_get, Option, Some, count_by, max, ◌&&◌, ◌==◌}
 use Rattle.std.proofs.lemmas.Bool.{eqb-true, ne_eqb, false≢true, and_parts, cases_lt}
 use Rattle.std.proofs.lemmas.List.{take_all}
+use Rattle.std.proofs.lemmas.Nat.{div-add-mod', div-mul-add, mod_below}
+use Rattle.std.proofs.Math.Nat.{suc-mul}
 use Rattle.std.proofs.lemmas.Option.{none-some, same_Some}
 use Rattle.dg_model.specs.Widths.{greatest}
 use Rattle.hw_slots.specs.declared.operation.Operation.{Operation}
@@ -118,6 +120,27 @@ greatest_more operations f i o owner level number old new at gives raises before
 
 pub greatest_end : (operations : List Operation) (f : ℕ → ℕ → Operation → ℕ) (i : ℕ) (tally : List ((ℕ × ℕ) × ℕ)) → length operations ≤ i → AreGreatest (take i operations) f tally → AreGreatest operations f tally
 greatest_end operations f i tally end made = subst (λ (os : List Operation). AreGreatest os f tally) (take_all i operations end) made
+
+-- a number shared out is the quotient, and one more where something is left
+pub shared_is : (count parts : ℕ) → 0 < parts → count / parts + min 1 (count % parts) ≡ shared_out count parts
+shared_is count parts some = go (count % parts) refl
+  where
+    split : count / parts * parts + count % parts ≡ count
+    split = div-add-mod' count parts
+
+    go : (rest : ℕ) → count % parts ≡ rest → count / parts + min 1 rest ≡ shared_out count parts
+    go zero e =
+        let none : min 1 0 ≡ 0 = omega arith in
+        let whole : count + (parts - 1) ≡ count / parts * parts + (parts - 1) = omega (arith, split, e) in
+        let shared : (count + (parts - 1)) / parts ≡ count / parts = ap (λ (n : ℕ). n / parts) whole ∙ div-mul-add (count / parts) parts (parts - 1) (omega (arith, some)) in
+        omega (arith, none, shared)
+    go (suc rest) e =
+        let one : min 1 (suc rest) ≡ 1 = omega arith in
+        let below : count % parts < parts = mod_below count parts some in
+        let next : suc (count / parts) * parts ≡ count / parts * parts + parts = suc-mul (count / parts) parts in
+        let whole : count + (parts - 1) ≡ suc (count / parts) * parts + rest = omega (arith, split, e, next, some) in
+        let shared : (count + (parts - 1)) / parts ≡ suc (count / parts) = ap (λ (n : ℕ). n / parts) whole ∙ div-mul-add (suc (count / parts)) parts rest (omega (arith, below, e)) in
+        omega (arith, one, shared)
 
 pub slots_given : (operations : List Operation) (multipliers : ℕ) (counts : List ((ℕ × ℕ) × ℕ)) (o : Operation) (count slots : ℕ) → AreCounts operations counts → count ≡ tally_at counts o.kind o.level → slots ≡ shared_out count multipliers
     → (other later : ℕ) → needed operations multipliers other later o ≡ cond ((o.period == other) && (o.level == later)) slots 0

@@ -1,20 +1,10 @@
 ghost use Rattle.std.specs.Prelude.{◌≡◌, ◌<◌, IfOk};
-ghost use Rattle.hw_slots.specs.Slots.{shared_out};
 ghost use Rattle.hw_slots.specs.inner.Made.{AreCounts, AreLevels, AreMost, AreWidths};
 
 use crate::operation::Operation;
 use crate::tally::{Tally, total};
 use fx_io::OutOfMemory;
 use std::alloc::Global;
-
-/// How many slots so many operations need.
-fn slot_count(count: u64, multipliers: u64) -> Result<u64, OutOfMemory>
-    requires some { 0 < multipliers }
-    ensures { IfOk result (λ slots. slots ≡ shared_out count multipliers) }
-{
-    let raised = total(count, multipliers - 1)?;
-    Ok(raised / multipliers)
-}
 
 /// How many slots each level of each period takes.
 pub fn widths_of(
@@ -31,7 +21,7 @@ pub fn widths_of(
     for operation in operations {
         let operation = *operation;
         let count = counts.get(operation.kind, operation.level);
-        let slots = slot_count(count, multipliers)?;
+        let slots = count.div_ceil(multipliers);
         widths.raise(operation.period, operation.level, slots)?;
     }
     Ok(widths)
