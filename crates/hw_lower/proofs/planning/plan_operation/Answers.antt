@@ -1,10 +1,11 @@
-use Rattle.std.proofs.Common.{◌≡◌, ◌*ℤ◌, ℕ, ℤ, rules, length, subst, to_z, of_z, arith}
+use Rattle.std.proofs.Common.{◌≡◌, ◌*ℤ◌, ℕ, ℤ, Bool, List, rules, length, subst, to_z, of_z, arith}
 use Rattle.std.specs.Int.{w128}
 use Rattle.std.proofs.lemmas.Int.{to_z-of_z}
+use Rattle.fx_type.specs.declared.kind.FxType.{FxType}
 use Rattle.fx_type.specs.declared.kind.FxType.TheVariants.{Logical as LogicalType}
 use Rattle.dg_model.specs.declared.op.Op.{Op}
 use Rattle.dg_model.specs.declared.op.Op.TheVariants.{Sum, Gain, Product, Switch, Relational, Logic, Convert, Pass}
-use Rattle.dg_model.specs.Operation.{operation_of, Gives, HasArity, HasResultType, IsConverted, type_of, value_of}
+use Rattle.dg_model.specs.Operation.{operation_of, Gives, HasArity, HasFullType, HasParameters, HasResultType, HasSigns, IsConverted, type_of, value_of}
 use Rattle.hw_lower.specs.inner.Spread.{OfArguments}
 use Rattle.hw_lower.proofs.Arguments.{plan-of, plan-typed, few-inputs, gate-inputs}
 use Rattle.hw_lower.proofs.Chained.{made-self}
@@ -14,6 +15,13 @@ use Rattle.hw_lower.proofs.planning.plan_operation.Goals as goal
 -- Pass has one input
 one-passed : (op : Op) (n : ℕ) → op ≡ Pass → HasArity op n → n ≡ 1
 one-passed op n is has = subst (λ (o : Op). HasArity o n) is has
+
+-- what a known operation has
+arity_of : {op known : Op} (n : ℕ) → op ≡ known → HasArity op n → HasArity known n
+arity_of n is has = subst (λ (o : Op). HasArity o n) is has
+
+full_of : {op known : Op} (signs : List Bool) (types : List FxType) → op ≡ known → HasFullType op signs types → HasFullType known signs types
+full_of signs types is has = subst (λ (o : Op). HasFullType o signs types) is has
 
 pub returns-in-Sum : goal.returns-in-Sum
 returns-in-Sum c =
@@ -85,3 +93,93 @@ gate-requires c = record {
   some = gate-inputs c.in-Logic.operator (length c.args.call.now.types.now) (subst (λ (op : Op). HasArity op (length c.args.call.now.types.now)) c.in-Logic.is c.requires.can.arity);
   few = few-inputs c.args.call.now.op (length c.args.call.now.types.now) c.requires.can.arity;
 }
+
+pub plan_sum-requires-clause-arguments : goal.plan_sum-requires-clause-arguments
+plan_sum-requires-clause-arguments c = c.requires.arguments
+
+pub plan_sum-requires-clause-types : goal.plan_sum-requires-clause-types
+plan_sum-requires-clause-types c = c.requires.can.types
+
+pub plan_sum-requires-clause-result : goal.plan_sum-requires-clause-result
+plan_sum-requires-clause-result c = c.requires.can.result
+
+pub plan_gain-requires-clause-arguments : goal.plan_gain-requires-clause-arguments
+plan_gain-requires-clause-arguments c = c.requires.arguments
+
+pub plan_gain-requires-clause-types : goal.plan_gain-requires-clause-types
+plan_gain-requires-clause-types c = c.requires.can.types
+
+pub plan_gain-requires-clause-result : goal.plan_gain-requires-clause-result
+plan_gain-requires-clause-result c = c.requires.can.result
+
+pub plan_product-requires-clause-arguments : goal.plan_product-requires-clause-arguments
+plan_product-requires-clause-arguments c = c.requires.arguments
+
+pub plan_product-requires-clause-types : goal.plan_product-requires-clause-types
+plan_product-requires-clause-types c = c.requires.can.types
+
+pub plan_product-requires-clause-result : goal.plan_product-requires-clause-result
+plan_product-requires-clause-result c = c.requires.can.result
+
+pub plan_switch-requires-clause-arguments : goal.plan_switch-requires-clause-arguments
+plan_switch-requires-clause-arguments c = c.requires.arguments
+
+pub plan_switch-requires-clause-types : goal.plan_switch-requires-clause-types
+plan_switch-requires-clause-types c = c.requires.can.types
+
+pub plan_switch-requires-clause-result : goal.plan_switch-requires-clause-result
+plan_switch-requires-clause-result c = c.requires.can.result
+
+pub compare_arguments-requires-clause-arguments : goal.compare_arguments-requires-clause-arguments
+compare_arguments-requires-clause-arguments c = c.requires.arguments
+
+pub compare_arguments-requires-clause-types : goal.compare_arguments-requires-clause-types
+compare_arguments-requires-clause-types c = c.requires.can.types
+
+pub plan_conversion-requires-clause-arguments : goal.plan_conversion-requires-clause-arguments
+plan_conversion-requires-clause-arguments c = c.requires.arguments
+
+pub plan_conversion-requires-clause-types : goal.plan_conversion-requires-clause-types
+plan_conversion-requires-clause-types c = c.requires.can.types
+
+pub plan_conversion-requires-clause-result : goal.plan_conversion-requires-clause-result
+plan_conversion-requires-clause-result c = c.requires.can.result
+
+pub plan_sum-requires-clause-signs : goal.plan_sum-requires-clause-signs
+plan_sum-requires-clause-signs c = subst (λ (o : Op). HasSigns o c.args.call.now.signs.now (length c.args.call.now.types.now)) c.in-Sum.is c.requires.can.signs
+
+pub plan_sum-requires-clause-some : goal.plan_sum-requires-clause-some
+plan_sum-requires-clause-some c = (arity_of (length c.args.call.now.types.now) c.in-Sum.is c.requires.can.arity).0
+
+pub plan_sum-requires-clause-few : goal.plan_sum-requires-clause-few
+plan_sum-requires-clause-few c = (arity_of (length c.args.call.now.types.now) c.in-Sum.is c.requires.can.arity).1
+
+pub plan_sum-requires-clause-full : goal.plan_sum-requires-clause-full
+plan_sum-requires-clause-full c = full_of c.args.call.now.signs.now c.args.call.now.types.now c.in-Sum.is c.requires.can.full_type
+
+pub plan_gain-requires-clause-single : goal.plan_gain-requires-clause-single
+plan_gain-requires-clause-single c = arity_of (length c.args.call.now.types.now) c.in-Gain.is c.requires.can.arity
+
+pub plan_gain-requires-clause-param : goal.plan_gain-requires-clause-param
+plan_gain-requires-clause-param c = (subst (λ (o : Op). HasParameters o c.args.call.now.types.now) c.in-Gain.is c.requires.can.parameters).0
+
+pub plan_gain-requires-clause-full : goal.plan_gain-requires-clause-full
+plan_gain-requires-clause-full c = full_of c.args.call.now.signs.now c.args.call.now.types.now c.in-Gain.is c.requires.can.full_type
+
+pub plan_product-requires-clause-two : goal.plan_product-requires-clause-two
+plan_product-requires-clause-two c = arity_of (length c.args.call.now.types.now) c.in-Product.is c.requires.can.arity
+
+pub plan_product-requires-clause-full : goal.plan_product-requires-clause-full
+plan_product-requires-clause-full c = full_of c.args.call.now.signs.now c.args.call.now.types.now c.in-Product.is c.requires.can.full_type
+
+pub plan_switch-requires-clause-three : goal.plan_switch-requires-clause-three
+plan_switch-requires-clause-three c = arity_of (length c.args.call.now.types.now) c.in-Switch.is c.requires.can.arity
+
+pub compare_arguments-requires-clause-two : goal.compare_arguments-requires-clause-two
+compare_arguments-requires-clause-two c = arity_of (length c.args.call.now.types.now) c.in-Relational.is c.requires.can.arity
+
+pub compare_arguments-requires-clause-union : goal.compare_arguments-requires-clause-union
+compare_arguments-requires-clause-union c = full_of c.args.call.now.signs.now c.args.call.now.types.now c.in-Relational.is c.requires.can.full_type
+
+pub plan_conversion-requires-clause-single : goal.plan_conversion-requires-clause-single
+plan_conversion-requires-clause-single c = arity_of (length c.args.call.now.types.now) c.in-Convert.is c.requires.can.arity
