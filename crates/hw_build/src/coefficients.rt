@@ -42,8 +42,7 @@ fn put_coefficient(
     ensures adds { OnOk result (AddsConstants net.old net.new) }
 {
     let value = coefficient(list, element, kind);
-    let number = put_const(alloc, net, word_of(kind), value)?;
-    Ok(number)
+    put_const(alloc, net, word_of(kind), value)
 }
 
 /// The second operand of an element of a block that multiplies: that of its second input, or its
