@@ -37,6 +37,15 @@ pub map_more : {A B : Type 0} (f : A → B) (xs : List A) (x : A) → map f (xs 
 map_more f [] x = refl
 map_more f (y ∷ xs) x = ap (λ zs. f y ∷ zs) (map_more f xs x)
 
+-- no port is put in yet
+pub ports_none : (diagram : Diagram) (elements : List RootElement) (width_of : ℕ → ℕ) (number_of : ℕ → RootElement → ℕ) (latency_of : ℕ → ℕ) (names : Names) (ports : List NetPort) → ports ≡ []
+    → ArePortsFor diagram elements width_of number_of latency_of names names ports 0
+ports_none diagram elements width_of number_of latency_of names ports none = subst (λ (xs : List NetPort). ArePortsFor diagram elements width_of number_of latency_of names names xs 0) (sym none) (record {
+  size = refl;
+  each = λ k e port at there. absurd (none-some port there);
+  given = λ list taken. (tt, taken);
+})
+
 module _ (diagram : Diagram) (elements : List RootElement) (width_of : ℕ → ℕ) (number_of : ℕ → RootElement → ℕ) (latency_of : ℕ → ℕ) where
   pub ports_more : (old names new : Names) (ports : List NetPort) (k element : ℕ) (e : RootElement) (port : NetPort) → ArePortsFor diagram elements width_of number_of latency_of old names ports k → slice_get elements k ≡ Some e → element ≡ e.element → e.period ≡ (attributes_of diagram).period_at e.block
       → IsPortOf diagram names new e.block (width_of e.block) element (number_of k e) (latency_of e.block) port → ArePortsFor diagram elements width_of number_of latency_of old new (ports ++ port ∷ []) (k + 1)

@@ -1,4 +1,4 @@
-use Rattle.std.proofs.Common.{◌≡◌, Some, ap, sym, ◌∙◌, ℕ, List, length, arith}
+use Rattle.std.proofs.Common.{◌≡◌, None, Some, ap, sym, ◌∙◌, ℕ, List, length, refl, arith}
 use Rattle.dg_model.specs.Attributes.{attributes_of}
 use Rattle.hw_latency.specs.Control.{control_ever}
 use Rattle.hw_latency.specs.Weight.{samples}
@@ -67,3 +67,7 @@ pub offset_bounds-as_slice-block : goal.offset_bounds-as_slice-block
 offset_bounds-as_slice-block c =
     let same = ap (λ (xs : List ℕ). length xs) c.as_slice.ensures in
     omega (arith, c.requires.there, same, c.requires.can.designed.scheduled.timed.size)
+
+pub returns-in_default : goal.returns-in_default
+returns-in_default c =
+    control_put c.ends_are_lawful.ensures c.args.block c.block_at.result.now c.block_at.ensures c.args.asks.now c.args.asks.now None (sym c.control_of.ensures ∙ c.in_default.is) (refl, refl)

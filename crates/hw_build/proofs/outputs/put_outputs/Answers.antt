@@ -1,9 +1,9 @@
-use Rattle.std.proofs.Common.{◌≡◌, ◌-◌, ◌<◌, ◌^◌, ℕ, List, All, length, ap, sym, ◌∙◌, subst, arith}
+use Rattle.std.proofs.Common.{◌≡◌, ◌-◌, ◌<◌, ◌^◌, ℕ, List, All, length, ap, sym, ◌∙◌, subst, refl, arith}
 use Rattle.std.specs.Prelude.{slice_index_or}
 use Rattle.dg_model.specs.declared.diagram.Block.{Block}
 use Rattle.dg_model.specs.declared.diagram.Diagram.{Diagram}
 use Rattle.hw_build.specs.inner.HubPlaces.{hub_at}
-use Rattle.hw_build.proofs.Porting.{outputs_there}
+use Rattle.hw_build.proofs.Porting.{outputs_there, ports_none}
 use Rattle.hw_build.proofs.Outgoing.{read_at, below_columns, output_here, element_is, outputs_next}
 use Rattle.hw_build.specs.inner.Outgoing.{AddsOutputs}
 use Rattle.hw_build.proofs.outputs.put_outputs.Goals as goal
@@ -71,3 +71,15 @@ returns c =
     let high = c.loop-column.auto.column-end in
     let all : c.loop-column.column ≡ length c.args.outputs.now = omega (arith, low, high) in
     subst (λ (n : ℕ). AddsOutputs c.args.design c.args.firsts.now c.args.names.now c.loop-column.names c.args.net.now c.loop-column.net n) all c.loop-column.invariant
+
+pub bounds-outputs-column : goal.bounds-outputs-column
+bounds-outputs-column c = c.loop-column-test.true
+
+pub offset_bounds-outputs-column : goal.offset_bounds-outputs-column
+offset_bounds-outputs-column c = omega (arith, c.loop-column-test.true)
+
+pub loop-column-init : goal.loop-column-init
+loop-column-init c = record {
+  grown = refl;
+  ports = ports_none c.args.design.checked.now.diagram _ _ _ _ c.args.names.now c.args.net.now.outputs c.requires.none;
+}

@@ -1,4 +1,4 @@
-use Rattle.std.proofs.Common.{rules, ◌≡◌, ◌<◌, ◌+◌, ◌∷◌, [], ℕ, List, Some, slice_index_or, ap, sym, ◌∙◌, subst, refl, arith, length}
+use Rattle.std.proofs.Common.{◌≡◌, ◌<◌, ◌+◌, ◌∷◌, [], ℕ, List, Some, slice_index_or, ap, sym, ◌∙◌, subst, refl, arith, length}
 use Rattle.std.proofs.lemmas.Option.{none-some}
 use Rattle.dg_model.specs.Attributes.{attributes_of}
 use Rattle.hw_net.specs.declared.netlist.Frame.{Frame}
@@ -57,7 +57,7 @@ returns-in_default c = record {
 
 pub returns : goal.returns
 returns c =
-    let some : 0 < slice_index_or c.as_slice.result.now c.args.block 0 = search rules in
+    let some : 0 < slice_index_or c.as_slice.result.now c.args.block 0 = omega (arith, c.if-stages-eq0.false) in
     let is : (attributes_of c.args.design.checked.now.diagram).period_at c.args.block ≡ Some c.in-Some.period = sym c.period.ensures ∙ c.in-Some.is in
     let stages = ap (λ (xs : List ℕ). slice_index_or xs c.args.block 0) c.as_slice.ensures in
     let wired = typed_net c.counter.new.self c.put_comb.new.net c.word_of.result c.result-kind.result (Comb Resize (c.args.entry ∷ [])) c.word_of.ensures c.in_ok-begin.ensures.grown in
@@ -71,3 +71,12 @@ pub offset_bounds-as_slice-block : goal.offset_bounds-as_slice-block
 offset_bounds-as_slice-block c =
     let same = ap (λ (xs : List ℕ). length xs) c.as_slice.ensures in
     omega (arith, same, c.requires.there, c.requires.designed.scheduled.planned.size)
+
+pub returns-then-stages-eq0 : goal.returns-then-stages-eq0
+returns-then-stages-eq0 c =
+    let zero : slice_index_or c.as_slice.result.now c.args.block 0 ≡ 0 = omega (arith, c.if-stages-eq0.true) in
+    let same = ap (λ (xs : List ℕ). slice_index_or xs c.args.block 0) c.as_slice.ensures in
+    record {
+      some = λ period is positive. absurd (omega (arith, positive, zero, same));
+      none = λ reason. (refl, refl, refl);
+    }

@@ -1,4 +1,4 @@
-use Rattle.std.proofs.Common.{rules, ◌≡◌, ◌<◌, ◌++◌, ◌∷◌, [], ℕ, List, length, Some, ap, sym, ◌∙◌, slice_get, refl}
+use Rattle.std.proofs.Common.{rules, ◌≡◌, ◌<◌, ◌++◌, ◌∷◌, [], ℕ, List, length, Some, ap, sym, ◌∙◌, slice_get, refl, arith}
 use Rattle.std.proofs.lemmas.Option.{same_Some, slice_get_read, slice_get_within}
 use Rattle.hw_build.specs.declared.wants.Class.{Class}
 use Rattle.hw_build.specs.inner.Wants.{IsClassFor}
@@ -29,3 +29,35 @@ returns-clause-indexed c =
     let at : slice_get mid number ≡ Some c.index_mut.result.now = slice_get_read mid (length mid) number c.index_mut.result.now refl below c.index_mut.ensures.value in
     let now : Class = record { feed = c.index_mut.result.now.feed; uses = c.push.new.self } in
     indexed_set mid c.class_for.new.classes.numbers.entries number c.index_mut.result.now now c.in_ok-class.ensures.indexed at refl
+
+pub overflow_cast-class : goal.overflow_cast-class
+overflow_cast-class c =
+    let mid : List Class = c.class_for.new.classes.list.items in
+    let is : IsClassFor c.args.classes.now.list.items mid c.args.want.feed c.in_ok-class.class = c.in_ok-class.ensures.is in
+    let below : c.in_ok-class.class < length mid = slice_get_within mid c.in_ok-class.class is.has.one is.has.is in
+    let list = c.class_for.new.classes.list in
+    record { fits = omega (arith, below, list.ok.0, list.ok.1, list.small) }
+
+pub overflow_cast-class-2 : goal.overflow_cast-class-2
+overflow_cast-class-2 c =
+    let mid : List Class = c.class_for.new.classes.list.items in
+    let is : IsClassFor c.args.classes.now.list.items mid c.args.want.feed c.in_ok-class.class = c.in_ok-class.ensures.is in
+    let below : c.in_ok-class.class < length mid = slice_get_within mid c.in_ok-class.class is.has.one is.has.is in
+    let list = c.class_for.new.classes.list in
+    record { fits = omega (arith, below, list.ok.0, list.ok.1, list.small) }
+
+pub index-requires : goal.index-requires
+index-requires c =
+    let mid : List Class = c.class_for.new.classes.list.items in
+    let is : IsClassFor c.args.classes.now.list.items mid c.args.want.feed c.in_ok-class.class = c.in_ok-class.ensures.is in
+    let below : c.in_ok-class.class < length mid = slice_get_within mid c.in_ok-class.class is.has.one is.has.is in
+    let len = c.class_for.new.classes.list.ok.0 in
+    omega (arith, below, len)
+
+pub index_mut-requires : goal.index_mut-requires
+index_mut-requires c =
+    let mid : List Class = c.class_for.new.classes.list.items in
+    let is : IsClassFor c.args.classes.now.list.items mid c.args.want.feed c.in_ok-class.class = c.in_ok-class.ensures.is in
+    let below : c.in_ok-class.class < length mid = slice_get_within mid c.in_ok-class.class is.has.one is.has.is in
+    let len = c.class_for.new.classes.list.ok.0 in
+    omega (arith, below, len)
