@@ -22,6 +22,17 @@ pub enum VlFault {
     OutOfMemory,
 }
 
+impl From<OutOfMemory> for VlFault {
+    ghost use Rattle.std.specs.Prelude.{◌≡◌};
+    ghost use Rattle.vl_check.specs.declared.fault.VlFault.TheVariants.{OutOfMemory};
+
+    ghost from_gives = { λ _ fault. fault ≡ OutOfMemory };
+
+    fn from(_refused: OutOfMemory) -> VlFault {
+        VlFault::OutOfMemory
+    }
+}
+
 impl Display for VlFault {
     fn fmt<W: Write>(&self, f: &mut Formatter<W>) -> fmt::Result {
         f.write_str(match self {
@@ -39,16 +50,5 @@ impl Display for VlFault {
 impl Debug for VlFault {
     fn fmt<W: Write>(&self, f: &mut Formatter<W>) -> fmt::Result {
         Display::fmt(self, f)
-    }
-}
-
-impl From<OutOfMemory> for VlFault {
-    ghost use Rattle.std.specs.Prelude.{◌≡◌};
-    ghost use Rattle.vl_check.specs.declared.fault.VlFault.TheVariants.{OutOfMemory};
-
-    ghost from_gives = { λ _ fault. fault ≡ OutOfMemory };
-
-    fn from(_refused: OutOfMemory) -> VlFault {
-        VlFault::OutOfMemory
     }
 }

@@ -11,6 +11,17 @@ pub enum VlSyntax {
     OutOfMemory,
 }
 
+impl From<OutOfMemory> for VlSyntax {
+    ghost use Rattle.std.specs.Prelude.{◌≡◌};
+    ghost use Rattle.vl_read.specs.declared.fault.VlSyntax.TheVariants.{OutOfMemory};
+
+    ghost from_gives = { λ _ fault. fault ≡ OutOfMemory };
+
+    fn from(_refused: OutOfMemory) -> VlSyntax {
+        VlSyntax::OutOfMemory
+    }
+}
+
 impl Display for VlSyntax {
     fn fmt<W: Write>(&self, f: &mut Formatter<W>) -> fmt::Result {
         match self {
@@ -23,16 +34,5 @@ impl Display for VlSyntax {
 impl Debug for VlSyntax {
     fn fmt<W: Write>(&self, f: &mut Formatter<W>) -> fmt::Result {
         Display::fmt(self, f)
-    }
-}
-
-impl From<OutOfMemory> for VlSyntax {
-    ghost use Rattle.std.specs.Prelude.{◌≡◌};
-    ghost use Rattle.vl_read.specs.declared.fault.VlSyntax.TheVariants.{OutOfMemory};
-
-    ghost from_gives = { λ _ fault. fault ≡ OutOfMemory };
-
-    fn from(_refused: OutOfMemory) -> VlSyntax {
-        VlSyntax::OutOfMemory
     }
 }
