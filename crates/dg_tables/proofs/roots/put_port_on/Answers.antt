@@ -1,5 +1,4 @@
-use Rattle.std.proofs.Common.{◌++◌, List, ap, ◌∙◌}
-use Rattle.std.proofs.lemmas.Result.{on_ok_weaker}
+use Rattle.std.proofs.Common.{◌≡◌, ◌++◌, List, OnOk, subst}
 use Rattle.std.specs.List.{position}
 use Rattle.dg_model.specs.Attributes.{attributes_of}
 use Rattle.dg_model.specs.RootElements.{has_number}
@@ -14,8 +13,8 @@ returns c =
     let diagram = c.args.checked.now.diagram in
     let side = c.args.side in
     let read = port_read (root_on side) diagram.blocks (numbered_on diagram c.keeps_rules.ensures.checked.wired side) c.args.ports.now c.requires.ports c.args.number c.requires.number in
-    on_ok_weaker c.put_port.result
-    (λ put. put ∙ ap (λ (xs : List Root). c.args.roots.now ++ xs) (port_roots (attributes_of diagram) (width_on diagram (attributes_of diagram) side) c.args.number _ c.width_on-width.result (position (has_number (root_on side) c.args.number) diagram.blocks) read.3 c.width_on-width.ensures))
+    subst (λ (elements : List Root). OnOk c.put_port.result (c.put_port.new.roots ≡ c.args.roots.now ++ elements))
+    (port_roots (attributes_of diagram) (width_on diagram (attributes_of diagram) side) c.args.number _ c.width_on-width.result (position (has_number (root_on side) c.args.number) diagram.blocks) read.3 c.width_on-width.ensures)
     c.put_port.ensures
 
 pub width_on-width-requires : goal.width_on-width-requires
