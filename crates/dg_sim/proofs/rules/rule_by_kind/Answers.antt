@@ -41,8 +41,14 @@ hand_on-requires c =
       read = op_reads checked starts places k place b turn is param control OpPass own.0 1 (omega arith) (omega (arith, own.1));
     }
 
+pub returns-in-Outport : goal.returns-in-Outport
+returns-in-Outport c = record { made = c.hand_on.ensures; cursors = c.requires.cursors }
+
 pub spread-requires : goal.spread-requires
 spread-requires c = record { kind = c.in-Mux.is; turn = c.requires.turn; cursors = c.requires.cursors }
+
+pub returns-in-Mux : goal.returns-in-Mux
+returns-in-Mux c = record { made = c.spread.ensures.made; cursors = c.spread.ensures.cursors }
 
 pub returns-in-Ground : goal.returns-in-Ground
 returns-in-Ground c = record {
@@ -55,8 +61,14 @@ returns-in-Ground c = record {
 pub from_row-requires : goal.from_row-requires
 from_row-requires c = record { roots = c.requires.roots; turn = c.requires.turn; kind = (c.in-Inport.width, c.in-Inport.is) }
 
+pub returns-in-Inport : goal.returns-in-Inport
+returns-in-Inport c = record { made = c.from_row.ensures; cursors = c.requires.cursors }
+
 pub constant-requires : goal.constant-requires
 constant-requires c = record { turn = c.requires.turn; kind = c.in-Constant.is ∙ ap (λ (value : List Decimal). Constant value) (sym c.as_slice.ensures) }
+
+pub returns-in-Constant : goal.returns-in-Constant
+returns-in-Constant c = record { made = c.constant.ensures; cursors = c.requires.cursors }
 
 pub transition-requires : goal.transition-requires
 transition-requires c = record {
@@ -64,8 +76,14 @@ transition-requires c = record {
   kind = (c.in-RateTransition.period, c.in-RateTransition.is ∙ ap (λ (initial : List Decimal). RateTransition c.in-RateTransition.period initial) (sym c.as_slice-in-RateTransition.ensures));
 }
 
+pub returns-in-RateTransition : goal.returns-in-RateTransition
+returns-in-RateTransition c = record { made = c.transition.ensures; cursors = c.requires.cursors }
+
 pub above-requires : goal.above-requires
 above-requires c = record { kind = c.in-EnableTest.is; turn = c.requires.turn }
+
+pub returns-in-EnableTest : goal.returns-in-EnableTest
+returns-in-EnableTest c = record { made = c.above.ensures; cursors = c.requires.cursors }
 
 pub delay_rule-requires : goal.delay_rule-requires
 delay_rule-requires c = record {
@@ -74,8 +92,14 @@ delay_rule-requires c = record {
   some = delay_some c.args.turn.checked.now.diagram c.keeps_rules.ensures.checked.wired c.args.turn.place.block c.args.turn.block.now c.requires.turn.shown.block_is c.in-Delay.length _ c.in-Delay.reset c.in-Delay.is;
 }
 
+pub returns-in-Delay : goal.returns-in-Delay
+returns-in-Delay c = record { made = c.delay_rule.ensures; cursors = c.requires.cursors }
+
 pub enabled_output_rule-requires : goal.enabled_output_rule-requires
 enabled_output_rule-requires c = record { turn = c.requires.turn; kind = c.in-EnOut.is ∙ ap (λ (initial : List Decimal). EnOut c.in-EnOut.reset initial) (sym c.as_slice-in-EnOut.ensures) }
+
+pub returns-in-EnOut : goal.returns-in-EnOut
+returns-in-EnOut c = record { made = c.enabled_output_rule.ensures; cursors = c.requires.cursors }
 
 pub works-requires : goal.works-requires
 works-requires c = record {
@@ -103,6 +127,9 @@ works-requires c = record {
         ]
       ];
 }
+
+pub returns-in-Sum : goal.returns-in-Sum
+returns-in-Sum c = record { made = c.works.ensures; cursors = c.requires.cursors }
 
 pub unreachable-unreachable : goal.unreachable-unreachable
 unreachable-unreachable c =
