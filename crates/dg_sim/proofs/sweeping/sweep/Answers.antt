@@ -1,8 +1,11 @@
-use Rattle.std.proofs.Common.{◌≡◌, ◌<◌, ℕ, ℤ, pos, List, length, set, slice_get, length-set, get_or-set_other, ap, sym, ◌∙◌, subst, arith, add-one}
+use Rattle.std.proofs.Common.{◌≡◌, ◌<◌, ℕ, ℤ, pos, List, length, set, slice_get, length-set, get_or-set_other, refl, ap, sym, ◌∙◌, subst, arith, add-one}
 use Rattle.std.specs.Int.{w128}
 use Rattle.std.proofs.lemmas.Int.{to_z-of_z}
 use Rattle.std.proofs.lemmas.Option.{slice_get-get_or}
+use Rattle.dg_model.specs.Attributes.{attributes_of}
 use Rattle.dg_sim.specs.declared.program.Cell.{Cell}
+use Rattle.dg_sim.specs.Program.{value_at}
+use Rattle.dg_sim.specs.Sim.{Agrees}
 use Rattle.fx_io.proofs.Places.{get_some}
 use Rattle.dg_sim.proofs.Swept.{can_give, swept_hit, swept_miss}
 use Rattle.dg_sim.proofs.sweeping.sweep.Goals as goal
@@ -57,3 +60,18 @@ loop-k-preserved c =
         later = λ j above. inv.later j (omega (arith, above));
       })
     ]
+
+pub loop-k-init : goal.loop-k-init
+loop-k-init c = record {
+  size = c.requires.row;
+  inputs = refl;
+  swept = λ stimulus n table at j place below. absurd (omega (arith, below));
+  later = λ j above. refl;
+}
+
+pub returns : goal.returns
+returns c = λ stimulus n table at.
+    let checked = c.args.checked.now in
+    let program = c.args.program.now in
+    let all : c.loop-k.k ≡ length program.places = omega (arith, c.loop-k-test.false, c.loop-k.auto.k-end, ap length c.as_slice-cell-items.ensures, c.requires.program.size) in
+    subst (λ (k : ℕ). Agrees checked.diagram (attributes_of checked.diagram) program.places k (value_at c.loop-k.row) table c.args.t) all (c.loop-k.invariant.swept stimulus n table at)
