@@ -71,7 +71,7 @@ impl Numbering {
         for (place, block) in blocks.iter().enumerate() {
             if let Some(number) = number_of(side, &block.part) {
                 if let Some(cell) = rows.cell(slot(block.parent), number) {
-                    note_first(&mut ports, cell, place as u32);
+                    note_first(&mut ports, cell, Some(place as u32));
                 }
             }
         }

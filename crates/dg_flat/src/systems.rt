@@ -44,14 +44,14 @@ pub fn is_subsystem(part: &Part) -> bool
     }
 }
 
-/// Notes a place where none is noted yet.
-pub fn note_first(table: &mut Vec<Option<u32>>, at: usize, place: u32)
+/// Notes a place, if there is one, where none is noted yet.
+pub fn note_first(table: &mut Vec<Option<u32>>, at: usize, place: Option<u32>)
     requires { at < length table.old.items }
     ensures { table.new.items ≡
-        set table.old.items at (first_of (slice_index_or table.old.items at None) (Some place)) }
+        set table.old.items at (first_of (slice_index_or table.old.items at None) place) }
 {
     if table[at].is_none() {
-        table[at] = Some(place);
+        table[at] = place;
     }
 }
 
@@ -65,7 +65,7 @@ fn enable_ports(alloc: Global, blocks: &[NestedBlock]) -> Result<Vec<Option<u32>
     let mut ports = vec![in alloc; None; blocks.len() + 1]?;
     for (place, block) in blocks.iter().enumerate() {
         if let Part::Enable { .. } = block.part {
-            note_first(&mut ports, slot(block.parent), place as u32);
+            note_first(&mut ports, slot(block.parent), Some(place as u32));
         }
     }
     Ok(ports)
@@ -84,15 +84,10 @@ fn controls(
     ensures { IfOk result (λ ports. IsTable (suc (length blocks.now))
         (λ slot. control_of blocks.now (system_of slot)) ports.items) }
 {
-    let mut controls = Vec::with_capacity(alloc, enables.len())?;
-    controls.push(enables[0])?;
+    let mut controls = Vec::from_slice(alloc, enables)?;
     for (place, block) in blocks.iter().enumerate() {
         let around: Option<u32> = controls[slot(block.parent)];
-        let control = match enables[place + 1] {
-            Some(port) => Some(port),
-            None => around,
-        };
-        controls.push(control)?;
+        note_first(&mut controls, place + 1, around);
     }
     Ok(controls)
 }
