@@ -8,6 +8,7 @@ use Rattle.dg_model.specs.declared.nested.NestedBlock.{NestedBlock}
 use Rattle.dg_flat.specs.Parts.{enable_port, system_around, control_else, control_within, control_of}
 use Rattle.dg_flat.specs.inner.Slots.{slot_of, system_of, first_of, HaveParents}
 use Rattle.dg_flat.specs.inner.Tables.{IsTable}
+use Rattle.dg_flat.proofs.PortReads.{some_inside}
 
 -- a System around one stands before it
 pub around_before : (blocks : List NestedBlock) (system : ℕ) → HaveParents blocks → slot_of (system_around blocks (Some system)) ≤ system
@@ -15,6 +16,14 @@ around_before blocks system have = go (slice_get blocks system) refl where
   go : (o : Option NestedBlock) → slice_get blocks system ≡ o → slot_of (system_around blocks (Some system)) ≤ system
   go None e = rw e (omega arith)
   go (Some block) e = rw e (have.before system block e)
+
+-- the System of a block, and the one around a System, are among them
+pub slot_below : (blocks : List NestedBlock) (place : ℕ) (block : NestedBlock) → HaveParents blocks → slice_get blocks place ≡ Some block → slot_of block.parent ≤ length blocks
+slot_below blocks place block have at = omega (arith, have.before place block at, some_inside blocks place block at)
+
+pub around_below : (blocks : List NestedBlock) (system : Option ℕ) → HaveParents blocks → slot_of system ≤ length blocks → slot_of (system_around blocks system) ≤ length blocks
+around_below blocks None have within = within
+around_below blocks (Some system) have within = omega (arith, around_before blocks system have, within)
 
 pub control_settles : (blocks : List NestedBlock) → HaveParents blocks → (levels more : ℕ) (system : Option ℕ) → slot_of system < levels → slot_of system < more → control_within blocks levels system ≡ control_within blocks more system
 control_settles blocks have zero more system below other = absurd (omega (arith, below))

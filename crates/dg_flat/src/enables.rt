@@ -1,6 +1,6 @@
 ghost use Rattle.std.specs.Prelude.{◌≡◌, ◌<◌, ◌≤◌, length, slice_get, IsTrue, IsFalse, Some};
 ghost use Rattle.dg_model.specs.Limits.{most_blocks};
-ghost use Rattle.dg_flat.specs.Rules.{KeepsEnable};
+ghost use Rattle.dg_flat.specs.Rules.{KeepsEnable, MayStandAt};
 ghost use Rattle.dg_flat.specs.Parts.{enable_port, control_of, system_around};
 ghost use Rattle.dg_flat.specs.inner.Slots.{slot_of, HaveParents};
 ghost use Rattle.dg_flat.specs.inner.Systems.{AreSystems};
@@ -42,14 +42,14 @@ fn around(blocks: &[NestedBlock], system: Option<u32>) -> Option<u32>
 }
 
 /// Whether a block keeps the rule of enabled subsystems.
-fn keeps_enable(nested: &Nested, systems: &Systems, place: u32, block: &NestedBlock) -> bool
-    requires parents { HaveParents nested.now.blocks }
-    requires systems { AreSystems nested.now.blocks systems.now }
-    requires there { slice_get nested.now.blocks place ≡ Some block.now }
-    ensures kept { IsTrue result → KeepsEnable nested.now place block.now }
-    ensures broken { IsFalse result → ¬ KeepsEnable nested.now place block.now }
+fn keeps_enable(blocks: &[NestedBlock], systems: &Systems, place: u32, block: &NestedBlock) -> bool
+    requires parents { HaveParents blocks.now }
+    requires systems { AreSystems blocks.now systems.now }
+    requires there { slice_get blocks.now place ≡ Some block.now }
+    ensures kept { IsTrue result → MayStandAt blocks.now place block.now.parent block.now.part }
+    ensures broken { IsFalse result
+        → ¬ MayStandAt blocks.now place block.now.parent block.now.part }
 {
-    let blocks = nested.blocks.as_slice();
     match &block.part {
         Part::Plain(plain) => may_stand(&plain.kind, systems.control(blocks, block.parent)),
         Part::In(_, _) | Part::Out(_, _) | Part::SubSystem => true,
@@ -69,8 +69,9 @@ pub fn first_misplaced(systems: &Systems, nested: &Nested) -> Option<u32>
     requires systems { AreSystems nested.now.blocks systems.now }
     ensures { IsFirst nested.now KeepsEnable result }
 {
-    for (place, block) in nested.blocks.as_slice().iter().enumerate() {
-        if !keeps_enable(nested, systems, place as u32, block) {
+    let blocks = nested.blocks.as_slice();
+    for (place, block) in blocks.iter().enumerate() {
+        if !keeps_enable(blocks, systems, place as u32, block) {
             return Some(place as u32);
         }
     }
