@@ -60,7 +60,7 @@ fn with_list(kind: &Kind, list: Decimals, resets: bool) -> Kind
 /// A copy of a kind that has no list of decimals.
 fn copy_unlisted(alloc: Global, kind: &Kind) -> Result<Kind, OutOfMemory>
     requires { (row_of kind.now).signal.lists ≡ [] }
-    ensures { IfOk result (λ copy. copy ≡ kind.now) }
+    ensures { IfOk result (λ copy. kind.now ≡ copy) }
 {
     match kind {
         Kind::Inport { number, width } => Ok(Kind::Inport {

@@ -20,4 +20,4 @@ with_list-requires c =
 pub returns-in-None : goal.returns-in-None
 returns-in-None c =
     let none : (row_of c.args.kind.now).signal.lists ≡ [] = rw c.in-None.is at c.list.ensures in
-    IfOk-weaker c.copy_unlisted.result _ _ (λ copy same. same ∙ sym (unlisted c.args.resets c.args.kind.now none)) c.copy_unlisted.ensures
+    IfOk-weaker c.copy_unlisted.result _ _ (λ copy same. sym same ∙ sym (unlisted c.args.resets c.args.kind.now none)) c.copy_unlisted.ensures
