@@ -25,6 +25,7 @@ use Rattle.dg_tables.specs.declared.entries.Place.{Place}
 use Rattle.dg_tables.specs.declared.reading.Starts.{Starts}
 use Rattle.dg_tables.specs.Entries.{IsEntry, place_at}
 use Rattle.dg_tables.specs.Finding.{Finds, IsRead, ReadsNow}
+use Rattle.dg_tables.specs.Laws.{IsOrdered}
 use Rattle.dg_sim.specs.inner.Turns.{IsTurn}
 use Rattle.dg_tables.proofs.Fitting.{widths_fit}
 use Rattle.dg_tables.proofs.Lists.{below_repeated}
@@ -38,10 +39,10 @@ module _ (diagram : Diagram) (attributes : Attributes) (block port element : ℕ
 
 -- ---- the entry whose rule is to be made
 module _ (checked : CheckedDiagram) (starts : Starts) (places : List Place) (k : ℕ) (place : Place) (b : Block) where
-  pub turn_of : Finds checked starts places → slice_get places k ≡ Some place → IsEntry checked.diagram (attributes_of checked.diagram) place → slice_get checked.diagram.blocks place.block ≡ Some b → IsTurn checked starts places k place b
-  turn_of finds at entry block_is =
+  pub turn_of : IsOrdered checked.diagram checked.order → Finds checked starts places → slice_get places k ≡ Some place → IsEntry checked.diagram (attributes_of checked.diagram) place → slice_get checked.diagram.blocks place.block ≡ Some b → IsTurn checked starts places k place b
+  turn_of rules finds at entry block_is =
       let one : entry.0 ≡ b = same_Some entry.0 b (sym entry.1.block_is ∙ block_is) in
-      record { finds = finds; at = at; shown = subst (λ (x : Block). IsShown checked.diagram (attributes_of checked.diagram) place.block x place.port place.element) one entry.1 }
+      record { rules = rules; finds = finds; at = at; shown = subst (λ (x : Block). IsShown checked.diagram (attributes_of checked.diagram) place.block x place.port place.element) one entry.1 }
 
   module _ (turn : IsTurn checked starts places k place b) (kind : Kind) (kind_is : b.kind ≡ kind) where
     pub turn_now : reads_now checked.diagram (attributes_of checked.diagram) place.block kind ≡ true → ReadsNow checked places k place.block

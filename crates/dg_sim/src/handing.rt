@@ -40,7 +40,6 @@ pub fn transition<'a>(
         × (turn.block.now.kind ≡ Kind.RateTransition period initial.now) }
     ensures { IfOk result (IsMadeFor turn.entry program.old program.new) }
 {
-    turn.checked.keeps_rules();
     let slow = period_of_input(turn.checked, turn.starts, turn.place.block, 1);
     let own = turn.checked.period(turn.place.block);
     if is_slow_to_fast(slow, own) {

@@ -144,7 +144,6 @@ pub fn spread<'a>(cursors: &mut Cursors, program: &Program, turn: Turn<'a>) -> R
     ensures cursors { AreCursors turn.entry.checked.now.diagram
         (attributes_of turn.entry.checked.now.diagram) cursors.new }
 {
-    turn.checked.keeps_rules();
     let place = turn.place;
     match &turn.block.kind {
         Kind::Mux { .. } => {

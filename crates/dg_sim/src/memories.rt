@@ -24,7 +24,6 @@ fn control_cell<'a>(program: &Program, turn: Turn<'a>, enable: u32) -> u32
     requires enable { turn.block.now.enable ≡ Some enable }
     ensures { slice_get program.now.places result ≡ Some (place_at enable 1 0) }
 {
-    turn.checked.keeps_rules();
     let place = Place {
         block: enable,
         port: 1,
@@ -96,7 +95,6 @@ pub fn delay_rule<'a>(
     ensures { IfOk result (IsMadeFor turn.entry program.old program.new) }
 {
     kept_moves();
-    turn.checked.keeps_rules();
     let control = control_of(program, turn);
     let first = own_stored(turn, initial);
     let period = turn.checked.period(turn.place.block);
@@ -125,7 +123,6 @@ pub fn transition_rule<'a>(
     ensures { IfOk result (IsMadeFor turn.entry program.old program.new) }
 {
     kept_moves();
-    turn.checked.keeps_rules();
     let first = own_stored(turn, initial);
     let memory = remember(program, turn, slow, None, false, 2)?;
     Ok(Rule::Slower {
@@ -147,7 +144,6 @@ pub fn enabled_output_rule<'a>(
     ensures { IfOk result (IsMadeFor turn.entry program.old program.new) }
 {
     kept_moves();
-    turn.checked.keeps_rules();
     let Some(enable) = turn.block.enable else {
         unreachable!();
     };

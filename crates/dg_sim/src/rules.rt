@@ -28,7 +28,6 @@ fn constant<'a>(program: &Program, turn: Turn<'a>, value: &[Decimal]) -> Rule
     requires kind { turn.block.now.kind ≡ Kind.Constant value.now }
     ensures { IsMadeFor turn.entry program.now program.now result }
 {
-    turn.checked.keeps_rules();
     let value = own_stored(turn, value);
     Rule::Fixed { value }
 }
@@ -41,7 +40,6 @@ fn from_row<'a>(roots: &[Root], program: &Program, turn: Turn<'a>, number: u32) 
     requires kind { (width : ℕ) × (turn.block.now.kind ≡ Kind.Inport number width) }
     ensures { IsMadeFor turn.entry program.now program.now result }
 {
-    turn.checked.keeps_rules();
     dg_model::root_elements_are_listed();
     let root = Root {
         number,
@@ -71,7 +69,6 @@ pub fn rule_by_kind<'a>(
     ensures cursors { AreCursors turn.entry.checked.now.diagram
         (attributes_of turn.entry.checked.now.diagram) cursors.new }
 {
-    turn.checked.keeps_rules();
     match &turn.block.kind {
         Kind::Inport { number, .. } => Ok(from_row(roots, program, turn, *number)),
         Kind::Outport { .. } | Kind::Pass { .. } => {

@@ -7,6 +7,7 @@ ghost use Rattle.dg_model.specs.Solves.{IsShown};
 ghost use Rattle.dg_tables.specs.Entries.{Reads, AreEntries};
 ghost use Rattle.dg_sim.specs.inner.Building.{AreRead, is_worked};
 ghost use Rattle.dg_tables.specs.Finding.{AreLines, IsRead};
+ghost use Rattle.dg_tables.specs.Laws.{IsOrdered};
 ghost use Rattle.dg_sim.specs.inner.Turns.{CanOffer, IsMadeFor, IsTurnOf};
 
 use crate::program::{Program, Rule, Work};
@@ -81,6 +82,7 @@ fn put_signs(signs: &mut Flags, negative: &[bool]) -> Result<(), OutOfMemory>
 
 /// The operation of a block that works element by element.
 fn op_of<'a>(turn: Turn<'a>) -> Op
+    requires rules { IsOrdered turn.checked.now.diagram turn.checked.now.order }
     requires lines { AreLines turn.checked.now.diagram turn.starts.now.lines.items }
     requires shown { IsShown turn.checked.now.diagram (attributes_of turn.checked.now.diagram)
         turn.place.block turn.block.now turn.place.port turn.place.element }
@@ -91,7 +93,6 @@ fn op_of<'a>(turn: Turn<'a>) -> Op
         (attributes_of turn.entry.checked.now.diagram) turn.entry.place.block 2) result }
 {
     operations_prepare();
-    turn.checked.keeps_rules();
     match &turn.block.kind {
         Kind::Sum { .. } => Op::Sum,
         Kind::Gain { value, .. } => {
@@ -128,7 +129,6 @@ pub fn works<'a>(program: &mut Program, turn: Turn<'a>) -> Result<Rule, OutOfMem
     ensures { IfOk result (IsMadeFor turn.entry program.old program.new) }
 {
     operations_prepare();
-    turn.checked.keeps_rules();
     let op = op_of(turn);
     let block = turn.block;
     let negative = block.kind.signs();

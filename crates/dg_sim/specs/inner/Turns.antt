@@ -7,6 +7,7 @@ use Rattle.dg_model.specs.Checked.{CheckedDiagram}
 use Rattle.dg_model.specs.Solves.{IsShown}
 use Rattle.dg_model.specs.Wires.{repeated}
 use Rattle.dg_tables.specs.Finding.{Finds, ReadsNow}
+use Rattle.dg_tables.specs.Laws.{IsOrdered}
 use Rattle.dg_tables.specs.declared.entries.Place.{Place}
 use Rattle.dg_tables.specs.declared.reading.Starts.{Starts}
 use Rattle.dg_sim.specs.declared.program.Program.{Program}
@@ -17,6 +18,7 @@ use Rattle.dg_sim.specs.inner.Building.{IsMade}
 -- a rule is to be made for the entry that stands at k
 pub record IsTurn (checked : CheckedDiagram) (starts : Starts) (places : List Place) (k : ℕ)
     (place : Place) (b : Block) : Type 0 where
+  pub rules : IsOrdered checked.diagram checked.order
   pub finds : Finds checked starts places
   pub at : slice_get places k ≡ Some place
   pub shown : IsShown checked.diagram

@@ -33,7 +33,7 @@ rule_by_kind-requires c =
     let blocks = c.as_slice-2.ensures ∙ ap (λ (d : Diagram). d.blocks) c.diagram.ensures in
     record {
       roots = c.requires.roots;
-      turn = turn_of c.args.checked.now c.args.starts.now c.args.program.now.places c.args.k _ c.index-as_slice-place.result c.requires.finds (here point _) (entry point _)
+      turn = turn_of c.args.checked.now c.args.starts.now c.args.program.now.places c.args.k _ c.index-as_slice-place.result (record { checked = c.keeps_rules.ensures.checked; ordered = c.keeps_rules.ensures.ordered }) c.requires.finds (here point _) (entry point _)
           (block_there diagram (attributes_of diagram) _ c.as_slice-2.result.now c.index-as_slice-place.result blocks (entry point _) c.index-as_slice-place.is);
       entries = c.requires.filled.entries;
       paired = c.requires.filled.paired;

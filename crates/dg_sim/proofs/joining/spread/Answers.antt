@@ -15,7 +15,7 @@ part_into-part-requires c =
     record {
       into = c.requires.cursors.into;
       lines = c.requires.turn.finds.lines;
-      element = mux_below diagram c.keeps_rules.ensures.checked c.args.turn.place.block c.args.turn.block.now c.args.turn.place.port c.args.turn.place.element c.requires.turn.shown c.in-Mux.sizes c.in-Mux.is;
+      element = mux_below diagram c.requires.turn.rules.checked c.args.turn.place.block c.args.turn.block.now c.args.turn.place.port c.args.turn.place.element c.requires.turn.shown c.in-Mux.sizes c.in-Mux.is;
     }
 
 pub hand_on-requires : goal.hand_on-requires
@@ -27,7 +27,7 @@ hand_on-requires c =
       finds = c.requires.turn.finds;
       now = turn_now c.args.turn.checked.now c.args.turn.starts.now c.args.program.now.places c.args.turn.cell c.args.turn.place c.args.turn.block.now c.requires.turn (Mux c.in-Mux.sizes) c.in-Mux.is refl;
       read = subst (λ (port : ℕ). IsRead diagram (attributes_of diagram) c.args.turn.place.block port c.part_into-part.result.element) (sym part.1)
-          (part_read diagram c.keeps_rules.ensures.checked c.args.turn.place.block c.args.turn.block.now.inputs c.args.turn.place.element part.0 c.part_into-part.result.element part.2);
+          (part_read diagram c.requires.turn.rules.checked c.args.turn.place.block c.args.turn.block.now.inputs c.args.turn.place.element part.0 c.part_into-part.result.element part.2);
     }
 
 pub returns-in-Mux-clause-cursors : goal.returns-in-Mux-clause-cursors
@@ -42,7 +42,7 @@ returns-in-Mux-clause-cursors c =
 pub width_before-before-requires : goal.width_before-before-requires
 width_before-before-requires c =
     let diagram = c.args.turn.checked.now.diagram in
-    let is = c.keeps_rules.ensures.checked in
+    let is = c.requires.turn.rules.checked in
     let to = demux_to diagram is c.args.turn.place.block c.args.turn.block.now c.args.turn.place.port c.args.turn.place.element c.requires.turn.shown c.in-Demux.sizes c.in-Demux.is in
     let few = demux_few diagram is c.args.turn.place.block c.args.turn.block.now c.args.turn.place.port c.args.turn.place.element c.requires.turn.shown c.in-Demux.sizes c.in-Demux.is in
     record { out = c.requires.cursors.out; block = (c.args.turn.block.now, c.requires.turn.shown.block_is, to, few); from = c.requires.turn.shown.port_from }
@@ -56,13 +56,13 @@ hand_on-requires-in-Demux c =
       hands = demux_hands diagram (attributes_of diagram) c.args.turn.place c.args.turn.block.now c.requires.turn.shown.block_is c.in-Demux.sizes (before + c.args.turn.place.element) c.in-Demux.is at;
       finds = c.requires.turn.finds;
       now = turn_now c.args.turn.checked.now c.args.turn.starts.now c.args.program.now.places c.args.turn.cell c.args.turn.place c.args.turn.block.now c.requires.turn (Demux c.in-Demux.sizes) c.in-Demux.is refl;
-      read = demux_read diagram c.keeps_rules.ensures.checked c.args.turn.place.block c.args.turn.block.now c.args.turn.place.port c.args.turn.place.element c.requires.turn.shown c.in-Demux.sizes (before + c.args.turn.place.element) c.in-Demux.is at;
+      read = demux_read diagram c.requires.turn.rules.checked c.args.turn.place.block c.args.turn.block.now c.args.turn.place.port c.args.turn.place.element c.requires.turn.shown c.in-Demux.sizes (before + c.args.turn.place.element) c.in-Demux.is at;
     }
 
 pub overflow_add-before : goal.overflow_add-before
 overflow_add-before c =
     let diagram = c.args.turn.checked.now.diagram in
-    let is = c.keeps_rules.ensures.checked in
+    let is = c.requires.turn.rules.checked in
     let below = demux_below diagram is c.args.turn.place.block c.args.turn.block.now c.args.turn.place.port c.args.turn.place.element c.requires.turn.shown c.in-Demux.sizes c.in-Demux.is in
     record { fits = omega (arith, c.width_before-before.ensures, below, small diagram is c.args.turn.place.block 1) }
 

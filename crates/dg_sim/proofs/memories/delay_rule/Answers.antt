@@ -26,10 +26,10 @@ returns c =
     c.requires.kind c.requires.some c.own_stored-first.ensures c.in_ok-memory.ensures)
 
 pub remember-requires-clause-read : goal.remember-requires-clause-read
-remember-requires-clause-read c = delay_reads c.args.turn.checked.now c.args.turn.starts.now c.args.program.now.places c.args.turn.cell c.args.turn.place c.args.turn.block.now c.requires.turn c.keeps_rules.ensures.checked c.args.length c.args.initial.now c.args.reset c.requires.kind
+remember-requires-clause-read c = delay_reads c.args.turn.checked.now c.args.turn.starts.now c.args.program.now.places c.args.turn.cell c.args.turn.place c.args.turn.block.now c.requires.turn c.requires.turn.rules.checked c.args.length c.args.initial.now c.args.reset c.requires.kind
 
 pub own_stored-first-requires-clause-entry : goal.own_stored-first-requires-clause-entry
-own_stored-first-requires-clause-entry c = delay_entry c.args.turn.checked.now.diagram c.keeps_rules.ensures.checked c.args.turn.place.block c.args.turn.place.port c.args.turn.place.element c.args.turn.block.now c.requires.turn.shown c.args.length c.args.initial.now c.args.reset c.requires.kind
+own_stored-first-requires-clause-entry c = delay_entry c.args.turn.checked.now.diagram c.requires.turn.rules.checked c.args.turn.place.block c.args.turn.place.port c.args.turn.place.element c.args.turn.block.now c.requires.turn.shown c.args.length c.args.initial.now c.args.reset c.requires.kind
 
 pub control_of-control-requires : goal.control_of-control-requires
 control_of-control-requires c = c.requires.turn

@@ -72,13 +72,13 @@ returns c =
     })
 
 pub offered_entry-from-requires-clause-read : goal.offered_entry-from-requires-clause-read
-offered_entry-from-requires-clause-read c = output_reads c.args.turn.checked.now c.args.turn.starts.now c.args.program.now.places c.args.turn.cell c.args.turn.place c.args.turn.block.now c.requires.turn c.keeps_rules.ensures.checked c.args.reset c.args.initial.now c.requires.kind
+offered_entry-from-requires-clause-read c = output_reads c.args.turn.checked.now c.args.turn.starts.now c.args.program.now.places c.args.turn.cell c.args.turn.place c.args.turn.block.now c.requires.turn c.requires.turn.rules.checked c.args.reset c.args.initial.now c.requires.kind
 
 pub remember-requires-clause-read : goal.remember-requires-clause-read
-remember-requires-clause-read c = output_reads c.args.turn.checked.now c.args.turn.starts.now c.args.program.now.places c.args.turn.cell c.args.turn.place c.args.turn.block.now c.requires.turn c.keeps_rules.ensures.checked c.args.reset c.args.initial.now c.requires.kind
+remember-requires-clause-read c = output_reads c.args.turn.checked.now c.args.turn.starts.now c.args.program.now.places c.args.turn.cell c.args.turn.place c.args.turn.block.now c.requires.turn c.requires.turn.rules.checked c.args.reset c.args.initial.now c.requires.kind
 
 pub own_stored-first-requires-clause-entry : goal.own_stored-first-requires-clause-entry
-own_stored-first-requires-clause-entry c = output_entry_there c.args.turn.checked.now.diagram c.keeps_rules.ensures.checked c.args.turn.place.block c.args.turn.place.port c.args.turn.place.element c.args.turn.block.now c.requires.turn.shown c.args.reset c.args.initial.now c.requires.kind
+own_stored-first-requires-clause-entry c = output_entry_there c.args.turn.checked.now.diagram c.requires.turn.rules.checked c.args.turn.place.block c.args.turn.place.port c.args.turn.place.element c.args.turn.block.now c.requires.turn.shown c.args.reset c.args.initial.now c.requires.kind
 
 pub control_cell-cell-requires-clause-turn : goal.control_cell-cell-requires-clause-turn
 control_cell-cell-requires-clause-turn c = c.requires.turn
@@ -98,6 +98,6 @@ remember-requires-clause-room c = sym (ap kept_count c.requires.kind)
 pub unreachable-unreachable : goal.unreachable-unreachable
 unreachable-unreachable c =
     let b = c.args.turn.block.now in
-    let may = held (λ (block : Block). MayStand (row_of block.kind).place.stands block.enable) c.args.turn.checked.now.diagram.blocks c.args.turn.place.block b c.keeps_rules.ensures.checked.wired.enables c.requires.turn.shown.block_is in
+    let may = held (λ (block : Block). MayStand (row_of block.kind).place.stands block.enable) c.args.turn.checked.now.diagram.blocks c.args.turn.place.block b c.requires.turn.rules.checked.wired.enables c.requires.turn.shown.block_is in
     let inside = subst (λ (kind : Kind). MayStand (row_of kind).place.stands b.enable) c.requires.kind may in
     false≢true (subst (λ (enable : Option ℕ). MayStand (row_of (EnOut c.args.reset c.args.initial.now)).place.stands enable) c.in_default.is inside)

@@ -25,10 +25,10 @@ returns c =
     c.requires.kind.1 c.requires.slow c.requires.slower c.own_stored-first.ensures c.in_ok-memory.ensures)
 
 pub remember-requires-clause-read : goal.remember-requires-clause-read
-remember-requires-clause-read c = rate_reads c.args.turn.checked.now c.args.turn.starts.now c.args.program.now.places c.args.turn.cell c.args.turn.place c.args.turn.block.now c.requires.turn c.keeps_rules.ensures.checked c.requires.kind.0 c.args.initial.now c.requires.kind.1
+remember-requires-clause-read c = rate_reads c.args.turn.checked.now c.args.turn.starts.now c.args.program.now.places c.args.turn.cell c.args.turn.place c.args.turn.block.now c.requires.turn c.requires.turn.rules.checked c.requires.kind.0 c.args.initial.now c.requires.kind.1
 
 pub own_stored-first-requires-clause-entry : goal.own_stored-first-requires-clause-entry
-own_stored-first-requires-clause-entry c = rate_entry c.args.turn.checked.now.diagram c.keeps_rules.ensures.checked c.args.turn.place.block c.args.turn.place.port c.args.turn.place.element c.args.turn.block.now c.requires.turn.shown c.requires.kind.0 c.args.initial.now c.requires.kind.1
+own_stored-first-requires-clause-entry c = rate_entry c.args.turn.checked.now.diagram c.requires.turn.rules.checked c.args.turn.place.block c.args.turn.place.port c.args.turn.place.element c.args.turn.block.now c.requires.turn.shown c.requires.kind.0 c.args.initial.now c.requires.kind.1
 
 pub remember-requires-clause-turn : goal.remember-requires-clause-turn
 remember-requires-clause-turn c = c.requires.turn

@@ -25,7 +25,7 @@ hand_on-requires c =
     let place = c.args.turn.place in
     let b = c.args.turn.block.now in
     let turn = c.requires.turn in
-    let is = c.keeps_rules.ensures.checked in
+    let is = c.requires.turn.rules.checked in
     let param = attributes.param_at place.block in
     let control = type_into diagram attributes place.block 2 in
     let passes = λ (kind : Kind). IsOpOf kind place.element param control OpPass in
@@ -89,7 +89,7 @@ pub delay_rule-requires : goal.delay_rule-requires
 delay_rule-requires c = record {
   turn = c.requires.turn;
   kind = c.in-Delay.is ∙ ap (λ (initial : List Decimal). Delay c.in-Delay.length initial c.in-Delay.reset) (sym c.as_slice-in-Delay.ensures);
-  some = delay_some c.args.turn.checked.now.diagram c.keeps_rules.ensures.checked.wired c.args.turn.place.block c.args.turn.block.now c.requires.turn.shown.block_is c.in-Delay.length _ c.in-Delay.reset c.in-Delay.is;
+  some = delay_some c.args.turn.checked.now.diagram c.requires.turn.rules.checked.wired c.args.turn.place.block c.args.turn.block.now c.requires.turn.shown.block_is c.in-Delay.length _ c.in-Delay.reset c.in-Delay.is;
 }
 
 pub returns-in-Delay : goal.returns-in-Delay
@@ -136,7 +136,7 @@ unreachable-unreachable c =
     let b = c.args.turn.block.now in
     let port = c.args.turn.place.port in
     let shown = c.requires.turn.shown in
-    let none : b.outputs ≡ 0 = (ports_are c.args.turn.checked.now.diagram c.keeps_rules.ensures.checked.wired c.args.turn.place.block b shown.block_is Terminator c.in-Terminator.is).1 in
+    let none : b.outputs ≡ 0 = (ports_are c.args.turn.checked.now.diagram c.requires.turn.rules.checked.wired c.args.turn.place.block b shown.block_is Terminator c.in-Terminator.is).1 in
     let last : port ≤ b.outputs = subst (λ (kind : Kind). port ≤ shown_ports kind b.outputs) c.in-Terminator.is shown.port_to in
     let from = shown.port_from in
     omega (arith, none, last, from)

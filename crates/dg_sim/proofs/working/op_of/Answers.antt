@@ -9,24 +9,24 @@ use Rattle.dg_sim.proofs.working.op_of.Goals as goal
 pub stored_entry-coefficient-requires-clause-kind : goal.stored_entry-coefficient-requires-clause-kind
 stored_entry-coefficient-requires-clause-kind c =
     let checked = c.args.turn.checked.now in
-    let valid = c.operations_prepare.ensures.types checked.diagram checked.order c.args.turn.place.block c.args.turn.block.now (record { checked = c.keeps_rules.ensures.checked; ordered = c.keeps_rules.ensures.ordered }) c.requires.shown.block_is in
+    let valid = c.operations_prepare.ensures.types checked.diagram checked.order c.args.turn.place.block c.args.turn.block.now c.requires.rules c.requires.shown.block_is in
     subst IsType (sym c.param-param.ensures) valid.1
 
 pub stored_entry-coefficient-requires-clause-entry : goal.stored_entry-coefficient-requires-clause-entry
 stored_entry-coefficient-requires-clause-entry c =
     subst (λ (list : List Decimal). HasEntry list c.args.turn.place.element) (sym c.as_slice.ensures)
-    (gain_entry c.args.turn.checked.now.diagram c.keeps_rules.ensures.checked c.args.turn.place.block c.args.turn.place.port c.args.turn.place.element c.args.turn.block.now c.requires.shown _ _ c.in-Gain.is)
+    (gain_entry c.args.turn.checked.now.diagram c.requires.rules.checked c.args.turn.place.block c.args.turn.place.port c.args.turn.place.element c.args.turn.block.now c.requires.shown _ _ c.in-Gain.is)
 
 pub stored_entry-threshold-requires-clause-kind : goal.stored_entry-threshold-requires-clause-kind
 stored_entry-threshold-requires-clause-kind c =
     let checked = c.args.turn.checked.now in
-    let valid = c.operations_prepare.ensures.types checked.diagram checked.order c.args.turn.place.block c.args.turn.block.now (record { checked = c.keeps_rules.ensures.checked; ordered = c.keeps_rules.ensures.ordered }) c.requires.shown.block_is in
+    let valid = c.operations_prepare.ensures.types checked.diagram checked.order c.args.turn.place.block c.args.turn.block.now c.requires.rules c.requires.shown.block_is in
     subst IsType (sym c.type_of_input-control.ensures) (valid.2 2)
 
 pub stored_entry-threshold-requires-clause-entry : goal.stored_entry-threshold-requires-clause-entry
 stored_entry-threshold-requires-clause-entry c =
     subst (λ (list : List Decimal). HasEntry list c.args.turn.place.element) (sym c.as_slice-in-Switch.ensures)
-    (switch_entry c.args.turn.checked.now.diagram c.keeps_rules.ensures.checked c.args.turn.place.block c.args.turn.place.port c.args.turn.place.element c.args.turn.block.now c.requires.shown _ _ c.in-Switch.is)
+    (switch_entry c.args.turn.checked.now.diagram c.requires.rules.checked c.args.turn.place.block c.args.turn.place.port c.args.turn.place.element c.args.turn.block.now c.requires.shown _ _ c.in-Switch.is)
 
 pub param-param-requires : goal.param-param-requires
 param-param-requires c = slice_get_within c.args.turn.checked.now.diagram.blocks c.args.turn.place.block c.args.turn.block.now c.requires.shown.block_is
