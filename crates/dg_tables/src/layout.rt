@@ -89,17 +89,24 @@ fn put_line(firsts: &mut Vec<usize>, place: usize, edge: Edge)
     }
 }
 
-/// Where the lines into each block begin.
-fn first_lines(alloc: Global, checked: &Checked) -> Result<Vec<usize>, OutOfMemory>
-    ensures { IfOk result (λ firsts. AreLines checked.now.diagram firsts.items) }
+/// Where the lines into each block begin; no port and no entry is put yet.
+fn line_starts(alloc: Global, checked: &Checked) -> Result<Starts, OutOfMemory>
+    ensures lines { IfOk result (λ starts. AreLines checked.now.diagram starts.lines.items) }
+    ensures ports { IfOk result (λ starts.
+        length starts.ports.items ≡ length checked.now.diagram.blocks) }
 {
     checked.keeps_rules();
     let count = checked.diagram().blocks.as_slice().len();
+    let ports: Vec<usize> = vec![in alloc; 0; count]?;
     let mut firsts: Vec<usize> = vec![in alloc; 0; count]?;
     for (place, edge) in checked.diagram().edges.as_slice().iter().enumerate() {
         put_line(&mut firsts, place, *edge);
     }
-    Ok(firsts)
+    Ok(Starts {
+        lines: firsts,
+        ports,
+        entries: Vec::new(alloc),
+    })
 }
 
 /// The entries of a sample in the order of the blocks, with what finds them.
@@ -112,14 +119,7 @@ pub fn lay_out(alloc: Global, checked: &Checked) -> Result<(Starts, Places), Out
     ensures finds { IfOk result (λ pair. Finds checked.now pair.0 pair.1) }
 {
     checked.keeps_rules();
-    let lines = first_lines(alloc, checked)?;
-    let count = checked.diagram().blocks.as_slice().len();
-    let ports: Vec<usize> = vec![in alloc; 0; count]?;
-    let mut starts = Starts {
-        lines,
-        ports,
-        entries: Vec::new(alloc),
-    };
+    let mut starts = line_starts(alloc, checked)?;
     let mut places = Places::new(alloc);
     for block in checked.order() {
         let one = &checked.diagram().blocks.as_slice()[*block as usize];

@@ -1,5 +1,4 @@
 use Rattle.std.proofs.Common.{◌≡◌, ◌≤◌, ◌<◌, ◌^◌, ℕ, List, Some, length, slice_get, get_or, ap, sym, ◌∙◌, subst, arith}
-use Rattle.std.proofs.lemmas.List.{length-replicate}
 use Rattle.std.proofs.lemmas.Option.{slice_get-get_or}
 use Rattle.dg_model.specs.declared.diagram.Block.{Block}
 use Rattle.dg_model.specs.declared.diagram.Diagram.{Diagram}
@@ -9,11 +8,7 @@ use Rattle.dg_tables.proofs.layout.lay_out.Goals as goal
 
 pub loop-block-init : goal.loop-block-init
 loop-block-init c =
-    let diagram : Diagram = c.args.checked.now.diagram in
-    let items = c.in_ok-ports.ensures.items_if_clones_equal (λ y same. same) in
-    let count = ap length (c.as_slice-count.ensures ∙ ap (λ (d : Diagram). d.blocks) c.diagram.ensures) in
-    let size : length c.in_ok-ports.ports.items ≡ length diagram.blocks = ap length items ∙ length-replicate (length c.as_slice-count.result.now) 0 ∙ count in
-    laid_none c.args.checked.now c.keeps_rules.ensures.ordered (record { lines = c.in_ok-lines.lines; ports = c.in_ok-ports.ports; entries = c.new.result }) c.new-places.result c.new-places.ensures c.in_ok-lines.ensures size
+    laid_none c.args.checked.now c.keeps_rules.ensures.ordered c.in_ok-starts.starts c.new-places.result c.new-places.ensures c.in_ok-starts.ensures.lines c.in_ok-starts.ensures.ports
 
 pub put_block-requires : goal.put_block-requires
 put_block-requires c =
@@ -22,7 +17,7 @@ put_block-requires c =
     let index : ℕ = c.loop-block.block-index in
     let block : ℕ = get_or c.order-block-items.result.now index 0 in
     let turn : slice_get checked.order index ≡ Some block = ap (λ (xs : List ℕ). slice_get xs index) (sym c.order-block-items.ensures) ∙ slice_get-get_or c.order-block-items.result.now index 0 c.loop-block-test.true in
-    let list : c.as_slice.result.now ≡ diagram.blocks = c.as_slice.ensures ∙ ap (λ (d : Diagram). d.blocks) c.diagram-in-loop-block.ensures in
+    let list : c.as_slice.result.now ≡ diagram.blocks = c.as_slice.ensures ∙ ap (λ (d : Diagram). d.blocks) c.diagram.ensures in
     let there : block < length diagram.blocks = held (λ (place : ℕ). place < length diagram.blocks) checked.order index block c.keeps_rules.ensures.ordered.there turn in
     let within : block < length c.as_slice.result.now = subst (λ (bs : List Block). block < length bs) (sym list) there in
     record {
@@ -43,7 +38,7 @@ loop-block-preserved c =
     let one : Block = c.index-as_slice-block.result in
     let new = c.in_ok-put_block.ensures in
     let turn : slice_get checked.order index ≡ Some block = ap (λ (xs : List ℕ). slice_get xs index) (sym c.order-block-items.ensures) ∙ slice_get-get_or c.order-block-items.result.now index 0 c.loop-block-test.true in
-    let list : c.as_slice.result.now ≡ diagram.blocks = c.as_slice.ensures ∙ ap (λ (d : Diagram). d.blocks) c.diagram-in-loop-block.ensures in
+    let list : c.as_slice.result.now ≡ diagram.blocks = c.as_slice.ensures ∙ ap (λ (d : Diagram). d.blocks) c.diagram.ensures in
     let there : block < length diagram.blocks = held (λ (place : ℕ). place < length diagram.blocks) checked.order index block c.keeps_rules.ensures.ordered.there turn in
     let within : block < length c.as_slice.result.now = subst (λ (bs : List Block). block < length bs) (sym list) there in
     let block_is : slice_get diagram.blocks block ≡ Some one = ap (λ (bs : List Block). slice_get bs block) (sym list) ∙ slice_get-get_or c.as_slice.result.now block _ within ∙ ap (λ (b : Block). Some b) (sym c.index-as_slice-block.is) in

@@ -5,7 +5,7 @@ use Rattle.dg_model.specs.declared.diagram.Diagram.{Diagram}
 use Rattle.dg_model.specs.declared.diagram.Edge.{Edge}
 use Rattle.dg_tables.specs.inner.Laying.{AreLinesTo}
 use Rattle.dg_tables.proofs.Lines.{target, lines_more, lines_all}
-use Rattle.dg_tables.proofs.layout.first_lines.Goals as goal
+use Rattle.dg_tables.proofs.layout.line_starts.Goals as goal
 
 pub loop-place-init : goal.loop-place-init
 loop-place-init c =
@@ -38,9 +38,14 @@ loop-place-preserved c =
     subst (λ (firsts : List ℕ). AreLinesTo diagram (place + 1) firsts) (sym c.put_line.ensures)
     (lines_more diagram c.keeps_rules.ensures.checked.wired c.loop-place.firsts.items place _ at c.loop-place.invariant)
 
-pub returns : goal.returns
-returns c =
+pub returns-clause-lines : goal.returns-clause-lines
+returns-clause-lines c =
     let diagram : Diagram = c.args.checked.now.diagram in
     let edges : c.as_slice-edge-items.result.now ≡ diagram.edges = c.as_slice-edge-items.ensures ∙ ap (λ (d : Diagram). d.edges) c.diagram-2.ensures in
     lines_all diagram c.keeps_rules.ensures.checked.wired c.loop-place.firsts.items c.loop-place.place
     (subst (λ (xs : List Edge). length xs ≤ c.loop-place.place) edges c.loop-place-test.false) c.loop-place.invariant
+
+pub returns-clause-ports : goal.returns-clause-ports
+returns-clause-ports c =
+    let items = c.in_ok-ports.ensures.items_if_clones_equal (λ y same. same) in
+    ap length items ∙ length-replicate (length c.as_slice-count.result.now) 0 ∙ ap length (c.as_slice-count.ensures ∙ ap (λ (d : Diagram). d.blocks) c.diagram.ensures)
