@@ -7,7 +7,7 @@ ghost use Rattle.dg_model.specs.Solves.{IsShown};
 ghost use Rattle.dg_tables.specs.Entries.{Reads, AreEntries};
 ghost use Rattle.dg_sim.specs.inner.Building.{AreRead, is_worked};
 ghost use Rattle.dg_tables.specs.Finding.{AreLines, IsRead};
-ghost use Rattle.dg_tables.specs.Laws.{IsOrdered};
+ghost use Rattle.dg_tables.specs.Laws.{IsOrdered, TypesAreValid};
 ghost use Rattle.dg_sim.specs.inner.Turns.{CanOffer, IsMadeFor, IsTurnOf};
 
 use crate::program::{Program, Rule, Work};
@@ -87,12 +87,12 @@ fn op_of<'a>(turn: Turn<'a>) -> Op
     requires shown { IsShown turn.checked.now.diagram (attributes_of turn.checked.now.diagram)
         turn.place.block turn.block.now turn.place.port turn.place.element }
     requires worked { is_worked turn.block.now.kind ≡ true }
+    requires types { TypesAreValid }
     ensures { IsOpOf turn.entry.block.now.kind turn.entry.place.element
         ((attributes_of turn.entry.checked.now.diagram).param_at turn.entry.place.block)
         (type_into turn.entry.checked.now.diagram
         (attributes_of turn.entry.checked.now.diagram) turn.entry.place.block 2) result }
 {
-    operations_prepare();
     match &turn.block.kind {
         Kind::Sum { .. } => Op::Sum,
         Kind::Gain { value, .. } => {

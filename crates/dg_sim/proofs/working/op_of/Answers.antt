@@ -9,7 +9,7 @@ use Rattle.dg_sim.proofs.working.op_of.Goals as goal
 pub stored_entry-coefficient-requires-clause-kind : goal.stored_entry-coefficient-requires-clause-kind
 stored_entry-coefficient-requires-clause-kind c =
     let checked = c.args.turn.checked.now in
-    let valid = c.operations_prepare.ensures.types checked.diagram checked.order c.args.turn.place.block c.args.turn.block.now c.requires.rules c.requires.shown.block_is in
+    let valid = c.requires.types checked.diagram checked.order c.args.turn.place.block c.args.turn.block.now c.requires.rules c.requires.shown.block_is in
     subst IsType (sym c.param-param.ensures) valid.1
 
 pub stored_entry-coefficient-requires-clause-entry : goal.stored_entry-coefficient-requires-clause-entry
@@ -20,7 +20,7 @@ stored_entry-coefficient-requires-clause-entry c =
 pub stored_entry-threshold-requires-clause-kind : goal.stored_entry-threshold-requires-clause-kind
 stored_entry-threshold-requires-clause-kind c =
     let checked = c.args.turn.checked.now in
-    let valid = c.operations_prepare.ensures.types checked.diagram checked.order c.args.turn.place.block c.args.turn.block.now c.requires.rules c.requires.shown.block_is in
+    let valid = c.requires.types checked.diagram checked.order c.args.turn.place.block c.args.turn.block.now c.requires.rules c.requires.shown.block_is in
     subst IsType (sym c.type_of_input-control.ensures) (valid.2 2)
 
 pub stored_entry-threshold-requires-clause-entry : goal.stored_entry-threshold-requires-clause-entry

@@ -40,4 +40,4 @@ pub result-requires : goal.result-requires
 result-requires c = slice_get_within c.args.turn.checked.now.diagram.blocks c.args.turn.place.block c.args.turn.block.now c.requires.turn.shown.block_is
 
 pub op_of-op-requires : goal.op_of-op-requires
-op_of-op-requires c = record { rules = c.requires.turn.rules; shown = c.requires.turn.shown; lines = c.requires.turn.finds.lines; worked = c.requires.worked }
+op_of-op-requires c = record { rules = c.requires.turn.rules; shown = c.requires.turn.shown; lines = c.requires.turn.finds.lines; worked = c.requires.worked; types = c.operations_prepare.ensures.types }
