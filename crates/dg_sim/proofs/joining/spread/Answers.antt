@@ -66,8 +66,8 @@ overflow_add-before c =
     let below = demux_below diagram is c.args.turn.place.block c.args.turn.block.now c.args.turn.place.port c.args.turn.place.element c.requires.turn.shown c.in-Demux.sizes c.in-Demux.is in
     record { fits = omega (arith, c.width_before-before.ensures, below, small diagram is c.args.turn.place.block 1) }
 
-pub unreachable-unreachable : goal.unreachable-unreachable
-unreachable-unreachable c =
+pub unreachable-requires : goal.unreachable-requires
+unreachable-requires c =
     elim c.requires.kind [
       | inl has ↦ c.in_default.not-Mux has.0 has.1
       | inr has ↦ c.in_default.not-Demux has.0 has.1

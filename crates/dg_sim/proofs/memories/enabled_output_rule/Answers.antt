@@ -1,4 +1,4 @@
-use Rattle.std.proofs.Common.{◌∙◌, ℕ, List, Bool, Option, ap, sym, subst, ◌<◌, FitsSigned, refl}
+use Rattle.std.proofs.Common.{◌∙◌, ℕ, List, Bool, Option, ap, sym, subst, ◌<◌, FitsSigned, refl, arith}
 use Rattle.std.specs.Int.{w128}
 use Rattle.std.proofs.lemmas.Int.{to_z-of_z}
 use Rattle.std.proofs.lemmas.Bool.{false≢true}
@@ -95,9 +95,12 @@ remember-requires-clause-turn c = c.requires.turn
 pub remember-requires-clause-room : goal.remember-requires-clause-room
 remember-requires-clause-room c = sym (ap kept_count c.requires.kind)
 
-pub unreachable-unreachable : goal.unreachable-unreachable
-unreachable-unreachable c =
+pub unreachable-requires : goal.unreachable-requires
+unreachable-requires c =
     let b = c.args.turn.block.now in
     let may = held (λ (block : Block). MayStand (row_of block.kind).place.stands block.enable) c.args.turn.checked.now.diagram.blocks c.args.turn.place.block b c.requires.turn.rules.checked.wired.enables c.requires.turn.shown.block_is in
     let inside = subst (λ (kind : Kind). MayStand (row_of kind).place.stands b.enable) c.requires.kind may in
     false≢true (subst (λ (enable : Option ℕ). MayStand (row_of (EnOut c.args.reset c.args.initial.now)).place.stands enable) c.in_default.is inside)
+
+pub remember-requires-clause-some : goal.remember-requires-clause-some
+remember-requires-clause-some c = omega arith

@@ -131,8 +131,8 @@ works-requires c = record {
 pub returns-in-Sum : goal.returns-in-Sum
 returns-in-Sum c = record { made = c.works.ensures; cursors = c.requires.cursors }
 
-pub unreachable-unreachable : goal.unreachable-unreachable
-unreachable-unreachable c =
+pub unreachable-requires : goal.unreachable-requires
+unreachable-requires c =
     let b = c.args.turn.block.now in
     let port = c.args.turn.place.port in
     let shown = c.requires.turn.shown in
