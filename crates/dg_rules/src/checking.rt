@@ -51,7 +51,7 @@ fn propagation(alloc: Global, diagram: &Diagram) -> Result<Propagated, CheckFaul
 {
     let widths = widths(alloc, diagram)?;
     let typed = types(alloc, diagram, &widths)?;
-    match timing(alloc, diagram) {
+    match timing_of(alloc, diagram) {
         Ok(timed) => Ok(Propagated {
             widths,
             types: typed.results,
@@ -76,7 +76,7 @@ struct Timing {
 
 /// The periods of a diagram that keeps the rules of dimensions and types, and the order of its blocks,
 /// or the first of the rules of rates and loops that it breaks.
-fn timing(alloc: Global, diagram: &Diagram) -> Result<Timing, CheckFault>
+fn timing_of(alloc: Global, diagram: &Diagram) -> Result<Timing, CheckFault>
     requires wired { IsWired diagram.now }
     requires dimensions { KeepsDimensions diagram.now }
     requires types { KeepsTypes diagram.now }

@@ -5,7 +5,7 @@ use Rattle.dg_model.specs.Checked.{BreaksRule}
 use Rattle.dg_model.specs.Loop.{BreaksLoop}
 use Rattle.dg_model.specs.Rate.{BreaksRate}
 use Rattle.dg_model.proofs.Refused.{refused_as}
-use Rattle.dg_rules.proofs.checking.timing.Goals as goal
+use Rattle.dg_rules.proofs.checking.timing_of.Goals as goal
 
 pub returns-in_err-periods-clause-broken : goal.returns-in_err-periods-clause-broken
 returns-in_err-periods-clause-broken c =
