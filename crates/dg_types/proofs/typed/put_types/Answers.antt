@@ -1,4 +1,4 @@
-use Rattle.std.proofs.Common.{◌<◌, ◌≤◌, ℕ, List, None, length, map, take, ◌++◌, ◌∷◌, [], ap, sym, ◌∙◌, arith}
+use Rattle.std.proofs.Common.{◌≡◌, ◌<◌, ◌≤◌, ℕ, List, None, length, map, take, ◌++◌, ◌∷◌, [], ap, sym, ◌∙◌, arith}
 use Rattle.std.proofs.lemmas.List.{map_more, take_all}
 use Rattle.dg_waves.specs.Rounds.{numbers_from}
 use Rattle.fx_type.specs.declared.kind.FxType.{FxType}
@@ -34,3 +34,10 @@ pub returns-clause-results : goal.returns-clause-results
 returns-clause-results c =
     let past : length c.args.typed.types.now ≤ c.loop-place.place = omega (arith, c.loop-place-test.false, ap length c.as_slice-place-end.ensures, c.requires.typed.types_size) in
     c.loop-place.invariant.results ∙ ap (map or_logical) (take_all c.loop-place.place c.args.typed.types.now past ∙ c.requires.typed.types_are)
+
+pub returns-clause-params : goal.returns-clause-params
+returns-clause-params c =
+    let diagram = c.args.typed.diagram.now in
+    let f : ℕ → FxType = λ place. or_logical (param_type_at diagram (types_of diagram) place) in
+    let all : c.loop-place.place ≡ length diagram.blocks = omega (arith, c.loop-place-test.false, c.loop-place.auto.place-end, ap length c.as_slice-place-end.ensures) in
+    c.loop-place.invariant.params ∙ ap (λ (n : ℕ). map f (numbers_from 0 n)) all
