@@ -1,12 +1,12 @@
 //! The ports of the wrapper.
-ghost use Rattle.std.specs.Prelude.{◌≡◌, map, IfOk};
-ghost use Rattle.vl_ast.specs.Listing.{Lists};
+ghost use Rattle.std.specs.Prelude.{map};
+ghost use Rattle.vl_ast.specs.Listing.{Holds, Lists};
 ghost use Rattle.st_wrap.specs.inner.Columns.{port_of};
 ghost use Rattle.st_wrap.specs.inner.Wrapped.{ports_of};
 
 use crate::columns::Column;
 use std::alloc::Global;
-use vl_ast::{Listing, Made, Port, Ports, begin, finish, put_bit_port, put_data_port};
+use vl_ast::{Listing, Port, begin, put_bit_port, put_data_port};
 
 /// Puts the port of each column.
 fn put_columns(alloc: Global, out: &mut Listing<Port>, columns: &[Column], input: bool)
@@ -19,8 +19,8 @@ fn put_columns(alloc: Global, out: &mut Listing<Port>, columns: &[Column], input
 }
 
 /// The ports of the wrapper.
-pub fn ports_of(alloc: Global, inputs: &[Column], outputs: &[Column]) -> Made<Ports>
-    ensures { IfOk result (λ ports. ports ≡ ports_of inputs.now outputs.now) }
+pub fn ports_of(alloc: Global, inputs: &[Column], outputs: &[Column]) -> Listing<Port>
+    ensures { Holds result (ports_of inputs.now outputs.now) }
 {
     let mut out = begin(alloc);
     put_bit_port(alloc, &mut out, b"clk", true);
@@ -31,5 +31,5 @@ pub fn ports_of(alloc: Global, inputs: &[Column], outputs: &[Column]) -> Made<Po
     put_data_port(alloc, &mut out, b"in_ready", false, (1, false), 1, 0);
     put_data_port(alloc, &mut out, b"out_valid", false, (1, false), 1, 0);
     put_columns(alloc, &mut out, outputs, false);
-    finish(out)
+    out
 }

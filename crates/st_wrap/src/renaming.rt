@@ -2,15 +2,15 @@
 ghost use Rattle.std.specs.Prelude.{◌≡◌, ◌∷◌, [], ℕ, List, map, IfOk};
 ghost use Rattle.vl_ast.specs.declared.expressions.Expr.{Expr};
 ghost use Rattle.vl_ast.specs.declared.expressions.Expr.TheViews.{out-Expr};
-ghost use Rattle.vl_ast.specs.Listing.{Lists};
+ghost use Rattle.vl_ast.specs.Listing.{Holds, Lists};
 ghost use Rattle.st_wrap.specs.inner.Renamed.{core_items, renamed, renamed_condition, renamed_item, wires_of, with_name, with_part};
 
 use crate::names::{inner_name, is_shared};
 use fx_io::Text;
 use std::alloc::Global;
 use vl_ast::{
-    Expr, Exprs, Listing, Made, ModItem, Module, begin, binary, choose, concat, finish, in_box,
-    put, put_assignment, put_clocked, put_declaration, some_condition,
+    Expr, Listing, Made, ModItem, Module, begin, binary, choose, concat, in_box, put_assignment,
+    put_clocked, put_declaration, put_expression, some_condition,
 };
 
 /// A bit or a part, as the expression is, of another name; else the name.
@@ -71,14 +71,14 @@ fn renamed_expr(alloc: Global, e: &Expr) -> Made<Expr>
 }
 
 #[cycle(renaming)]
-fn renamed_parts(alloc: Global, parts: &[Expr]) -> Made<Exprs>
-    ensures { IfOk result (λ made. made ≡ map renamed parts.now) }
+fn renamed_parts(alloc: Global, parts: &[Expr]) -> Listing<Expr>
+    ensures { Holds result (map renamed parts.now) }
 {
     let mut out = begin(alloc);
     for part in parts {
-        put(&mut out, renamed_expr(alloc, part));
+        put_expression(&mut out, renamed_expr(alloc, part));
     }
-    finish(out)
+    out
 }
 
 fn renamed_condition(alloc: Global, condition: &Option<Expr>) -> Made<Option<Expr>>

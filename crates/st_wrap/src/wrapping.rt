@@ -1,5 +1,6 @@
 //! The module with valid and ready round a core.
 ghost use Rattle.std.specs.Prelude.{◌≡◌, List, ℕ, true, IfOk, length};
+ghost use Rattle.vl_ast.specs.Listing.{Holds};
 ghost use Rattle.st_wrap.specs.Promised.{AreColumnNames, BreaksNone, CarriesTransfers, FollowsCore, HasStreamHeader, KeepsBits, ShakesHands, Spells, is_stallable, multiplications, spelling};
 ghost use Rattle.st_wrap.specs.inner.Wrapped.{items_of, IsWrapped};
 
@@ -12,8 +13,7 @@ use crate::renaming::{put_core, put_wires};
 use fx_io::{OutOfMemory, Text};
 use std::alloc::Global;
 use vl_ast::{
-    Made, ModItems, Module, begin, counted_rows_run, finish, one_run, sound_modules_spell,
-    whole_module,
+    Listing, ModItem, Module, begin, counted_rows_run, one_run, sound_modules_spell, whole_module,
 };
 
 /// The module `fx_stream` with valid and ready round a core. It takes a sample of all inputs where
@@ -65,8 +65,8 @@ fn items_of(
     counters: Counters,
     inputs: &[Column],
     outputs: &[Column],
-) -> Made<ModItems>
-    ensures { IfOk result (λ items. items ≡ items_of core.now counters inputs.now outputs.now) }
+) -> Listing<ModItem>
+    ensures { Holds result (items_of core.now counters inputs.now outputs.now) }
 {
     let mut out = begin(alloc);
     put_wires(alloc, &mut out, core);
@@ -77,5 +77,5 @@ fn items_of(
     control::drive(alloc, &mut out, counters);
     put_parts(alloc, &mut out, Part::HeldDriven, inputs);
     put_parts(alloc, &mut out, Part::LateDriven, outputs);
-    finish(out)
+    out
 }

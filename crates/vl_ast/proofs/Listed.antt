@@ -26,7 +26,7 @@ module _ {A : Type 0} where
     whole = λ enough. let last = put.whole enough in last.1 ∙ ap (λ (xs : List A). xs ++ more) (has.whole last.0);
   }
 
-  holds-as : {out : Listing A} {first second : List A} → first ≡ second → Holds out first → Holds out second
+  pub holds-as : {out : Listing A} {first second : List A} → first ≡ second → Holds out first → Holds out second
   holds-as {out} is one = subst (λ (xs : List A). Holds out xs) is one
 
 -- what a loop puts of each element

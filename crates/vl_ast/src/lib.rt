@@ -30,7 +30,7 @@ pub use laws::{
 pub use making::{
     Listing, Made, begin, binary, binary_of, both, choose, choose_of, concat, finish, in_box,
     named, put, put_assignment, put_bit_port, put_clocked, put_data_port, put_declaration,
-    put_register, some_condition, unary, whole_module,
+    put_expression, put_register, some_condition, unary, whole_module,
 };
 pub use modules::{Attr, Attrs, ModItem, ModItems, Module, Port, Ports};
 pub use words::{Bits128, mask_of};

@@ -11,8 +11,8 @@ ghost use Rattle.vl_ast.specs.declared.modules.Port.{Port};
 ghost use Rattle.vl_ast.specs.Header.{DataPort, attribute_of, bit_port, input_port, module_with, output_port};
 ghost use Rattle.vl_ast.specs.Listing.{Holds, Lists};
 
-use crate::expressions::{BinOp, Expr, Exprs, Sized, UnOp};
-use crate::modules::{Attr, Attrs, ModItem, ModItems, Module, Port, Ports};
+use crate::expressions::{BinOp, Expr, Sized, UnOp};
+use crate::modules::{Attr, Attrs, ModItem, Module, Port};
 use fx_io::{Boxed, OutOfMemory, Sequence, Text};
 use std::alloc::Global;
 
@@ -83,12 +83,18 @@ pub fn named(name: Made<Text>) -> Made<Expr>
     Ok(Expr::Name(name?))
 }
 
-/// Expressions side by side. The only error is want of memory.
-pub fn concat(parts: Made<Exprs>) -> Made<Expr>
-    ensures { (all : List Expr) → IfOk parts (λ made. made ≡ all)
-        → IfOk result (λ e. e ≡ Concat all) }
+/// Puts an expression behind the others.
+pub fn put_expression(out: &mut Listing<Expr>, made: Made<Expr>)
+    ensures { (is : Expr) → IfOk made (λ e. e ≡ is) → Lists out.old out.new (is ∷ []) }
 {
-    Ok(Expr::Concat(parts?))
+    put(out, made);
+}
+
+/// Expressions side by side. The only error is want of memory.
+pub fn concat(parts: Listing<Expr>) -> Made<Expr>
+    ensures { (all : List Expr) → Holds parts all → IfOk result (λ e. e ≡ Concat all) }
+{
+    Ok(Expr::Concat(finish(parts)?))
 }
 
 /// `op part`. The only error is want of memory.
@@ -336,17 +342,16 @@ pub fn whole_module(
     alloc: Global,
     name: &[u8],
     cycles: u64,
-    ports: Made<Ports>,
-    items: Made<ModItems>,
+    ports: Listing<Port>,
+    items: Listing<ModItem>,
 ) -> Made<Module>
-    ensures { (all : List Port) (listed : List ModItem) → IfOk ports (λ made. made ≡ all)
-        → IfOk items (λ made. made ≡ listed)
+    ensures { (all : List Port) (listed : List ModItem) → Holds ports all → Holds items listed
         → IfOk result (λ made. made ≡ module_with name.now cycles all listed) }
 {
     let mut attrs = begin(alloc);
     put(&mut attrs, attribute(alloc, b"fx_cycles", cycles));
     let head = both(Text::copy(alloc, name), finish(attrs));
-    let ((name, attrs), (ports, items)) = both(head, both(ports, items))?;
+    let ((name, attrs), (ports, items)) = both(head, both(finish(ports), finish(items)))?;
     Ok(Module {
         name,
         attrs,

@@ -1,12 +1,12 @@
 //! The header of a netlist's module.
-ghost use Rattle.std.specs.Prelude.{◌≡◌, map, IfOk};
-ghost use Rattle.vl_ast.specs.Listing.{Lists};
+ghost use Rattle.std.specs.Prelude.{map};
+ghost use Rattle.vl_ast.specs.Listing.{Holds, Lists};
 ghost use Rattle.vl_emit.specs.Header.{ports_of};
 ghost use Rattle.vl_emit.specs.inner.Ready.{AreReady, AreThere, port_of};
 
 use hw_net::{NetPort, Netlist};
 use std::alloc::Global;
-use vl_ast::{Listing, Made, Port, Ports, begin, finish, put_bit_port, put_data_port};
+use vl_ast::{Listing, Port, begin, put_bit_port, put_data_port};
 
 /// Puts inputs, or else outputs, behind the others.
 fn put_each(alloc: Global, out: &mut Listing<Port>, netlist: &Netlist, own: &[NetPort], input: bool)
@@ -24,9 +24,9 @@ fn put_each(alloc: Global, out: &mut Listing<Port>, netlist: &Netlist, own: &[Ne
 
 /// The clock, the reset, the clock enable, and the ports of a netlist in order, with `ce_out`
 /// before its outputs.
-pub fn ports_of(alloc: Global, netlist: &Netlist) -> Made<Ports>
+pub fn ports_of(alloc: Global, netlist: &Netlist) -> Listing<Port>
     requires { AreReady netlist.now }
-    ensures { IfOk result (λ ports. ports ≡ ports_of netlist.now) }
+    ensures { Holds result (ports_of netlist.now) }
 {
     let mut out = begin(alloc);
     put_bit_port(alloc, &mut out, b"clk", true);
@@ -35,5 +35,5 @@ pub fn ports_of(alloc: Global, netlist: &Netlist) -> Made<Ports>
     put_each(alloc, &mut out, netlist, netlist.inputs(), true);
     put_bit_port(alloc, &mut out, b"ce_out", false);
     put_each(alloc, &mut out, netlist, netlist.outputs(), false);
-    finish(out)
+    out
 }

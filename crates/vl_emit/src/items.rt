@@ -1,8 +1,8 @@
 //! The items of a netlist's module: declarations, then the drivers of Unit nets, then the other
 //! drivers, then the output ports, then `ce_out`.
-ghost use Rattle.std.specs.Prelude.{◌≡◌, ◌++◌, ◌∷◌, [], map, IfOk};
+ghost use Rattle.std.specs.Prelude.{◌++◌, ◌∷◌, [], map};
 ghost use Rattle.vl_ast.specs.Gated.{gated_item, shows_enable};
-ghost use Rattle.vl_ast.specs.Listing.{Lists};
+ghost use Rattle.vl_ast.specs.Listing.{Holds, Lists};
 ghost use Rattle.vl_emit.specs.inner.Emitted.{declarers_at, items_of, others_at};
 ghost use Rattle.vl_emit.specs.inner.Ready.{HasKind, IsNet, IsSource, circuit_of, net_count};
 ghost use Rattle.vl_emit.specs.inner.Ready.{net_items, first_in, all_shown};
@@ -14,7 +14,7 @@ use crate::source::{Source, operand};
 use fx_io::Text;
 use hw_net::NetKind;
 use std::alloc::Global;
-use vl_ast::{Listing, Made, ModItem, ModItems, begin, finish, put_assignment, put_declaration};
+use vl_ast::{Listing, ModItem, begin, put_assignment, put_declaration};
 
 /// The parts of a module that have items of each net: their declarations, the drivers of Unit nets, and
 /// those of the others.
@@ -117,10 +117,10 @@ fn show_outputs(alloc: Global, out: &mut Listing<ModItem>, source: Source)
 }
 
 /// All items, in order.
-pub fn items_of(alloc: Global, source: Source) -> Made<ModItems>
+pub fn items_of(alloc: Global, source: Source) -> Listing<ModItem>
     requires { IsSource source }
-    ensures { IfOk result (λ items. items
-        ≡ map gated_item (items_of (circuit_of source.entry) ++ shows_enable ∷ [])) }
+    ensures { Holds result
+        (map gated_item (items_of (circuit_of source.entry) ++ shows_enable ∷ [])) }
 {
     let mut out = begin(alloc);
     put_nets(alloc, &mut out, source, Part::Declarations);
@@ -129,5 +129,5 @@ pub fn items_of(alloc: Global, source: Source) -> Made<ModItems>
     show_outputs(alloc, &mut out, source);
     let value = enable(alloc);
     put_assignment(&mut out, Text::copy(alloc, b"ce_out"), value);
-    finish(out)
+    out
 }

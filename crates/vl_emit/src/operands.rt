@@ -6,10 +6,10 @@ ghost use Rattle.std.specs.Fmt.{decimal};
 ghost use Rattle.vl_emit.specs.inner.Spelled.{zeros, fill, inside, piece, at_width};
 ghost use Rattle.vl_emit.specs.inner.Spoken.{called_text, wire_at, CanBeAt};
 
-use fx_io::{Boxed, Text};
+use fx_io::Text;
 use itoa::Buffer;
 use std::alloc::Global;
-use vl_ast::{Bits128, Expr, Made, Sized, begin, concat, finish, named, put};
+use vl_ast::{Bits128, Expr, Made, Sized, begin, concat, in_box, named, put_expression};
 
 /// How a net or a port is called in the module.
 #[derive(Clone, Copy)]
@@ -74,7 +74,7 @@ fn fill(alloc: Global, operand: Operand, count: u32) -> Made<Expr>
         return Ok(zeros(count));
     }
     let sign = Expr::Bit(text_of(alloc, operand.called)?, operand.width - 1);
-    Ok(Expr::Repeat(count, Boxed::new(alloc, sign)?))
+    Ok(Expr::Repeat(count, in_box(alloc, Ok(sign))?))
 }
 
 fn inside(alloc: Global, operand: Operand, low: u32, width: u32) -> Made<Expr>
@@ -95,9 +95,9 @@ pub fn beside(alloc: Global, left: Made<Expr>, right: Made<Expr>) -> Made<Expr>
         → IfOk result (λ e. e ≡ Concat (one ∷ other ∷ [])) }
 {
     let mut parts = begin(alloc);
-    put(&mut parts, left);
-    put(&mut parts, right);
-    concat(finish(parts))
+    put_expression(&mut parts, left);
+    put_expression(&mut parts, right);
+    concat(parts)
 }
 
 /// So many bits of an operand from a place up.

@@ -1,8 +1,8 @@
-use Rattle.std.proofs.Common.{◌≡◌, ◌∙◌, IfOk, inl, inr, ℕ, List, map, subst}
+use Rattle.std.proofs.Common.{◌≡◌, ◌∙◌, IfOk, ap, inl, inr, ℕ, List, map, subst}
 use Rattle.std.proofs.lemmas.List.{take_all}
 use Rattle.vl_ast.specs.declared.expressions.Expr.{Expr}
 use Rattle.vl_ast.specs.declared.expressions.Expr.TheViews.{out-Expr}
-use Rattle.vl_ast.proofs.Listed.{one-held}
+use Rattle.vl_ast.proofs.Listed.{holds-as, one-held}
 use Rattle.st_wrap.specs.inner.Names.{inner_name}
 use Rattle.st_wrap.specs.inner.Renamed.{renamed, with_name, with_part}
 use Rattle.st_wrap.proofs.Forms.{of-name, of-bit, of-part, of-literal, of-concat, of-repeat, of-signed, of-unsigned, of-unary, of-binary, of-shift, of-choose, over-bit, over-name, over-part, over-repeat, over-shift, over-signed, over-unary, over-unsigned}
@@ -29,7 +29,7 @@ renamed_expr-returns-in-Literal t c =
 
 pub renamed_expr-returns-in-Concat : goal.renamed_expr-returns-in-Concat
 renamed_expr-returns-in-Concat t c =
-    let parts = subst (λ (parts : List Expr). IfOk c.renamed_parts.result (λ made. made ≡ map renamed parts)) c.as_slice.ensures c.renamed_parts.ensures in
+    let parts = holds-as (ap (map renamed) c.as_slice.ensures) c.renamed_parts.ensures in
     subst (λ (e : Expr). IfOk c.concat.result (λ made. made ≡ e)) (of-concat c.in-Concat.parts c.args.e.now c.in-Concat.is) (c.concat.ensures _ parts)
 
 pub renamed_expr-returns-in-Repeat : goal.renamed_expr-returns-in-Repeat
@@ -73,10 +73,8 @@ renamed_parts-loop-part-init t c = c.begin-out.ensures
 
 pub renamed_parts-loop-part-preserved : goal.renamed_parts-loop-part-preserved
 renamed_parts-loop-part-preserved t c =
-    one-held c.args.parts.now c.loop-part.part-index c.part-item.result c.loop-part-test.true c.part-item.is renamed c.loop-part.invariant (c.put.ensures _ c.renamed_expr.ensures)
+    one-held c.args.parts.now c.loop-part.part-index c.part-item.result c.loop-part-test.true c.part-item.is renamed c.loop-part.invariant (c.put_expression.ensures _ c.renamed_expr.ensures)
 
 pub renamed_parts-returns : goal.renamed_parts-returns
 renamed_parts-returns t c =
-    let i = c.loop-part.part-index in
-    let parts = c.args.parts.now in
-    subst (λ (all : List Expr). IfOk c.finish.result (λ made. made ≡ map renamed all)) (take_all i parts c.loop-part-test.false) (c.finish.ensures _ c.loop-part.invariant)
+    holds-as (ap (map renamed) (take_all c.loop-part.part-index c.args.parts.now c.loop-part-test.false)) c.loop-part.invariant

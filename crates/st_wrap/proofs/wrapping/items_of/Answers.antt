@@ -5,4 +5,4 @@ pub returns : goal.returns
 returns c =
     let declared = both c.put_wires.ensures (both c.declare.ensures (both c.put_parts.ensures c.put_parts-2.ensures)) in
     let driven = both c.drive.ensures (both c.put_parts-3.ensures c.put_parts-4.ensures) in
-    c.finish.ensures _ (has-more c.begin-out.ensures (both declared (both c.put_core.ensures driven)))
+    has-more c.begin-out.ensures (both declared (both c.put_core.ensures driven))

@@ -10,4 +10,4 @@ pub returns : goal.returns
 returns c all listed ports items =
     let made : (List ℕ × List Attr) × (List Port × List ModItem) → Module = λ parts. record { name = parts.0.0; attrs = parts.0.1; ports = parts.1.0; items = parts.1.1 } in
     let attrs = c.finish.ensures _ (has-more c.begin-attrs.ensures (c.put.ensures _ c.attribute.ensures)) in
-    ap made (c.in_ok-name.ensures _ _ (c.both-head.ensures _ _ c.copy.ensures attrs) (c.both.ensures all listed ports items))
+    ap made (c.in_ok-name.ensures _ _ (c.both-head.ensures _ _ c.copy.ensures attrs) (c.both.ensures all listed (c.finish-2.ensures all ports) (c.finish-3.ensures listed items)))

@@ -15,4 +15,4 @@ returns c =
     let ins = lists-as (ap (map (port_of true n)) c.inputs.ensures) c.put_each.ensures in
     let outs = lists-as (ap (map (port_of false n)) c.outputs.ensures) c.put_each-2.ensures in
     let put = both c.put_bit_port.ensures (both c.put_bit_port-2.ensures (both c.put_bit_port-3.ensures (both ins (both c.put_bit_port-4.ensures outs)))) in
-    c.finish.ensures _ (has-more c.begin-out.ensures put)
+    has-more c.begin-out.ensures put
