@@ -18,6 +18,14 @@ pub struct Module {
     pub items: ModItems,
 }
 
+impl Module {
+    /// Frees the module. In a crate above each type whose values go out of scope is proved to be freed
+    /// anew; behind this call none is.
+    pub fn discard(self) {
+        drop(self);
+    }
+}
+
 /// An attribute with its number, as `fx_period = 4` (IEEE 1364-2005, 3.8).
 #[derive(Drop)]
 pub struct Attr {

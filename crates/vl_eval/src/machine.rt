@@ -112,7 +112,7 @@ impl Machine {
         let plan = match plan_of(alloc, &source) {
             Ok(plan) => plan,
             Err(fault) => {
-                drop(source);
+                source.discard();
                 return Err(fault);
             }
         };
@@ -124,7 +124,7 @@ impl Machine {
             }),
             Err(wanting) => {
                 drop(plan);
-                drop(source);
+                source.discard();
                 Err(wanting.into())
             }
         }
@@ -202,6 +202,18 @@ impl Machine {
         } = self.plan.outputs[place];
         let bits = self.values[slot];
         number_in(bits, width, signed)
+    }
+
+    /// Frees the machine with its module, so that crates above needn't prove how.
+    pub fn discard(self) {
+        let Machine {
+            source,
+            plan,
+            values,
+        } = self;
+        drop(plan);
+        drop(values);
+        source.discard();
     }
 
     /// The module that it was made with.

@@ -56,7 +56,7 @@ impl Replay {
         let score = match score_of(alloc, machine.module(), stimulus) {
             Ok(score) => score,
             Err(wanting) => {
-                drop(machine);
+                machine.discard();
                 return Err(wanting);
             }
         };
@@ -73,10 +73,26 @@ impl Replay {
         match replay.begin(alloc) {
             Ok(()) => Ok(replay),
             Err(wanting) => {
-                drop(replay);
+                replay.discard();
                 Err(wanting)
             }
         }
+    }
+
+    /// Frees the replay with its machine, so that crates above needn't prove how.
+    pub fn discard(self) {
+        let Replay {
+            machine,
+            score,
+            bits,
+            cells,
+            window: _,
+            delay: _,
+        } = self;
+        machine.discard();
+        drop(score);
+        drop(bits);
+        drop(cells);
     }
 
     /// Takes the memory for numbers, and passes the clocks before the first that sample 0 waits for.
