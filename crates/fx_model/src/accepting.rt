@@ -8,7 +8,7 @@ ghost use Rattle.fx_model.specs.Model.{BreaksLines, BreaksText, IsBrokenModel, I
 use dg_flat::flatten;
 use dg_model::{Blocks, CheckFault, Checked, Diagram, RuleFault};
 use dg_rules::{Refused, check};
-use mdl_build::build;
+use mdl_build::{build, discard};
 use mdl_text::{MdlFault, Tree};
 use std::alloc::Global;
 
@@ -42,7 +42,7 @@ pub fn accept(alloc: Global, bytes: &[u8]) -> Result<Checked, ModelFault>
         Err(MdlFault::OutOfMemory) => return Err(ModelFault::OutOfMemory),
     };
     let flat = diagram_of(alloc, &tree);
-    drop(tree);
+    tree.discard();
     let diagram = match flat {
         Ok(diagram) => diagram,
         Err(fault) => return Err(model_fault(fault, Blocks::new(alloc))),
@@ -71,6 +71,6 @@ fn diagram_of(alloc: Global, tree: &Tree) -> Result<Diagram, CheckFault>
 {
     let nested = build(alloc, tree)?;
     let flat = flatten(alloc, &nested);
-    drop(nested);
+    discard(nested);
     flat
 }

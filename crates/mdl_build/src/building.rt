@@ -93,10 +93,15 @@ fn nested_of(alloc: Global, known: &Known) -> Result<Nested, CheckFault>
     match put_nested(alloc, known, &mut nested) {
         Ok(()) => Ok(nested),
         Err(fault) => {
-            drop(nested);
+            discard(nested);
             Err(fault)
         }
     }
+}
+
+/// Frees blocks and lines, so that crates above needn't prove how.
+pub fn discard(nested: Nested) {
+    drop(nested);
 }
 
 /// The blocks and lines of a tree. Source: Simulink reference, model files.

@@ -26,5 +26,5 @@ mod roles;
 mod settings;
 mod structure;
 
-pub use building::build;
+pub use building::{build, discard};
 pub use laws::{fault_is_one, nested_is_not_broken, nested_is_one, nested_is_there};

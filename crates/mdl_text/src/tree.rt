@@ -10,6 +10,13 @@ pub struct Tree {
     pub items: Items,
 }
 
+impl Tree {
+    /// Frees the tree, so that crates above needn't prove how.
+    pub fn discard(self) {
+        drop(self);
+    }
+}
+
 /// A section or a parameter.
 #[derive(Drop)]
 pub struct Item {
