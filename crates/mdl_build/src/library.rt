@@ -3,7 +3,7 @@
 //! A new block type is a variant of `BlockType`, a row here, the same row in `specs/Library.antt`,
 //! and a row of its kind in `dg_model`.
 ghost use Rattle.std.specs.Prelude.{◌≡◌, map};
-ghost use Rattle.mdl_build.specs.Library.{row_of, parameters_of, block_types, number_of, type_name, type_of_name};
+ghost use Rattle.mdl_build.specs.Library.{row_of, parameters_of, number_of, type_name, type_of_name};
 
 use mdl_values::value_beside;
 
@@ -319,45 +319,35 @@ const NAMES: &[(&str, BlockType)] = &[
     ("EnablePort", BlockType::EnablePort),
 ];
 
-/// The parameters that are read of each block type, at its number.
-const PARAMETERS: &[&[Parameter]] = &[
-    INPORT,
-    OUTPORT,
-    CONSTANT,
-    &[],
-    &[],
-    SUM,
-    GAIN,
-    PRODUCT,
-    UNIT_DELAY,
-    DELAY,
-    SWITCH,
-    RELATIONAL_OPERATOR,
-    LOGIC,
-    DATA_TYPE_CONVERSION,
-    MUX,
-    DEMUX,
-    RATE_TRANSITION,
-    SUB_SYSTEM,
-    ENABLE_PORT,
-];
-
-/// The parameters of all block types.
-fn all_parameters() -> &'static [&'static [Parameter]]
-    ensures { map (λ parameters. map row_of parameters.now) result.now
-        ≡ map parameters_of block_types }
-{
-    PARAMETERS
-}
+/// Those of a block type that has none.
+const NONE: &[Parameter] = &[];
 
 /// The parameters that are read of a block type, in the order in which they are tried (Simulink
 /// reference, each block's page; the defaults are own).
 pub fn parameters(block_type: BlockType) -> &'static [Parameter]
     ensures { map row_of result.now ≡ parameters_of block_type }
 {
-    let number = number_of(block_type);
-    let all = all_parameters();
-    all[number]
+    match block_type {
+        BlockType::Inport => INPORT,
+        BlockType::Outport => OUTPORT,
+        BlockType::Constant => CONSTANT,
+        BlockType::Ground => NONE,
+        BlockType::Terminator => NONE,
+        BlockType::Sum => SUM,
+        BlockType::Gain => GAIN,
+        BlockType::Product => PRODUCT,
+        BlockType::UnitDelay => UNIT_DELAY,
+        BlockType::Delay => DELAY,
+        BlockType::Switch => SWITCH,
+        BlockType::RelationalOperator => RELATIONAL_OPERATOR,
+        BlockType::Logic => LOGIC,
+        BlockType::DataTypeConversion => DATA_TYPE_CONVERSION,
+        BlockType::Mux => MUX,
+        BlockType::Demux => DEMUX,
+        BlockType::RateTransition => RATE_TRANSITION,
+        BlockType::SubSystem => SUB_SYSTEM,
+        BlockType::EnablePort => ENABLE_PORT,
+    }
 }
 
 /// The place of a block type among all of them.
