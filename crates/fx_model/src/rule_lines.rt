@@ -157,8 +157,14 @@ pub fn push_shown(line: &mut Vec<u8>, shown: &Shown, blocks: &[Block]) -> Result
         Shown::Nothing => Ok(()),
         Shown::Word(word) => push_value(line, b": ", Value::Escaped(word.bytes()), blocks),
         Shown::Periods { own, other } => {
-            push_value(line, b": periods ", Value::Period(*own), blocks)?;
-            push_value(line, b" ", Value::Period(*other), blocks)
+            push_both(
+                line,
+                b": periods ",
+                Value::Period(*own),
+                b" ",
+                Value::Period(*other),
+                blocks,
+            )
         }
         Shown::Cycle { blocks: numbers } => {
             push_value(line, b": cycle", Value::Cycle(numbers.as_slice()), blocks)
@@ -167,18 +173,36 @@ pub fn push_shown(line: &mut Vec<u8>, shown: &Shown, blocks: &[Block]) -> Result
             blocks: numbers,
             total,
         } => {
-            push_value(line, b": total ", Value::Signed(*total), blocks)?;
-            push_value(line, b" cycle", Value::Cycle(numbers.as_slice()), blocks)
+            push_both(
+                line,
+                b": total ",
+                Value::Signed(*total),
+                b" cycle",
+                Value::Cycle(numbers.as_slice()),
+                blocks,
+            )
         }
         Shown::Budget { period, need, have } => {
             let period = u64::from(*period);
-            push_value(line, b": period ", Value::Number(period), blocks)?;
-            push_value(line, b" need ", Value::Number(*need), blocks)?;
+            push_both(
+                line,
+                b": period ",
+                Value::Number(period),
+                b" need ",
+                Value::Number(*need),
+                blocks,
+            )?;
             push_value(line, b" have ", Value::Number(*have), blocks)
         }
         Shown::Size { storage, latency } => {
-            push_value(line, b": storage ", Value::Number(*storage), blocks)?;
-            push_value(line, b" latency ", Value::Number(*latency), blocks)
+            push_both(
+                line,
+                b": storage ",
+                Value::Number(*storage),
+                b" latency ",
+                Value::Number(*latency),
+                blocks,
+            )
         }
     }
 }
@@ -222,4 +246,21 @@ fn push_value(
         Value::Period(period) => push_period(line, period),
         Value::Cycle(numbers) => push_cycle(line, numbers, blocks),
     }
+}
+
+/// Adds two words, each with what stands behind it.
+fn push_both(
+    line: &mut Vec<u8>,
+    word: &[u8],
+    value: Value<'_>,
+    other: &[u8],
+    behind: Value<'_>,
+    blocks: &[Block],
+) -> Result<(), OutOfMemory>
+    ensures { OnOk result (line.new.items ≡ line.old.items
+        ++ (word.now ++ value_text (map (λ block. block.path) blocks.now) value.entry
+        ++ other.now ++ value_text (map (λ block. block.path) blocks.now) behind.entry)) }
+{
+    push_value(line, word, value, blocks)?;
+    push_value(line, other, behind, blocks)
 }
