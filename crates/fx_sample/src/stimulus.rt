@@ -3,8 +3,8 @@ ghost use Rattle.fx_sample.specs.Numbers.{greatest_sample, sample_number};
 ghost use Rattle.fx_sample.specs.Stimulus.{sample_plan, sample_stimulus, stimulus_line, stimulus_of as stimulus_of_number};
 
 use crate::numbers::number_after;
+use crate::pushing::push_each;
 use fx_io::{OutOfMemory, Text};
-use fx_text::push;
 use itoa::Buffer;
 use std::alloc::Global;
 
@@ -40,8 +40,10 @@ fn push_stimulus(text: &mut Vec<u8>, number: u64) -> Result<(), OutOfMemory>
     ensures { OnOk result (text.new.items ≡ text.old.items ++ stimulus_line number) }
 {
     let mut digits = Buffer::new();
-    push(text, digits.format(stimulus_of(number)).as_bytes())?;
-    push(text, b"\n")
+    push_each(
+        text,
+        &[digits.format(stimulus_of(number)).as_bytes(), b"\n"],
+    )
 }
 
 /// Puts the stimulus that follows the last number of a chain of so many blocks.
