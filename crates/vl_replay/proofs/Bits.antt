@@ -1,6 +1,8 @@
 -- The bits that drivers give the input ports.
-use Rattle.std.proofs.Common.{◌≡◌, ◌<◌, ◌+◌, ◌^◌, inl, inr, ◌⊎◌, ℕ, zero, suc, Bool, true, false, not, ◌&&◌, ◌||◌, nat_le, nat_lt, if◌then◌else◌, List, [], ◌∷◌, length, map, filter, slice_get, slice_index, Contains, bytes_eq, codes, Some, refl, sym, ap, subst, ◌∙◌, arith}
-use Rattle.std.proofs.lemmas.Bool.{cond-true, cond-false, and_parts, leb-true, or_right}
+use Rattle.std.proofs.Common.{◌≡◌, ◌<◌, ◌≤◌, ◌+◌, ◌^◌, inl, inr, ◌⊎◌, ⊎_elim, ℕ, zero, suc, Bool, true, false, not, ◌&&◌, ◌||◌, nat_le, nat_lt, if◌then◌else◌, List, [], ◌∷◌, length, map, filter, set, slice_get, slice_index, slice_index_or, Contains, bytes_eq, codes, Some, refl, sym, ap, subst, ◌∙◌, arith}
+use Rattle.std.proofs.lemmas.Bool.{cases_lt, cond-true, cond-false, and_parts, leb-true, or_right}
+use Rattle.std.proofs.lemmas.List.{get_or-set_other, get_or-set_same, length-set}
+use Rattle.std.proofs.lemmas.Option.{get_or_from_slice_get}
 use Rattle.std.proofs.lemmas.Nat.{pow_pos}
 use Rattle.std.proofs.Math.Pow.{pow_mono}
 use Rattle.std.proofs.lemmas.Slice.Eq.{bytes_eq-Decides}
@@ -16,7 +18,7 @@ use Rattle.vl_eval.specs.Machine.{AreFit}
 use Rattle.vl_replay.specs.declared.drivers.Driver.{Driver}
 use Rattle.vl_replay.specs.declared.drivers.Driver.TheVariants.{Reset, Enable, Column}
 use Rattle.vl_replay.specs.Sampled.{hit_at}
-use Rattle.vl_replay.specs.inner.Driving.{driver_bits, driver_of, drivers_from, is_own, own_driver, place_after, reset_bits}
+use Rattle.vl_replay.specs.inner.Driving.{AreBits, driver_bits, driver_of, drivers_from, is_own, own_driver, place_after, reset_bits}
 use Rattle.vl_ast.proofs.Stimulated.{bits-fit}
 
 abbrev pub is_reset : Port → Bool
@@ -35,6 +37,20 @@ bits-are of (d ∷ drivers) (b ∷ bits) long at =
     let head : b ≡ of d = at 0 d refl (omega arith) in
     let tail = bits-are of drivers bits (omega (arith, long)) (λ k driver e low. at (suc k) driver e (omega (arith, low))) in
     ap (λ x. x ∷ bits) head ∙ ap (λ xs. of d ∷ xs) tail
+
+-- the bits of one more driver
+pub bits-more : (of : Driver → ℕ) (drivers : List Driver) (k : ℕ) (bits : List ℕ) (x : ℕ) → k < length drivers → AreBits of drivers k bits → x ≡ of (slice_index_or drivers k Reset) → AreBits of drivers (k + 1) (set bits k x)
+bits-more of drivers k bits x here are is =
+    let long = are.long in
+    record {
+      long = length-set bits k x ∙ long;
+      at = λ j driver e below. ⊎_elim
+          (λ (less : j < k). get_or-set_other bits k j x 0 (λ same. omega (arith, same, less)) ∙ are.at j driver e less)
+          (λ (most : k ≤ j).
+          let same : j ≡ k = omega (arith, most, below) in
+          ap (λ n. slice_index (set bits k x) n) same ∙ get_or-set_same bits k x 0 (omega (arith, here, long)) ∙ is ∙ ap of (ap (λ n. slice_index_or drivers n Reset) (sym same) ∙ get_or_from_slice_get drivers j driver Reset e))
+          (cases_lt j k);
+    }
 
 -- a name that isn't `reset` has no bit in the row with it
 pub reset-others : (stalls : Bool) (place : ℕ) (ports : List Port) (name : List ℕ) → bytes_eq name (codes "reset") ≡ false → given ports (map reset_bits (drivers_from stalls place ports)) name ≡ 0

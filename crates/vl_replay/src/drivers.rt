@@ -106,16 +106,23 @@ fn driven_bits(driver: Driver, stimulus: &Rows, sample: u64) -> u128
     }
 }
 
+/// The bits of an input port in the row with `reset`.
+fn reset_bits(driver: Driver) -> u128
+    ensures { result ≡ reset_bits driver }
+{
+    match driver {
+        Driver::Reset => 1,
+        Driver::Enable | Driver::Column { .. } => 0,
+    }
+}
+
 /// Puts the bits of the row with `reset`.
 pub fn put_reset(drivers: &[Driver], bits: &mut [u128])
     requires { length bits.old ≡ length drivers.now }
     ensures { AreBits reset_bits drivers.now (length drivers.now) bits.new }
 {
     for k in 0..drivers.len() {
-        bits[k] = match drivers[k] {
-            Driver::Reset => 1,
-            Driver::Enable | Driver::Column { .. } => 0,
-        };
+        bits[k] = reset_bits(drivers[k]);
     }
 }
 

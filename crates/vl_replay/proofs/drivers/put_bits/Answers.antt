@@ -1,26 +1,10 @@
-use Rattle.std.proofs.Common.{◌≡◌, ◌<◌, ◌≤◌, ◌+◌, ⊎_elim, ℕ, List, length, set, slice_index, slice_index_or, ap, subst, sym, ◌∙◌, arith}
-use Rattle.std.proofs.lemmas.Bool.{cases_lt}
-use Rattle.std.proofs.lemmas.List.{get_or-set_other, get_or-set_same, length-set}
-use Rattle.std.proofs.lemmas.Option.{get_or_from_slice_get, slice_get-get_or}
+use Rattle.std.proofs.Common.{◌≡◌, ◌<◌, ℕ, length, subst, arith}
+use Rattle.std.proofs.lemmas.Option.{slice_get-get_or}
 use Rattle.vl_replay.specs.Sampled.{numbers_of}
-use Rattle.vl_replay.specs.declared.drivers.Driver.{Driver}
 use Rattle.vl_replay.specs.declared.drivers.Driver.TheVariants.{Reset}
 use Rattle.vl_replay.specs.inner.Driving.{AreBits, driver_bits}
+use Rattle.vl_replay.proofs.Bits.{bits-more}
 use Rattle.vl_replay.proofs.drivers.put_bits.Goals as goal
-
--- the bits of one more driver
-bits-more : (of : Driver → ℕ) (drivers : List Driver) (k : ℕ) (bits : List ℕ) (x : ℕ) → k < length drivers → AreBits of drivers k bits → x ≡ of (slice_index_or drivers k Reset) → AreBits of drivers (k + 1) (set bits k x)
-bits-more of drivers k bits x here are is =
-    let long = are.long in
-    record {
-      long = length-set bits k x ∙ long;
-      at = λ j driver e below. ⊎_elim
-          (λ (less : j < k). get_or-set_other bits k j x 0 (λ same. omega (arith, same, less)) ∙ are.at j driver e less)
-          (λ (most : k ≤ j).
-          let same : j ≡ k = omega (arith, most, below) in
-          ap (λ n. slice_index (set bits k x) n) same ∙ get_or-set_same bits k x 0 (omega (arith, here, long)) ∙ is ∙ ap of (ap (λ n. slice_index_or drivers n Reset) (sym same) ∙ get_or_from_slice_get drivers j driver Reset e))
-          (cases_lt j k);
-    }
 
 pub bounds-drivers-k : goal.bounds-drivers-k
 bounds-drivers-k c = c.loop-k-test.true
