@@ -30,7 +30,9 @@ pub(crate) fn cut_cell<'a>(line: &'a [u8], column: &Column, sample: u64) -> Opti
     ensures { IfSome result (λ cell.
         IsFirstCell line.now column.now sample cell.value cell.tail.now) }
 {
-    let NumberCut { value, tail } = cut_number(line)?;
+    let Some(NumberCut { value, tail }) = cut_number(line) else {
+        return None;
+    };
     let value = i128::from(value);
     let Column { low, high, period } = *column;
     if hits(period, sample) && low <= value && value <= high {
