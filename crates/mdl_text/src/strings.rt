@@ -55,7 +55,9 @@ pub fn plain_string(inner: &[u8]) -> Option<&[u8]>
         strings_from said (codes "\"" ++ inner.now) ≡ Some (said ++ text.now)) }
 {
     let (text, behind) = inner.split_at(plain_length(inner));
-    let (last, after) = behind.split_first()?;
+    let Some((last, after)) = behind.split_first() else {
+        return None;
+    };
     if *last == b'"' && are_blanks(after) {
         Some(text)
     } else {
