@@ -8,7 +8,7 @@ ghost use Rattle.fx_check.specs.Gathered.{IsGathered, clocks_at};
 use dg_model::Checked;
 use dg_tables::output_blocks;
 use fx_io::{OutOfMemory, Sizes, Texts};
-use hw_names::port_names;
+use hw_names::{discard, port_names};
 use hw_rules::Planned;
 use hw_slots::total;
 use std::alloc::Global;
@@ -21,6 +21,22 @@ pub struct Gathered {
     pub(crate) outputs: Sizes,
     pub(crate) clocks: Vec<u64>,
     pub(crate) room: Vec<u32>,
+}
+
+impl Gathered {
+    /// Frees all four.
+    pub(crate) fn discard(self) {
+        let Gathered {
+            names,
+            outputs,
+            clocks,
+            room,
+        } = self;
+        discard(names);
+        drop(outputs);
+        drop(clocks);
+        drop(room);
+    }
 }
 
 /// When the first number of a block is shown, in clocks; 2^64 or more is want of memory.

@@ -108,6 +108,6 @@ pub fn put_check<K: Sink>(
         gathered.clocks.as_slice(),
         &mut gathered.room,
     );
-    drop(gathered);
+    gathered.discard();
     put_last(out, &mut pending)
 }

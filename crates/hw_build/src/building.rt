@@ -91,11 +91,11 @@ fn put_ports<'a>(
     match put_inputs(alloc, net, &mut names, design.checked, firsts, inputs) {
         Ok(()) => {
             let put = put_outputs(alloc, net, &mut names, design, firsts, outputs);
-            drop(names);
+            names.discard();
             put
         }
         Err(wanting) => {
-            drop(names);
+            names.discard();
             Err(wanting)
         }
     }
@@ -179,6 +179,11 @@ pub fn build(
         slots,
     };
     let mut net = Netlist::new(alloc, plan.cycles);
-    put_all(alloc, &mut net, design)?;
-    Ok(net)
+    match put_all(alloc, &mut net, design) {
+        Ok(()) => Ok(net),
+        Err(OutOfMemory) => {
+            net.discard();
+            Err(SizeFault::OutOfMemory)
+        }
+    }
 }

@@ -145,3 +145,8 @@ pub fn stream_names(alloc: Global, checked: &Checked) -> Result<Texts, OutOfMemo
 {
     names_beside(alloc, &mut Names::of_stream(alloc)?, checked)
 }
+
+/// Frees names of ports, so that crates above needn't prove how.
+pub fn discard(names: Texts) {
+    drop(names);
+}

@@ -10,5 +10,5 @@ mod giving;
 mod names;
 
 pub use columns::columns_of;
-pub use giving::{port_names, stream_names};
+pub use giving::{discard, port_names, stream_names};
 pub use names::{Names, put_number};

@@ -120,6 +120,11 @@ impl Names {
         Ok(names)
     }
 
+    /// Frees the names, so that crates above needn't prove how.
+    pub fn discard(self) {
+        drop(self);
+    }
+
     /// Takes the names of these bytes, the last first.
     fn take_all(&mut self, alloc: Global, names: &[&[u8]]) -> Result<(), OutOfMemory>
         ensures { OnOk result ((list : List (List ℕ)) → AreTaken self.old list →

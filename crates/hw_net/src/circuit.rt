@@ -97,6 +97,11 @@ impl Netlist {
     {
         self.labels.as_slice()
     }
+
+    /// Frees the netlist, so that crates above needn't prove how.
+    pub fn discard(self) {
+        drop(self);
+    }
 }
 
 impl Netlist {
