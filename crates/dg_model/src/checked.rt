@@ -94,6 +94,11 @@ impl Checked {
         self.values.order.as_slice()
     }
 
+    /// Frees the diagram with its values, so that crates above needn't prove how.
+    pub fn discard(self) {
+        drop(self);
+    }
+
     /// The diagram alone.
     pub fn into_diagram(self) -> Diagram
         ensures { result ≡ self.diagram }

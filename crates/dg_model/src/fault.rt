@@ -21,6 +21,13 @@ pub struct RuleFault {
     pub shown: Shown,
 }
 
+impl RuleFault {
+    /// Frees the fault, so that crates above needn't prove how.
+    pub fn discard(self) {
+        drop(self);
+    }
+}
+
 /// What is told of a broken rule (own).
 #[derive(Drop)]
 pub enum Shown {

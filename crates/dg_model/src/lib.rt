@@ -34,7 +34,7 @@ mod rule;
 mod sums;
 
 pub use checked::Checked;
-pub use diagram::{Block, Blocks, Diagram, Edge, Edges, PeriodSpec};
+pub use diagram::{Block, Blocks, Diagram, Edge, Edges, PeriodSpec, discard};
 pub use fault::{CheckFault, RuleFault, Shown};
 pub use gain_param::param_type_is_one;
 pub use kind::{Criterion, Decimals, Gate, Kind, Relation};

@@ -12,6 +12,13 @@ pub struct Plan {
     pub pipelines: Pipelines,
 }
 
+impl Plan {
+    /// Frees the plan, so that crates above needn't prove how.
+    pub fn discard(self) {
+        drop(self);
+    }
+}
+
 /// Registers behind one block (own; HDL Coder's output pipeline).
 #[derive(Drop)]
 pub struct Pipeline {

@@ -22,6 +22,15 @@ pub struct Designed {
     pub planned: Planned,
 }
 
+impl Designed {
+    /// Frees the design, so that crates above needn't prove how.
+    pub fn discard(self) {
+        let Designed { checked, planned } = self;
+        checked.discard();
+        planned.discard();
+    }
+}
+
 /// Why the texts of a model and of a plan make no design (own).
 #[derive(Drop)]
 pub enum DesignFault {
@@ -52,7 +61,7 @@ fn told_of(alloc: Global, checked: &Checked, fault: RuleFault) -> DesignFault
     ensures { IsRefusedBy checked.now.diagram fault result }
 {
     let line = rule_text(alloc, &fault, checked.diagram().blocks.as_slice());
-    drop(fault);
+    fault.discard();
     match line {
         Ok(line) => DesignFault::BreaksRule { line },
         Err(OutOfMemory) => DesignFault::OutOfMemory,
@@ -104,16 +113,16 @@ pub fn designed_of(alloc: Global, model: &[u8], plan: &[u8]) -> Result<Designed,
     let plan = match plan_of(alloc, plan) {
         Ok(plan) => plan,
         Err(fault) => {
-            drop(checked);
+            checked.discard();
             return Err(fault);
         }
     };
     let planned = planned_on(alloc, &checked, &plan);
-    drop(plan);
+    plan.discard();
     match planned {
         Ok(planned) => Ok(Designed { checked, planned }),
         Err(fault) => {
-            drop(checked);
+            checked.discard();
             Err(fault)
         }
     }

@@ -3,7 +3,7 @@ ghost use Rattle.fx_designed.specs.Refused.{IsRefusedModel};
 ghost use Rattle.fx_designed.specs.inner.Telling.{IsTold};
 ghost use Rattle.fx_model.specs.Model.{IsModelOf};
 
-use dg_model::Checked;
+use dg_model::{Checked, discard};
 use fx_io::{OutOfMemory, Text};
 use fx_model::{ModelFault, accept, rule_text};
 use std::alloc::Global;
@@ -42,8 +42,8 @@ fn refusal_of(alloc: Global, fault: ModelFault) -> ModelRefusal
         ModelFault::NotMdl { line } => ModelRefusal::NotMdl { line },
         ModelFault::Broken { fault, blocks } => {
             let line = rule_text(alloc, &fault, blocks.as_slice());
-            drop(fault);
-            drop(blocks);
+            fault.discard();
+            discard(blocks);
             match line {
                 Ok(line) => ModelRefusal::BreaksRule { line },
                 Err(OutOfMemory) => ModelRefusal::OutOfMemory,

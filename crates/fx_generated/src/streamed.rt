@@ -15,7 +15,7 @@ use fx_designed::{DesignFault, designed_of};
 use fx_io::OutOfMemory;
 use fx_model::rule_text;
 use hw_build::slots_are_scheduled;
-use hw_names::stream_names;
+use hw_names::{discard, stream_names};
 use hw_rules::Planned;
 use hw_sched::ready_fits;
 use st_wrap::wrap;
@@ -35,9 +35,16 @@ fn stream_of(alloc: Global, checked: &Checked, planned: &Planned) -> Result<Modu
     ready_fits();
     slots_are_scheduled();
     let names = stream_names(alloc, checked)?;
-    let core = made_of(alloc, checked, planned)?;
+    let core = match made_of(alloc, checked, planned) {
+        Ok(core) => core,
+        Err(wanting) => {
+            discard(names);
+            return Err(wanting);
+        }
+    };
     let made = wrap(alloc, &core, names.as_slice());
-    drop(core);
+    core.discard();
+    discard(names);
     made
 }
 
@@ -50,7 +57,7 @@ fn told_of(alloc: Global, checked: &Checked, fault: CheckFault) -> DesignFault
         CheckFault::OutOfMemory => return DesignFault::OutOfMemory,
     };
     let text = rule_text(alloc, &fault, checked.diagram().blocks.as_slice());
-    drop(fault);
+    fault.discard();
     match text {
         Ok(line) => DesignFault::BreaksRule { line },
         Err(OutOfMemory) => DesignFault::OutOfMemory,
@@ -73,12 +80,12 @@ pub fn streamed_of(alloc: Global, model: &[u8], plan: &[u8]) -> Result<Module, D
         Ok(()) => (),
         Err(fault) => {
             let fault = told_of(alloc, &designed.checked, fault);
-            drop(designed);
+            designed.discard();
             return Err(fault);
         }
     }
     let made = stream_of(alloc, &designed.checked, &designed.planned);
-    drop(designed);
+    designed.discard();
     match made {
         Ok(made) => Ok(made),
         Err(OutOfMemory) => Err(DesignFault::OutOfMemory),

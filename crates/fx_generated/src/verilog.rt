@@ -39,7 +39,7 @@ pub fn made_of(alloc: Global, checked: &Checked, planned: &Planned) -> Result<Mo
         &planned.times.slots,
         &netlist,
     );
-    drop(netlist);
+    netlist.discard();
     made
 }
 
@@ -56,7 +56,7 @@ pub fn text_of<R: Threads + Sync>(
     vl_read::unique();
     let made = made_of(alloc, checked, planned)?;
     let text = vl_write::write(rt, alloc, &made, &OpenGate);
-    drop(made);
+    made.discard();
     text
 }
 
@@ -72,7 +72,7 @@ pub fn parts_of<R: Threads + Sync>(
 {
     vl_read::unique();
     let parts = vl_write::spelling_parts(rt, alloc, &made, &OpenGate);
-    drop(made);
+    made.discard();
     parts
 }
 
@@ -88,7 +88,7 @@ pub fn verilog_of(alloc: Global, model: &[u8], plan: &[u8]) -> Result<Module, De
         Err(fault) => return Err(fault),
     };
     let made = made_of(alloc, &designed.checked, &designed.planned);
-    drop(designed);
+    designed.discard();
     match made {
         Ok(made) => Ok(made),
         Err(OutOfMemory) => Err(DesignFault::OutOfMemory),

@@ -59,7 +59,10 @@ fn model_fault(fault: CheckFault, blocks: Blocks) -> ModelFault
 {
     match fault {
         CheckFault::Broken(fault) => ModelFault::Broken { fault, blocks },
-        CheckFault::OutOfMemory => ModelFault::OutOfMemory,
+        CheckFault::OutOfMemory => {
+            dg_model::discard(blocks);
+            ModelFault::OutOfMemory
+        }
     }
 }
 

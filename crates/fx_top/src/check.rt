@@ -21,11 +21,11 @@ pub fn check<K: Sink>(alloc: Global, model: &[u8], plan: &[u8], out: &mut K) -> 
     match gather(alloc, &designed.checked, &designed.planned) {
         Ok(gathered) => {
             let put = put_check(out, &designed.checked, &designed.planned, gathered);
-            drop(designed);
+            designed.discard();
             Ok(put)
         }
         Err(OutOfMemory) => {
-            drop(designed);
+            designed.discard();
             Err(Fault::OutOfMemory)
         }
     }

@@ -33,13 +33,13 @@ fn exploration_of<R: Threads + Sync>(
     let findings = match hw_explore::explore(rt, alloc, &checked, range, &OpenGate) {
         Ok(findings) => findings,
         Err(OutOfMemory) => {
-            drop(checked);
+            checked.discard();
             return Err(ModelRefusal::OutOfMemory);
         }
     };
     let text = findings_text(alloc, &findings, checked.diagram().blocks.as_slice());
-    drop(findings);
-    drop(checked);
+    findings.discard();
+    checked.discard();
     match text {
         Ok(text) => Ok(text),
         Err(OutOfMemory) => Err(ModelRefusal::OutOfMemory),

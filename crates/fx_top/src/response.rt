@@ -26,11 +26,11 @@ pub fn simulate<K: Sink>(alloc: Global, model: &[u8], stimulus: &[u8], out: &mut
     match simulation_in(alloc, &checked, stimulus) {
         Ok(simulation) => {
             let put = fx_simulated::put_response(&checked, simulation, out);
-            drop(checked);
+            checked.discard();
             Ok(put)
         }
         Err(fault) => {
-            drop(checked);
+            checked.discard();
             Err(of_stimulus(fault))
         }
     }

@@ -206,7 +206,7 @@ fn summary_of<R: Threads + Sync, B: Bench>(
         &designed.planned,
         bench,
     );
-    drop(designed);
+    designed.discard();
     summed
 }
 

@@ -12,3 +12,10 @@ pub struct Findings {
     /// The number of the least good plan; none where no plan is good.
     pub least: Option<u32>,
 }
+
+impl Findings {
+    /// Frees the findings, so that crates above needn't prove how.
+    pub fn discard(self) {
+        drop(self);
+    }
+}

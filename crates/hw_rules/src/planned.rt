@@ -19,6 +19,13 @@ pub struct Planned {
     pub times: Times,
 }
 
+impl Planned {
+    /// Frees the plan with its times, so that crates above needn't prove how.
+    pub fn discard(self) {
+        drop(self);
+    }
+}
+
 /// A plan on a checked diagram with its times, or the first of the rules of plan, latency, budget and
 /// size that is broken, or want of memory.
 pub fn plan_on(alloc: Global, checked: &Checked, plan: &Plan) -> Result<Planned, CheckFault>
