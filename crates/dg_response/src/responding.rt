@@ -58,6 +58,13 @@ impl Responding {
         self.sim.step(checked, row, self.row.as_mut_slice());
     }
 
+    /// Frees the response, so that crates above needn't prove how.
+    pub fn discard(self) {
+        let Responding { sim, row } = self;
+        sim.discard();
+        drop(row);
+    }
+
     /// The numbers of the latest sample, one for each root output element.
     pub fn row(&self) -> &[i128]
         ensures { result.now ≡ row_of self.now }

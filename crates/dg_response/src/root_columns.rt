@@ -18,6 +18,13 @@ pub struct RootColumns {
     pub outputs: Columns,
 }
 
+impl RootColumns {
+    /// Frees the columns, so that crates above needn't prove how.
+    pub fn discard(self) {
+        drop(self);
+    }
+}
+
 /// The column of each element of a root port.
 fn column(checked: &Checked, block: u32) -> Column
     requires { block < length checked.now.diagram.blocks }

@@ -147,4 +147,9 @@ impl Sim {
             }
         }
     }
+
+    /// Frees the simulator, so that crates above needn't prove how.
+    pub fn discard(self) {
+        drop(self);
+    }
 }

@@ -42,6 +42,19 @@ pub struct Response {
     pub text: RowText,
 }
 
+impl Response {
+    /// Frees the replay and the writer.
+    fn discard(self) {
+        let Response {
+            samples: _,
+            replay,
+            text,
+        } = self;
+        replay.discard();
+        text.discard();
+    }
+}
+
 /// The machine of a Verilog text.
 fn machine_of(alloc: Global, verilog: &[u8]) -> Result<Machine, ReplayFault>
     ensures made { IfOk result (IsMachineOf verilog.now) }
@@ -90,7 +103,7 @@ pub fn response_of(alloc: Global, verilog: &[u8], stimulus: &[u8]) -> Result<Res
     let PortColumns { inputs, outputs } = match columns(alloc, &machine) {
         Ok(columns) => columns,
         Err(OutOfMemory) => {
-            drop(machine);
+            machine.discard();
             return Err(ReplayFault::OutOfMemory);
         }
     };
@@ -98,11 +111,11 @@ pub fn response_of(alloc: Global, verilog: &[u8], stimulus: &[u8]) -> Result<Res
     let rows = match read_rows(alloc, stimulus, inputs.as_slice(), count) {
         Ok(rows) => rows,
         Err(TableFault::Bad { line, cause }) => {
-            drop(machine);
+            machine.discard();
             return Err(ReplayFault::BadTable { line, cause });
         }
         Err(TableFault::OutOfMemory) => {
-            drop(machine);
+            machine.discard();
             return Err(ReplayFault::OutOfMemory);
         }
     };
@@ -126,8 +139,8 @@ fn response_with(
     let text = match RowText::new(alloc, outputs) {
         Ok(text) => text,
         Err(OutOfMemory) => {
-            drop(rows);
-            drop(machine);
+            rows.discard();
+            machine.discard();
             return Err(OutOfMemory);
         }
     };
@@ -139,7 +152,7 @@ fn response_with(
             text,
         }),
         Err(OutOfMemory) => {
-            drop(text);
+            text.discard();
             Err(OutOfMemory)
         }
     }
@@ -161,7 +174,7 @@ pub fn put_response<K: Sink>(mut ready: Response, out: &mut K) -> Result<(), Put
     ensures cause { OnErr result (Rose (K.faults out.old) (K.faults out.new)) }
 {
     let put = put_lines(&mut ready.replay, &mut ready.text, ready.samples, out);
-    drop(ready);
+    ready.discard();
     put
 }
 
@@ -175,7 +188,7 @@ pub fn response_text(alloc: Global, mut ready: Response) -> Result<Text, OutOfMe
         ≡ response (periods_of ready.text) table ready.samples) }
 {
     let lines = lines_of(alloc, &mut ready.replay, &mut ready.text, ready.samples);
-    drop(ready);
+    ready.discard();
     lines
 }
 

@@ -30,6 +30,20 @@ pub struct Simulation {
     pub text: RowText,
 }
 
+impl Simulation {
+    /// Frees all three.
+    fn discard(self) {
+        let Simulation {
+            rows,
+            responding,
+            text,
+        } = self;
+        rows.discard();
+        responding.discard();
+        text.discard();
+    }
+}
+
 /// The columns of a diagram, where they can be numbered by 32 bits.
 #[tactic(auto, unfolding(crate::specs::inner::Making::HasColumns))]
 fn columns_of(alloc: Global, checked: &Checked) -> Result<RootColumns, OutOfMemory>
@@ -45,8 +59,13 @@ fn columns_of(alloc: Global, checked: &Checked) -> Result<RootColumns, OutOfMemo
     root_elements_are_listed();
     periods_are_above();
     let columns = columns(alloc, checked)?;
-    fit(&columns)?;
-    Ok(columns)
+    match fit(&columns) {
+        Ok(()) => Ok(columns),
+        Err(wanting) => {
+            columns.discard();
+            Err(wanting)
+        }
+    }
 }
 
 /// The response of a diagram to the rows of its stimulus, before its first sample.
@@ -79,13 +98,25 @@ fn simulation_with(
     requires few_outputs { length columns.now.outputs < 2 ^ 32 }
     ensures { IfOk result (IsReadyFor checked.now columns.now rows) }
 {
-    let text = RowText::new(alloc, columns.outputs.as_slice())?;
-    let responding = responding_to(alloc, checked, columns, &rows)?;
-    Ok(Simulation {
-        rows,
-        responding,
-        text,
-    })
+    let text = match RowText::new(alloc, columns.outputs.as_slice()) {
+        Ok(text) => text,
+        Err(wanting) => {
+            rows.discard();
+            return Err(wanting);
+        }
+    };
+    match responding_to(alloc, checked, columns, &rows) {
+        Ok(responding) => Ok(Simulation {
+            rows,
+            responding,
+            text,
+        }),
+        Err(wanting) => {
+            rows.discard();
+            text.discard();
+            Err(wanting)
+        }
+    }
 }
 
 /// The response of a diagram to a stimulus, before its first sample.
@@ -109,11 +140,13 @@ pub fn simulation_in(
     let rows = match read_rows(alloc, stimulus, columns.inputs.as_slice(), count) {
         Ok(rows) => rows,
         Err(fault) => {
-            drop(columns);
+            columns.discard();
             return Err(fault);
         }
     };
-    match simulation_with(alloc, checked, &columns, rows) {
+    let made = simulation_with(alloc, checked, &columns, rows);
+    columns.discard();
+    match made {
         Ok(simulation) => Ok(simulation),
         Err(OutOfMemory) => Err(TableFault::OutOfMemory),
     }
@@ -179,7 +212,7 @@ pub fn put_response<K: Sink>(
         &mut ready.text,
         out,
     );
-    drop(ready);
+    ready.discard();
     put
 }
 
@@ -201,7 +234,7 @@ pub fn response_text(
         &mut ready.responding,
         &mut ready.text,
     );
-    drop(ready);
+    ready.discard();
     lines
 }
 

@@ -42,6 +42,11 @@ impl RowText {
         Ok(RowText { periods, bytes })
     }
 
+    /// Frees the room, so that crates above needn't prove how.
+    pub fn discard(self) {
+        drop(self);
+    }
+
     /// The line of a sample: per column its value where a number stands, else `-`, with one space
     /// between, and a newline. It takes no memory.
     pub fn line(&mut self, t: u64, values: &[i128]) -> &[u8]
