@@ -1,4 +1,4 @@
-use Rattle.std.proofs.Common.{◌≡◌, ◌+◌, ◌≤◌, IfOk, OnOk, ◌∷◌, [], List, ℕ, Bool, true, false, ap, arith, length}
+use Rattle.std.proofs.Common.{◌≡◌, ◌+◌, ◌<◌, ◌≤◌, IfOk, OnOk, ◌∷◌, [], List, ℕ, Bool, Some, true, false, ap, arith, length, slice_get}
 use Rattle.std.proofs.lemmas.Option.{slice_get_within}
 use Rattle.fx_num.specs.Word.{IsWord}
 use Rattle.hw_net.specs.declared.netlist.Net.{Net}
@@ -12,17 +12,15 @@ narrow : (width : ℕ) (signed : Bool) → IsWord width signed → width ≤ 128
 narrow width true is = is.1
 narrow width false is = omega (arith, is.1)
 
+-- the ends of a multiplier are among the nets that are read
+inside : (nets read : List Net) (number : ℕ) (net : Net) → read ≡ nets → slice_get nets number ≡ Some net → number < length read
+inside nets read number net same is = omega (arith, ap (λ (nets : List Net). length nets) same, slice_get_within nets number net is)
+
 pub bounds-nets-left : goal.bounds-nets-left
-bounds-nets-left c =
-    let can = c.requires in
-    let size = ap (λ (nets : List Net). length nets) c.nets.ensures in
-    omega (arith, size, slice_get_within c.args.net.now.nets c.args.ends.left can.left.net can.left.is)
+bounds-nets-left c = inside c.args.net.now.nets c.nets.result.now c.args.ends.left c.requires.left.net c.nets.ensures c.requires.left.is
 
 pub bounds-nets-right : goal.bounds-nets-right
-bounds-nets-right c =
-    let can = c.requires in
-    let size = ap (λ (nets : List Net). length nets) c.nets-2.ensures in
-    omega (arith, size, slice_get_within c.args.net.now.nets c.args.ends.right can.right.net can.right.is)
+bounds-nets-right c = inside c.args.net.now.nets c.nets-2.result.now c.args.ends.right c.requires.right.net c.nets-2.ensures c.requires.right.is
 
 pub overflow_add-width : goal.overflow_add-width
 overflow_add-width c =
@@ -52,12 +50,10 @@ returns-clause-grown c = (parts c).2
 
 pub offset_bounds-nets-left : goal.offset_bounds-nets-left
 offset_bounds-nets-left c =
-    let can = c.requires in
-    let size = ap (λ (nets : List Net). length nets) c.nets.ensures in
-    omega (arith, size, slice_get_within c.args.net.now.nets c.args.ends.left can.left.net can.left.is)
+    let low = inside c.args.net.now.nets c.nets.result.now c.args.ends.left c.requires.left.net c.nets.ensures c.requires.left.is in
+    omega (arith, low)
 
 pub offset_bounds-nets-right : goal.offset_bounds-nets-right
 offset_bounds-nets-right c =
-    let can = c.requires in
-    let size = ap (λ (nets : List Net). length nets) c.nets-2.ensures in
-    omega (arith, size, slice_get_within c.args.net.now.nets c.args.ends.right can.right.net can.right.is)
+    let low = inside c.args.net.now.nets c.nets-2.result.now c.args.ends.right c.requires.right.net c.nets-2.ensures c.requires.right.is in
+    omega (arith, low)
