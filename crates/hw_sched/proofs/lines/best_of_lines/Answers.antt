@@ -1,4 +1,4 @@
-use Rattle.std.proofs.Common.{◌≡◌, ◌+◌, ℕ, AllPairs, List, true, false, sym, ap, subst, ◌∙◌, arith}
+use Rattle.std.proofs.Common.{◌≡◌, ◌<◌, ◌+◌, ◌-◌, ℕ, AllPairs, List, Some, true, false, drop, get_or, length, slice_get, take, sym, ap, subst, ◌∙◌, arith}
 use Rattle.dg_model.specs.declared.diagram.Diagram.{Diagram}
 use Rattle.dg_model.specs.declared.diagram.Edge.{Edge}
 use Rattle.dg_model.specs.Attributes.{attributes_of}
@@ -6,7 +6,7 @@ use Rattle.dg_model.specs.Wired.{StandsBefore}
 use Rattle.hw_sched.specs.inner.Greatest.{IsGreatest, IsLineFrom}
 use Rattle.hw_sched.proofs.Items.{rest_past, rest_read, tested, next_counts, next_skips, first_as}
 use Rattle.hw_sched.proofs.Reading.{lines_begin, lines_stop, lines_end, from_there}
-use Rattle.hw_sched.proofs.lines.best_of_lines.Goals.{then-is_same_period, else-is_same_period}
+use Rattle.hw_sched.proofs.lines.best_of_lines.Goals.{Else-edge-place, then-is_same_period, else-is_same_period}
 use Rattle.hw_sched.proofs.lines.best_of_lines.Goals as goal
 
 abbrev none : Edge
@@ -20,24 +20,31 @@ returns-then-edge-place c =
     (first_as c.args.checked.now.diagram.edges c.as_slice-edges.result.now c.args.place c.first_into-first.result es c.first_into-first.ensures) (omega arith) at
     (λ e. let differs = c.if-edge-place.true in omega (arith, differs, e)) c.loop-edge.invariant
 
-pub period-requires : goal.period-requires
-period-requires c =
+-- the line at hand, and where it stands
+abbrev line : Else-edge-place → Edge
+line c = get_or (take (length c.as_slice-edges.result.now - c.first_into-first.result) (drop c.first_into-first.result c.as_slice-edges.result.now)) c.loop-edge.edge-index none
+
+stands : (c : Else-edge-place) → slice_get c.args.checked.now.diagram.edges (c.first_into-first.result + c.loop-edge.edge-index) ≡ Some (line c)
+stands c =
     let es = c.as_slice-edges.ensures ∙ ap (λ (d : Diagram). d.edges) c.diagram.ensures in
-    let at = rest_read c.args.checked.now.diagram.edges c.as_slice-edges.result.now c.first_into-first.result c.loop-edge.edge-index none es c.loop-edge-test.true in
-    from_there c.args.checked.now.diagram c.args.place (c.first_into-first.result + c.loop-edge.edge-index) _ c.keeps_rules.ensures.checked.wired at
+    rest_read c.args.checked.now.diagram.edges c.as_slice-edges.result.now c.first_into-first.result c.loop-edge.edge-index none es c.loop-edge-test.true
+
+-- the block that it comes from is there
+source : (c : Else-edge-place) → (line c).from < length c.args.checked.now.diagram.blocks
+source c = from_there c.args.checked.now.diagram c.args.place (c.first_into-first.result + c.loop-edge.edge-index) (line c) c.keeps_rules.ensures.checked.wired (stands c)
+
+pub period-requires : goal.period-requires
+period-requires c = source (goal.at.period-requires c).Else-edge-place
 
 pub bounds-depths-edge : goal.bounds-depths-edge
-bounds-depths-edge c =
-    let es = c.as_slice-edges.ensures ∙ ap (λ (d : Diagram). d.edges) c.diagram.ensures in
-    let at = rest_read c.args.checked.now.diagram.edges c.as_slice-edges.result.now c.first_into-first.result c.loop-edge.edge-index none es c.loop-edge-test.true in
-    let inside = from_there c.args.checked.now.diagram c.args.place (c.first_into-first.result + c.loop-edge.edge-index) _ c.keeps_rules.ensures.checked.wired at in
-    let many = c.requires.size in
-    omega (arith, inside, many)
+bounds-depths-edge c = let inside = source (goal.at.bounds-depths-edge c).Else-edge-place in omega (arith, inside, c.requires.size)
+
+pub offset_bounds-depths-edge : goal.offset_bounds-depths-edge
+offset_bounds-depths-edge c = let inside = source (goal.at.offset_bounds-depths-edge c).Else-edge-place in omega (arith, inside, c.requires.size)
 
 pub loop-edge-preserved : goal.loop-edge-preserved
 loop-edge-preserved c =
-    let es = c.as_slice-edges.ensures ∙ ap (λ (d : Diagram). d.edges) c.diagram.ensures in
-    let at = rest_read c.args.checked.now.diagram.edges c.as_slice-edges.result.now c.first_into-first.result c.loop-edge.edge-index none es c.loop-edge-test.true in
+    let at = stands (goal.at.loop-edge-preserved c).Else-edge-place in
     elim c.if-is_same_period.branch [
       | then-is_same_period w ↦
           rw (w.best-is, w.max-best.ensures)
@@ -73,11 +80,3 @@ loop-edge-init c =
     let start : first ≡ first + 0 = omega arith in
     subst (λ (count : ℕ). IsGreatest (IsLineFrom c.args.checked.now.diagram count c.args.place) c.args.depths.now 0) start
     (lines_begin c.args.checked.now.diagram c.args.place c.args.depths.now first (first_as c.args.checked.now.diagram.edges c.as_slice-edges.result.now c.args.place first es c.first_into-first.ensures))
-
-pub offset_bounds-depths-edge : goal.offset_bounds-depths-edge
-offset_bounds-depths-edge c =
-    let es = c.as_slice-edges.ensures ∙ ap (λ (d : Diagram). d.edges) c.diagram.ensures in
-    let at = rest_read c.args.checked.now.diagram.edges c.as_slice-edges.result.now c.first_into-first.result c.loop-edge.edge-index none es c.loop-edge-test.true in
-    let inside = from_there c.args.checked.now.diagram c.args.place (c.first_into-first.result + c.loop-edge.edge-index) _ c.keeps_rules.ensures.checked.wired at in
-    let many = c.requires.size in
-    omega (arith, inside, many)
