@@ -1,10 +1,11 @@
 -- One function's steps behind another's.
 use Rattle.std.proofs.Common.{◌≡◌, false, subst, refl}
 use Rattle.fx_num.specs.Word.{InWord}
+use Rattle.hw_net.specs.declared.netlist.NetOp.{NetOp}
 use Rattle.hw_lower.specs.declared.plan.Word.{Word}
 use Rattle.hw_lower.specs.declared.plan.Operand.{Operand}
 use Rattle.hw_lower.specs.declared.plan.Plan.{Plan}
-use Rattle.hw_lower.specs.inner.Planned.{Numbers, Obeys, IsAt, IsMade}
+use Rattle.hw_lower.specs.inner.Planned.{Adds, Gives, Numbers, Obeys, IsAt, IsMade}
 use Rattle.hw_lower.proofs.Made.{grows-self, grows-trans, obeys-before}
 
 -- every operand has a number of its word
@@ -15,6 +16,18 @@ pub in-words : (plan : Plan) (inputs numbers : Numbers) → plan.wanting ≡ fal
 in-words plan inputs numbers enough obeys one at =
     let is = at.there enough in
     subst (λ (w : Word). InWord w.width w.signed (numbers one.place)) is.word (obeys.each one.place is.step is.is).in_word
+
+-- what the numbers of a plan have, with what they had before it grew, and what follows
+pub gives-on : {old new : Plan} {IsOne : NetOp → Type 0} {P Q : Numbers → Type 0} (R : Numbers → Type 0) → (new.wanting ≡ false → (old.wanting ≡ false) × Adds old.steps new.steps IsOne) → Gives old P → Gives new Q
+    → ((numbers : Numbers) → P numbers → Q numbers → R numbers) → Gives new R
+gives-on {old} {new} R grows p q f = record {
+  give = λ enough.
+      let last = grows enough in
+      record { holds = λ inputs numbers obeys. f numbers ((p.give last.0).holds inputs numbers (obeys-before old.steps new.steps inputs numbers last.1 obeys)) ((q.give enough).holds inputs numbers obeys) };
+}
+
+words-given : (plan : Plan) → Gives plan (InWords plan)
+words-given plan = record { give = λ enough. record { holds = λ inputs numbers obeys. in-words plan inputs numbers enough obeys } }
 
 -- both hold, and what follows
 pub made-then : {a b c : Plan} {first word : Word} {P Q : Numbers → Type 0} {one made : Operand} (R : Numbers → Type 0) → IsMade a b first P one → IsMade b c word Q made
@@ -43,19 +56,7 @@ made-both {P = P} {Q = Q} p q = made-then (λ numbers. P numbers × Q numbers) p
 -- what follows
 pub made-map : {old new : Plan} {word : Word} {P : Numbers → Type 0} {made : Operand} (Q : Numbers → Type 0) → IsMade old new word P made
     → ((numbers : Numbers) → InWords old numbers → P numbers → Q numbers) → IsMade old new word Q made
-made-map {old} {new} Q is f = record {
-  grows = is.grows;
-  at = is.at;
-  has_word = is.has_word;
-  gives = record {
-    give = λ enough.
-        let grown = is.grows.adds enough in
-        record {
-          holds = λ inputs numbers obeys.
-              f numbers (in-words old inputs numbers grown.0 (obeys-before old.steps new.steps inputs numbers grown.1 obeys)) ((is.gives.give enough).holds inputs numbers obeys);
-        };
-  };
-}
+made-map {old} Q is f = record { grows = is.grows; at = is.at; has_word = is.has_word; gives = gives-on Q is.grows.adds (words-given old) is.gives f }
 
 -- an operand that is there
 pub made-self : {plan : Plan} {one : Operand} (Q : Numbers → Type 0) → IsAt plan one → ((numbers : Numbers) → InWords plan numbers → Q numbers) → IsMade plan plan one.word Q one

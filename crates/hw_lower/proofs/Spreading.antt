@@ -11,7 +11,8 @@ use Rattle.hw_lower.specs.declared.plan.Plan.{Plan}
 use Rattle.hw_lower.specs.inner.Planned.{Numbers, Adds, IsAt, IsLast, IsPlain, IsPut, IsSound, IsStep, Gives, IsMade, step_of}
 use Rattle.hw_lower.specs.inner.Spread.{IsInner, IsMultiplyAt, Spreads, IsPlanned}
 use Rattle.fx_io.proofs.Places.{last_at}
-use Rattle.hw_lower.proofs.Made.{adds-one, adds-then, last-is, last-there, still-at, stood-at, obeys-before, one-longer, put-at, below-taken}
+use Rattle.hw_lower.proofs.Chained.{gives-on}
+use Rattle.hw_lower.proofs.Made.{adds-one, adds-then, last-is, last-there, still-at, stood-at, one-longer, put-at, below-taken}
 
 -- no plain step is a Multiply
 plain-none : (old new : List Step) (k : ℕ) → Adds old new IsPlain → length old ≤ k → IsMultiplyAt new k → ⊥
@@ -134,14 +135,7 @@ made-after {a} {b} {c} Q p q f = record {
       (first.0, spreads-then a.steps b.steps c.steps (Some 0) first.1 last.1);
   at = q.at;
   has_word = q.has_word;
-  gives = record {
-    give = λ enough.
-        let last = q.grows.adds enough in
-        record {
-          holds = λ inputs numbers obeys.
-              f numbers ((p.gives.give last.0).holds inputs numbers (obeys-before b.steps c.steps inputs numbers last.1 obeys)) ((q.gives.give enough).holds inputs numbers obeys);
-        };
-  };
+  gives = gives-on Q q.grows.adds p.gives q.gives f;
 }
 
 -- a plan with the one Multiply behind a plain step that was put
@@ -154,12 +148,5 @@ made-behind {a} {b} {c} {step = step} R p put q f = record {
       (first.0, spreads-after a.steps b.steps c.steps first.1 (one-longer a.steps b.steps step (put.put last.0).1.is) last.1);
   at = q.at;
   has_word = q.has_word;
-  gives = record {
-    give = λ enough.
-        let last = q.spreads enough in
-        record {
-          holds = λ inputs numbers obeys.
-              f numbers ((p.gives.give last.0).holds inputs numbers (obeys-before b.steps c.steps inputs numbers last.1.adds obeys)) ((q.gives.give enough).holds inputs numbers obeys);
-        };
-  };
+  gives = gives-on R (λ enough. let last = q.spreads enough in (last.0, last.1.adds)) p.gives q.gives f;
 }
