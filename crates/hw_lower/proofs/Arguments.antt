@@ -1,5 +1,5 @@
 -- What a plan gives of its arguments.
-use Rattle.std.proofs.Common.{◌≡◌, ℕ, ◌+◌, ◌<◌, ◌≤◌, inl, inr, Bool, true, false, List, [], ◌∷◌, ◌++◌, length, slice_get, Some, ℤ, pos, negsuc, ◌+ℤ◌, ◌≤ℤ◌, to_z, of_z, FitsSigned, All, sym, ap, ◌∙◌, subst, arith, refl}
+use Rattle.std.proofs.Common.{◌≡◌, ℕ, ◌+◌, ◌<◌, ◌≤◌, inl, inr, Bool, true, false, List, [], ◌∷◌, ◌++◌, length, slice_get, None, Option, Some, ℤ, pos, negsuc, ◌+ℤ◌, ◌≤ℤ◌, to_z, of_z, FitsSigned, All, sym, ap, ◌∙◌, subst, arith, refl}
 use Rattle.std.specs.Prelude.{MatchBool}
 use Rattle.std.specs.Int.{w16}
 use Rattle.std.proofs.lemmas.Int.{ints}
@@ -17,10 +17,11 @@ use Rattle.hw_lower.specs.declared.plan.Step.{Step}
 use Rattle.hw_lower.specs.declared.plan.Operand.{Operand}
 use Rattle.hw_lower.specs.declared.plan.Plan.{Plan}
 use Rattle.hw_lower.specs.Lowered.{multiply_of}
-use Rattle.hw_lower.specs.inner.Planned.{Numbers, IsPut, IsSwitched, word_of, step_of}
+use Rattle.hw_lower.specs.inner.Planned.{Numbers, IsMade, IsPut, IsSwitched, word_of, step_of}
 use Rattle.hw_lower.specs.inner.Spread.{AreArguments, AreInputs, BeginsWith, HasArguments, OfArguments, IsPlanned, IsScaled}
 use Rattle.fx_io.proofs.Places.{last_at}
 use Rattle.hw_lower.proofs.Made.{one-longer, still-at}
+use Rattle.hw_lower.proofs.Spreading.{made-plain}
 use Rattle.fx_type.proofs.Ranges.{type-word}
 
 -- the range of an argument
@@ -128,3 +129,14 @@ pub plan-typed : {old new : Plan} {made : Operand} (operation : Operation) (op :
 plan-typed {old} {new} {made} operation op type e f is =
     plan-of operation op e
     (subst (λ (t : FxType). IsPlanned old new (multiply_of op) (word_of t) (λ numbers. OfArguments operation.types numbers (λ values. Gives op operation operation.types values (numbers made.place))) made) (sym f) is)
+
+-- what an operation gives of its arguments is the number of a step
+abbrev pub GivenBy : Operation → Op → Operand → Numbers → Type 0
+GivenBy operation op made numbers = OfArguments operation.types numbers (λ values. Gives op operation operation.types values (numbers made.place))
+
+-- the same of a plan with no Multiply
+pub plan-plain : {old new : Plan} {made : Operand} (operation : Operation) (op : Op) (type : FxType) → operation.op ≡ op → operation.result ≡ type → multiply_of op ≡ None → IsMade old new (word_of type) (GivenBy operation op made) made
+    → PlansOp old new operation operation.op made
+plan-plain {old} {new} {made} operation op type e f none is =
+    plan-typed operation op type e f
+    (subst (λ (m : Option ℕ). IsPlanned old new m (word_of type) (GivenBy operation op made) made) (sym none) (made-plain (GivenBy operation op made) is (λ numbers p. p)))

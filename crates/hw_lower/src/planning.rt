@@ -1,5 +1,5 @@
 //! The plan of each operation.
-ghost use Rattle.std.specs.Prelude.{◌≡◌, ◌≤ℤ◌, ◌<◌, ◌≤◌, pos, negsuc, length, zip, All, MatchBool};
+ghost use Rattle.std.specs.Prelude.{◌≡◌, ◌≤ℤ◌, ◌<◌, ◌≤◌, pos, negsuc, length, zip, MatchBool};
 ghost use Rattle.std.specs.Prelude.{Some};
 ghost use Rattle.fx_type.specs.declared.kind.FxType.{FxType};
 ghost use Rattle.fx_type.specs.FxType.{IsType, InRange, frac_of};
@@ -7,9 +7,9 @@ ghost use Rattle.fx_type.specs.FullType.{IsFullSum, IsFullProduct};
 ghost use Rattle.fx_type.specs.Conversion.{Converts};
 ghost use Rattle.dg_model.specs.Operation.{operation_of, without_frac, type_of, value_of};
 ghost use Rattle.dg_model.specs.declared.op.Op.TheVariants.{Convert};
-ghost use Rattle.dg_model.specs.Operation.{signed_sum, meets, Gives, IsConverted, CanPrepare, OpGives};
+ghost use Rattle.dg_model.specs.Operation.{signed_sum, meets, Gives, IsConverted, OpGives};
 ghost use Rattle.hw_lower.specs.inner.Planned.{IsAt, IsMade, word_of};
-ghost use Rattle.hw_lower.specs.inner.Spread.{HasArguments, OfArguments, IsPlanned, IsScaled};
+ghost use Rattle.hw_lower.specs.inner.Spread.{CanPlan, OfArguments, IsPlanned, IsScaled};
 ghost use Rattle.hw_lower.specs.Lowered.{multiply_of};
 
 use crate::aligning::{Side, argument_of, side_of};
@@ -38,11 +38,9 @@ fn convert_to_result(plan: &mut Plan, call: &OpCall, from: Operand, frac: i16) -
 
 /// An argument converted to the result type of the call.
 fn convert_argument(plan: &mut Plan, call: &OpCall, input: usize) -> Operand
-    requires arguments { HasArguments plan.old call.now.types.now }
+    requires can { CanPlan plan.old (operation_of call.now) }
     requires inside { input < length call.now.types.now }
     requires few { length call.now.types.now ≤ 32 }
-    requires types { All IsType call.now.types.now }
-    requires result { IsType call.now.result }
     ensures { IsMade plan.old plan.new (word_of call.now.result) (λ numbers.
         IsConverted (operation_of call.now) (numbers input) (type_of call.now.types.now input)
         (numbers result.place)) result }
@@ -54,12 +52,10 @@ fn convert_argument(plan: &mut Plan, call: &OpCall, input: usize) -> Operand
 
 /// A Sum.
 fn plan_sum(plan: &mut Plan, call: &OpCall) -> Operand
-    requires arguments { HasArguments plan.old call.now.types.now }
+    requires can { CanPlan plan.old (operation_of call.now) }
     requires signs { length call.now.signs.now ≡ length call.now.types.now }
     requires some { 1 ≤ length call.now.types.now }
     requires few { length call.now.types.now ≤ 32 }
-    requires types { All IsType call.now.types.now }
-    requires result { IsType call.now.result }
     requires full { (full : FxType)
         × IsFullSum (zip call.now.signs.now call.now.types.now) full }
     ensures { IsMade plan.old plan.new (word_of call.now.result) (λ numbers.
@@ -107,12 +103,10 @@ fn convert_product(plan: &mut Plan, call: &OpCall, one: Side, other: Side) -> Op
 
 /// A Gain.
 fn plan_gain(plan: &mut Plan, call: &OpCall, coefficient: i128, param: FxType) -> Operand
-    requires arguments { HasArguments plan.old call.now.types.now }
+    requires can { CanPlan plan.old (operation_of call.now) }
     requires single { length call.now.types.now ≡ 1 }
-    requires types { All IsType call.now.types.now }
     requires param { IsType param }
     requires coefficient { InRange param coefficient }
-    requires result { IsType call.now.result }
     requires full { (full : FxType) × IsFullProduct (type_of call.now.types.now 0) param full }
     ensures { IsPlanned plan.old plan.new (Some 1) (word_of call.now.result) (λ numbers.
         OfArguments call.now.types.now numbers (λ values.
@@ -126,10 +120,8 @@ fn plan_gain(plan: &mut Plan, call: &OpCall, coefficient: i128, param: FxType) -
 
 /// A Product.
 fn plan_product(plan: &mut Plan, call: &OpCall) -> Operand
-    requires arguments { HasArguments plan.old call.now.types.now }
+    requires can { CanPlan plan.old (operation_of call.now) }
     requires two { length call.now.types.now ≡ 2 }
-    requires types { All IsType call.now.types.now }
-    requires result { IsType call.now.result }
     requires full { (full : FxType)
         × IsFullProduct (type_of call.now.types.now 0) (type_of call.now.types.now 1) full }
     ensures { IsPlanned plan.old plan.new (Some 0) (word_of call.now.result) (λ numbers.
@@ -145,11 +137,9 @@ fn plan_product(plan: &mut Plan, call: &OpCall) -> Operand
 
 /// A Switch.
 fn plan_switch(plan: &mut Plan, call: &OpCall, criterion: Criterion, threshold: i128) -> Operand
-    requires arguments { HasArguments plan.old call.now.types.now }
+    requires can { CanPlan plan.old (operation_of call.now) }
     requires three { length call.now.types.now ≡ 3 }
-    requires types { All IsType call.now.types.now }
     requires threshold { InRange (type_of call.now.types.now 1) threshold }
-    requires result { IsType call.now.result }
     ensures { IsMade plan.old plan.new (word_of call.now.result) (λ numbers.
         OfArguments call.now.types.now numbers (λ values.
         MatchBool (meets criterion threshold (value_of values 1))
@@ -171,10 +161,8 @@ fn plan_switch(plan: &mut Plan, call: &OpCall, criterion: Criterion, threshold: 
 
 /// The stored integer of an argument converted, with both fracs taken as 0.
 fn plan_store(plan: &mut Plan, call: &OpCall) -> Operand
-    requires arguments { HasArguments plan.old call.now.types.now }
+    requires can { CanPlan plan.old (operation_of call.now) }
     requires single { length call.now.types.now ≡ 1 }
-    requires types { All IsType call.now.types.now }
-    requires result { IsType call.now.result }
     ensures { IsMade plan.old plan.new (word_of call.now.result) (λ numbers.
         Converts (numbers 0) (without_frac (type_of call.now.types.now 0))
         (without_frac call.now.result) call.now.rounding call.now.saturate
@@ -187,10 +175,8 @@ fn plan_store(plan: &mut Plan, call: &OpCall) -> Operand
 
 /// A conversion, of the real value or of the stored integer.
 fn plan_conversion(plan: &mut Plan, call: &OpCall, stored: bool) -> Operand
-    requires arguments { HasArguments plan.old call.now.types.now }
+    requires can { CanPlan plan.old (operation_of call.now) }
     requires single { length call.now.types.now ≡ 1 }
-    requires types { All IsType call.now.types.now }
-    requires result { IsType call.now.result }
     ensures { IsMade plan.old plan.new (word_of call.now.result) (λ numbers.
         OfArguments call.now.types.now numbers (λ values.
         Gives (Convert stored) (operation_of call.now) call.now.types.now values
@@ -204,8 +190,7 @@ fn plan_conversion(plan: &mut Plan, call: &OpCall, stored: bool) -> Operand
 
 /// The steps of an operation behind its arguments, and the one that has its result.
 pub fn plan_operation(plan: &mut Plan, call: &OpCall) -> Operand
-    requires arguments { HasArguments plan.old call.now.types.now }
-    requires can { CanPrepare (operation_of call.now) }
+    requires { CanPlan plan.old (operation_of call.now) }
     ensures { IsPlanned plan.old plan.new (multiply_of call.now.op)
         (word_of call.now.result) (λ numbers. OfArguments call.now.types.now numbers (λ values.
         OpGives (operation_of call.now) values (numbers result.place))) result }

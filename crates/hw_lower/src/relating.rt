@@ -1,11 +1,9 @@
 //! Relations of numbers of two types, compared in their union.
-ghost use Rattle.std.specs.Prelude.{◌≡◌, ◌≤ℤ◌, length, All};
-ghost use Rattle.fx_type.specs.declared.kind.FxType.{FxType};
-ghost use Rattle.fx_type.specs.FxType.{IsType, InRange, frac_of, aligned};
-ghost use Rattle.fx_type.specs.FullType.{HoldsType, IsUnion};
+ghost use Rattle.std.specs.Prelude.{◌≡◌};
+ghost use Rattle.fx_type.specs.FxType.{InRange, frac_of, aligned};
 ghost use Rattle.dg_model.specs.Operation.{compares_values, stored_truth, type_of, value_of};
-ghost use Rattle.hw_lower.specs.inner.Planned.{IsAt, IsMade, bit_word, word_of};
-ghost use Rattle.hw_lower.specs.inner.Spread.{HasArguments, OfArguments};
+ghost use Rattle.hw_lower.specs.inner.Planned.{IsMade, bit_word, word_of};
+ghost use Rattle.hw_lower.specs.inner.Spread.{CanCompare, CanWiden, OfArguments};
 
 use crate::aligning::{Side, align, side_of};
 use crate::comparing::compare;
@@ -15,11 +13,7 @@ use fx_type::{FxType, union};
 
 /// A number in the word and the units of a type that has it.
 fn widen(plan: &mut Plan, side: Side, holder: FxType) -> Operand
-    requires at { IsAt plan.old side.from }
-    requires kind { IsType side.kind }
-    requires holder { IsType holder }
-    requires above { frac_of side.kind ≤ℤ frac_of holder }
-    requires holds { HoldsType holder side.kind }
+    requires { CanWiden plan.old side holder }
     ensures { IsMade plan.old plan.new (word_of holder) (λ numbers.
         InRange side.kind (numbers side.from.place) → numbers result.place
         ≡ aligned (frac_of holder) side.kind (numbers side.from.place)) result }
@@ -29,10 +23,7 @@ fn widen(plan: &mut Plan, side: Side, holder: FxType) -> Operand
 
 /// Whether the real values of two arguments are so related, compared in the union of their types.
 pub fn compare_arguments(plan: &mut Plan, operator: Relation, types: &[FxType]) -> Operand
-    requires arguments { HasArguments plan.old types.now }
-    requires two { length types.now ≡ 2 }
-    requires types { All IsType types.now }
-    requires union { (both : FxType) × IsUnion (type_of types.now 0) (type_of types.now 1) both }
+    requires { CanCompare plan.old types.now }
     ensures { IsMade plan.old plan.new bit_word (λ numbers.
         OfArguments types.now numbers (λ values. numbers result.place
         ≡ stored_truth (compares_values operator (type_of types.now 0) (type_of types.now 1)

@@ -5,8 +5,8 @@ use Rattle.std.specs.List.{list_all, list_any}
 use Rattle.fx_num.specs.Word.{IsWord, InWord}
 use Rattle.fx_type.specs.declared.kind.FxType.{FxType}
 use Rattle.fx_type.specs.FxType.{IsType, frac_of}
-use Rattle.fx_type.specs.FullType.{IsFullProduct}
-use Rattle.dg_model.specs.Operation.{Operation, AreInRange, IsConverted, is_true, type_of, value_of}
+use Rattle.fx_type.specs.FullType.{HoldsType, IsFullProduct, IsUnion}
+use Rattle.dg_model.specs.Operation.{Operation, AreInRange, CanPrepare, IsConverted, is_true, type_of, value_of}
 use Rattle.hw_net.specs.declared.netlist.NetOp.{NetOp}
 use Rattle.hw_net.specs.declared.netlist.NetOp.TheVariants.{Input, Multiply}
 use Rattle.hw_lower.specs.declared.aligning.Side.{Side}
@@ -31,6 +31,11 @@ side_of types input = record { kind = type_of types input; from = argument_of ty
 pub record HasArguments (plan : Plan) (types : List FxType) : Type 0 where
   pub each : (input : ℕ) → input < length types → IsAt plan (argument_of types input)
 
+-- an operation that can be prepared, and the plan begins with its arguments
+pub record CanPlan (plan : Plan) (operation : Operation) : Type 0 where
+  pub arguments : HasArguments plan operation.types
+  pub prepared : CanPrepare operation
+
 -- there are from 1 to 32 arguments
 pub record HasSome (plan : Plan) (types : List FxType) : Type 0 where
   pub arguments : HasArguments plan types
@@ -44,6 +49,21 @@ pub record AreTerms (plan : Plan) (signs : List Bool) (types : List FxType) : Ty
   pub some : 1 ≤ length types
   pub few : length types ≤ 32
   pub valid : All IsType types
+
+-- there are two arguments, and a type that has the numbers of both
+pub record CanCompare (plan : Plan) (kinds : List FxType) : Type 0 where
+  pub arguments : HasArguments plan kinds
+  pub two : length kinds ≡ 2
+  pub types : All IsType kinds
+  pub union : (both : FxType) × IsUnion (type_of kinds 0) (type_of kinds 1) both
+
+-- the number is of a type whose numbers the other has
+pub record CanWiden (plan : Plan) (side : Side) (to : FxType) : Type 0 where
+  pub at : IsAt plan side.from
+  pub kind : IsType side.kind
+  pub valid : IsType to
+  pub above : frac_of side.kind ≤ℤ frac_of to
+  pub holds : HoldsType to side.kind
 
 -- the number can be had with so many bits behind the point, cut to the word
 pub record CanAlign (plan : Plan) (side : Side) (frac : ℤ) (to : Word) : Type 0 where

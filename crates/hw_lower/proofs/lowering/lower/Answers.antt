@@ -28,8 +28,8 @@ result_at c = rw (c.in_ok-steps.ensures.1) (c.plan_operation-result.ensures.at.t
 pub inputs_of-plan-requires : goal.inputs_of-plan-requires
 inputs_of-plan-requires c = few-inputs c.args.call.now.op (length c.args.call.now.types.now) c.requires.can.arity
 
-pub plan_operation-result-requires-clause-arguments : goal.plan_operation-result-requires-clause-arguments
-plan_operation-result-requires-clause-arguments c = inputs-there c.inputs_of-plan.result c.args.call.now.types.now c.inputs_of-plan.ensures c.requires.can.types
+pub plan_operation-result-requires : goal.plan_operation-result-requires
+plan_operation-result-requires c = record { arguments = inputs-there c.inputs_of-plan.result c.args.call.now.types.now c.inputs_of-plan.ensures c.requires.can.types; prepared = c.requires.can }
 
 pub put_nets-requires : goal.put_nets-requires
 put_nets-requires c =

@@ -13,20 +13,23 @@ frac_is : (c : After-frac-frac) → to_z w16 (of_z w16 c.frac-frac.result) ≡ f
 frac_is c = to_z-of_z w16 c.frac-frac.result (record { sfits = c.frac-frac.type_inv }) ∙ c.frac-frac.ensures
 
 pub convert_to_result-requires-clause-at : goal.convert_to_result-requires-clause-at
-convert_to_result-requires-clause-at c = rw c.argument_of-from.ensures (c.requires.arguments.each c.args.input c.requires.inside)
+convert_to_result-requires-clause-at c = rw c.argument_of-from.ensures (c.requires.can.arguments.each c.args.input c.requires.inside)
 
 pub convert_to_result-requires-clause-low : goal.convert_to_result-requires-clause-low
 convert_to_result-requires-clause-low c =
     let f = frac_is (goal.at.convert_to_result-requires-clause-low c).After-frac-frac in
-    rw f (frac_bounds (type_of c.args.call.now.types.now c.args.input) (c.requires.types c.args.input _ c.requires.inside)).0
+    rw f (frac_bounds (type_of c.args.call.now.types.now c.args.input) (c.requires.can.prepared.types c.args.input _ c.requires.inside)).0
 
 pub convert_to_result-requires-clause-high : goal.convert_to_result-requires-clause-high
 convert_to_result-requires-clause-high c =
     let f = frac_is (goal.at.convert_to_result-requires-clause-high c).After-frac-frac in
-    rw f (frac_bounds (type_of c.args.call.now.types.now c.args.input) (c.requires.types c.args.input _ c.requires.inside)).1
+    rw f (frac_bounds (type_of c.args.call.now.types.now c.args.input) (c.requires.can.prepared.types c.args.input _ c.requires.inside)).1
 
 pub returns : goal.returns
 returns c =
     let f = frac_is (goal.at.returns c).After-frac-frac in
     made-map (λ numbers. IsConverted (operation_of c.args.call.now) (numbers c.args.input) (type_of c.args.call.now.types.now c.args.input) (numbers c.convert_to_result.result.place)) (rw (c.argument_of-from.ensures, f) at c.convert_to_result.ensures)
     (λ numbers has p. p (type_of c.args.call.now.types.now c.args.input) refl)
+
+pub convert_to_result-requires-clause-result : goal.convert_to_result-requires-clause-result
+convert_to_result-requires-clause-result c = c.requires.can.prepared.result

@@ -16,7 +16,7 @@ convert_product-requires-clause-one c =
     let own = to_z-of_z w128 c.args.coefficient c.ranges.coefficient in
     let put = rw (own, c.word_of.ensures) at c.put_alone-from.ensures in
     let made = constant-made _ _ c.args.coefficient (word_of c.args.param) c.put_alone-from.result (type-word c.args.param c.requires.param) (range-word c.args.param c.args.coefficient c.requires.coefficient) put in
-    rw c.side_of-one.ensures (at-later _ _ (argument_of c.args.call.now.types.now 0) made.grows (c.requires.arguments.each 0 (omega (arith, c.requires.single))))
+    rw c.side_of-one.ensures (at-later _ _ (argument_of c.args.call.now.types.now 0) made.grows (c.requires.can.arguments.each 0 (omega (arith, c.requires.single))))
 
 pub convert_product-requires-clause-other : goal.convert_product-requires-clause-other
 convert_product-requires-clause-other c =
@@ -25,7 +25,7 @@ convert_product-requires-clause-other c =
     (constant-made _ _ c.args.coefficient (word_of c.args.param) c.put_alone-from.result (type-word c.args.param c.requires.param) (range-word c.args.param c.args.coefficient c.requires.coefficient) put).at
 
 pub convert_product-requires-clause-left : goal.convert_product-requires-clause-left
-convert_product-requires-clause-left c = rw c.side_of-one.ensures (c.requires.types 0 _ (omega (arith, c.requires.single)))
+convert_product-requires-clause-left c = rw c.side_of-one.ensures (c.requires.can.prepared.types 0 _ (omega (arith, c.requires.single)))
 
 pub convert_product-requires-clause-full : goal.convert_product-requires-clause-full
 convert_product-requires-clause-full c = rw c.side_of-one.ensures c.requires.full
@@ -42,3 +42,6 @@ returns c =
     let range : InRange c.args.param (numbers c.put_alone-from.result.place) = subst (InRange c.args.param) (sym p) c.requires.coefficient in
     scaled-at (operation_of c.args.call.now) (type_of c.args.call.now.types.now 0) c.args.param (numbers 0) (numbers c.put_alone-from.result.place) (value_of values 0) c.args.coefficient (numbers c.convert_product.result.place) one p
     (q (range-at c.args.call.now.types.now numbers values 0 are (omega (arith, c.requires.single))) range))
+
+pub convert_product-requires-clause-result : goal.convert_product-requires-clause-result
+convert_product-requires-clause-result c = c.requires.can.prepared.result

@@ -1,4 +1,4 @@
-use Rattle.std.proofs.Common.{◌≡◌, ◌*ℤ◌, ℕ, ℤ, Bool, List, rules, length, subst, to_z, of_z, arith}
+use Rattle.std.proofs.Common.{◌≡◌, ◌*ℤ◌, ℕ, ℤ, Bool, List, rules, length, subst, to_z, of_z, arith, refl}
 use Rattle.std.specs.Int.{w128}
 use Rattle.std.proofs.lemmas.Int.{to_z-of_z}
 use Rattle.fx_type.specs.declared.kind.FxType.{FxType}
@@ -7,7 +7,7 @@ use Rattle.dg_model.specs.declared.op.Op.{Op}
 use Rattle.dg_model.specs.declared.op.Op.TheVariants.{Sum, Gain, Product, Switch, Relational, Logic, Convert, Pass}
 use Rattle.dg_model.specs.Operation.{operation_of, Gives, HasArity, HasFullType, HasParameters, HasResultType, HasSigns, IsConverted, type_of, value_of}
 use Rattle.hw_lower.specs.inner.Spread.{OfArguments}
-use Rattle.hw_lower.proofs.Arguments.{plan-of, plan-typed, few-inputs, gate-inputs}
+use Rattle.hw_lower.proofs.Arguments.{plan-of, plan-plain, plan-typed, few-inputs, gate-inputs}
 use Rattle.hw_lower.proofs.Chained.{made-self}
 use Rattle.hw_lower.proofs.Spreading.{made-plain, planned-map}
 use Rattle.hw_lower.proofs.planning.plan_operation.Goals as goal
@@ -23,11 +23,11 @@ arity_of n is has = subst (λ (o : Op). HasArity o n) is has
 full_of : {op known : Op} (signs : List Bool) (types : List FxType) → op ≡ known → HasFullType op signs types → HasFullType known signs types
 full_of signs types is has = subst (λ (o : Op). HasFullType o signs types) is has
 
+result_of : {op known : Op} (types : List FxType) (result : FxType) → op ≡ known → HasResultType op types result → HasResultType known types result
+result_of types result is has = subst (λ (o : Op). HasResultType o types result) is has
+
 pub returns-in-Sum : goal.returns-in-Sum
-returns-in-Sum c =
-    plan-of (operation_of c.args.call.now) Sum c.in-Sum.is
-    (made-plain (λ numbers. OfArguments c.args.call.now.types.now numbers (λ values. Gives Sum (operation_of c.args.call.now) c.args.call.now.types.now values (numbers c.plan_sum.result.place))) c.plan_sum.ensures
-    (λ numbers p. p))
+returns-in-Sum c = plan-plain (operation_of c.args.call.now) Sum c.args.call.now.result c.in-Sum.is refl refl c.plan_sum.ensures
 
 pub returns-in-Switch : goal.returns-in-Switch
 returns-in-Switch c =
@@ -37,10 +37,7 @@ returns-in-Switch c =
     (λ numbers p values are. subst (λ (t : ℤ). Gives (Switch c.in-Switch.criterion t) (operation_of c.args.call.now) c.args.call.now.types.now values (numbers c.plan_switch.result.place)) own (p values are)))
 
 pub returns-in-Convert : goal.returns-in-Convert
-returns-in-Convert c =
-    plan-of (operation_of c.args.call.now) (Convert c.in-Convert.stored) c.in-Convert.is
-    (made-plain (λ numbers. OfArguments c.args.call.now.types.now numbers (λ values. Gives (Convert c.in-Convert.stored) (operation_of c.args.call.now) c.args.call.now.types.now values (numbers c.plan_conversion.result.place))) c.plan_conversion.ensures
-    (λ numbers p. p))
+returns-in-Convert c = plan-plain (operation_of c.args.call.now) (Convert c.in-Convert.stored) c.args.call.now.result c.in-Convert.is refl refl c.plan_conversion.ensures
 
 pub returns-in-Gain : goal.returns-in-Gain
 returns-in-Gain c =
@@ -58,30 +55,26 @@ returns-in-Product c =
 
 pub returns-in-Relational : goal.returns-in-Relational
 returns-in-Relational c =
-    let type : c.args.call.now.result ≡ LogicalType = subst (λ (op : Op). HasResultType op c.args.call.now.types.now c.args.call.now.result) c.in-Relational.is c.requires.can.result_type in
-    plan-typed (operation_of c.args.call.now) (Relational c.in-Relational.operator) LogicalType c.in-Relational.is type
-    (made-plain (λ numbers. OfArguments c.args.call.now.types.now numbers (λ values. Gives (Relational c.in-Relational.operator) (operation_of c.args.call.now) c.args.call.now.types.now values (numbers c.compare_arguments.result.place))) c.compare_arguments.ensures
-    (λ numbers p. p))
+    let type : c.args.call.now.result ≡ LogicalType = result_of c.args.call.now.types.now c.args.call.now.result c.in-Relational.is c.requires.prepared.result_type in
+    plan-plain (operation_of c.args.call.now) (Relational c.in-Relational.operator) LogicalType c.in-Relational.is type refl c.compare_arguments.ensures
 
 pub returns-in-Logic : goal.returns-in-Logic
 returns-in-Logic c =
-    let type : c.args.call.now.result ≡ LogicalType = subst (λ (op : Op). HasResultType op c.args.call.now.types.now c.args.call.now.result) c.in-Logic.is c.requires.can.result_type in
-    plan-typed (operation_of c.args.call.now) (Logic c.in-Logic.operator) LogicalType c.in-Logic.is type
-    (made-plain (λ numbers. OfArguments c.args.call.now.types.now numbers (λ values. Gives (Logic c.in-Logic.operator) (operation_of c.args.call.now) c.args.call.now.types.now values (numbers c.gate.result.place))) c.gate.ensures
-    (λ numbers p. p))
+    let type : c.args.call.now.result ≡ LogicalType = result_of c.args.call.now.types.now c.args.call.now.result c.in-Logic.is c.requires.prepared.result_type in
+    plan-plain (operation_of c.args.call.now) (Logic c.in-Logic.operator) LogicalType c.in-Logic.is type refl c.gate.ensures
 
 pub argument_of-requires-clause-inside : goal.argument_of-requires-clause-inside
 argument_of-requires-clause-inside c =
-    let one = one-passed c.args.call.now.op (length c.args.call.now.types.now) c.in-Pass.is c.requires.can.arity in
+    let one = one-passed c.args.call.now.op (length c.args.call.now.types.now) c.in-Pass.is c.requires.prepared.arity in
     omega (arith, one)
 
 pub argument_of-requires-clause-few : goal.argument_of-requires-clause-few
-argument_of-requires-clause-few c = few-inputs c.args.call.now.op (length c.args.call.now.types.now) c.requires.can.arity
+argument_of-requires-clause-few c = few-inputs c.args.call.now.op (length c.args.call.now.types.now) c.requires.prepared.arity
 
 pub returns-in-Pass : goal.returns-in-Pass
 returns-in-Pass c =
-    let one = one-passed c.args.call.now.op (length c.args.call.now.types.now) c.in-Pass.is c.requires.can.arity in
-    let type : c.args.call.now.result ≡ (type_of c.args.call.now.types.now 0) = subst (λ (op : Op). HasResultType op c.args.call.now.types.now c.args.call.now.result) c.in-Pass.is c.requires.can.result_type in
+    let one = one-passed c.args.call.now.op (length c.args.call.now.types.now) c.in-Pass.is c.requires.prepared.arity in
+    let type : c.args.call.now.result ≡ (type_of c.args.call.now.types.now 0) = subst (λ (op : Op). HasResultType op c.args.call.now.types.now c.args.call.now.result) c.in-Pass.is c.requires.prepared.result_type in
     rw c.argument_of.ensures
     (plan-typed (operation_of c.args.call.now) Pass (type_of c.args.call.now.types.now 0) c.in-Pass.is type
     (made-plain (λ numbers. OfArguments c.args.call.now.types.now numbers (λ values. Gives Pass (operation_of c.args.call.now) c.args.call.now.types.now values (numbers 0)))
@@ -90,96 +83,62 @@ returns-in-Pass c =
 pub gate-requires : goal.gate-requires
 gate-requires c = record {
   arguments = c.requires.arguments;
-  some = gate-inputs c.in-Logic.operator (length c.args.call.now.types.now) (subst (λ (op : Op). HasArity op (length c.args.call.now.types.now)) c.in-Logic.is c.requires.can.arity);
-  few = few-inputs c.args.call.now.op (length c.args.call.now.types.now) c.requires.can.arity;
+  some = gate-inputs c.in-Logic.operator (length c.args.call.now.types.now) (subst (λ (op : Op). HasArity op (length c.args.call.now.types.now)) c.in-Logic.is c.requires.prepared.arity);
+  few = few-inputs c.args.call.now.op (length c.args.call.now.types.now) c.requires.prepared.arity;
 }
 
-pub plan_sum-requires-clause-arguments : goal.plan_sum-requires-clause-arguments
-plan_sum-requires-clause-arguments c = c.requires.arguments
+pub compare_arguments-requires : goal.compare_arguments-requires
+compare_arguments-requires c = record {
+  arguments = c.requires.arguments;
+  two = arity_of (length c.args.call.now.types.now) c.in-Relational.is c.requires.prepared.arity;
+  types = c.requires.prepared.types;
+  union = full_of c.args.call.now.signs.now c.args.call.now.types.now c.in-Relational.is c.requires.prepared.full_type;
+}
 
-pub plan_sum-requires-clause-types : goal.plan_sum-requires-clause-types
-plan_sum-requires-clause-types c = c.requires.can.types
+pub plan_sum-requires-clause-can : goal.plan_sum-requires-clause-can
+plan_sum-requires-clause-can c = c.requires
 
-pub plan_sum-requires-clause-result : goal.plan_sum-requires-clause-result
-plan_sum-requires-clause-result c = c.requires.can.result
+pub plan_gain-requires-clause-can : goal.plan_gain-requires-clause-can
+plan_gain-requires-clause-can c = c.requires
 
-pub plan_gain-requires-clause-arguments : goal.plan_gain-requires-clause-arguments
-plan_gain-requires-clause-arguments c = c.requires.arguments
+pub plan_product-requires-clause-can : goal.plan_product-requires-clause-can
+plan_product-requires-clause-can c = c.requires
 
-pub plan_gain-requires-clause-types : goal.plan_gain-requires-clause-types
-plan_gain-requires-clause-types c = c.requires.can.types
+pub plan_switch-requires-clause-can : goal.plan_switch-requires-clause-can
+plan_switch-requires-clause-can c = c.requires
 
-pub plan_gain-requires-clause-result : goal.plan_gain-requires-clause-result
-plan_gain-requires-clause-result c = c.requires.can.result
-
-pub plan_product-requires-clause-arguments : goal.plan_product-requires-clause-arguments
-plan_product-requires-clause-arguments c = c.requires.arguments
-
-pub plan_product-requires-clause-types : goal.plan_product-requires-clause-types
-plan_product-requires-clause-types c = c.requires.can.types
-
-pub plan_product-requires-clause-result : goal.plan_product-requires-clause-result
-plan_product-requires-clause-result c = c.requires.can.result
-
-pub plan_switch-requires-clause-arguments : goal.plan_switch-requires-clause-arguments
-plan_switch-requires-clause-arguments c = c.requires.arguments
-
-pub plan_switch-requires-clause-types : goal.plan_switch-requires-clause-types
-plan_switch-requires-clause-types c = c.requires.can.types
-
-pub plan_switch-requires-clause-result : goal.plan_switch-requires-clause-result
-plan_switch-requires-clause-result c = c.requires.can.result
-
-pub compare_arguments-requires-clause-arguments : goal.compare_arguments-requires-clause-arguments
-compare_arguments-requires-clause-arguments c = c.requires.arguments
-
-pub compare_arguments-requires-clause-types : goal.compare_arguments-requires-clause-types
-compare_arguments-requires-clause-types c = c.requires.can.types
-
-pub plan_conversion-requires-clause-arguments : goal.plan_conversion-requires-clause-arguments
-plan_conversion-requires-clause-arguments c = c.requires.arguments
-
-pub plan_conversion-requires-clause-types : goal.plan_conversion-requires-clause-types
-plan_conversion-requires-clause-types c = c.requires.can.types
-
-pub plan_conversion-requires-clause-result : goal.plan_conversion-requires-clause-result
-plan_conversion-requires-clause-result c = c.requires.can.result
+pub plan_conversion-requires-clause-can : goal.plan_conversion-requires-clause-can
+plan_conversion-requires-clause-can c = c.requires
 
 pub plan_sum-requires-clause-signs : goal.plan_sum-requires-clause-signs
-plan_sum-requires-clause-signs c = subst (λ (o : Op). HasSigns o c.args.call.now.signs.now (length c.args.call.now.types.now)) c.in-Sum.is c.requires.can.signs
+plan_sum-requires-clause-signs c = subst (λ (o : Op). HasSigns o c.args.call.now.signs.now (length c.args.call.now.types.now)) c.in-Sum.is c.requires.prepared.signs
 
 pub plan_sum-requires-clause-some : goal.plan_sum-requires-clause-some
-plan_sum-requires-clause-some c = (arity_of (length c.args.call.now.types.now) c.in-Sum.is c.requires.can.arity).0
+plan_sum-requires-clause-some c = (arity_of (length c.args.call.now.types.now) c.in-Sum.is c.requires.prepared.arity).0
 
 pub plan_sum-requires-clause-few : goal.plan_sum-requires-clause-few
-plan_sum-requires-clause-few c = (arity_of (length c.args.call.now.types.now) c.in-Sum.is c.requires.can.arity).1
+plan_sum-requires-clause-few c = (arity_of (length c.args.call.now.types.now) c.in-Sum.is c.requires.prepared.arity).1
 
 pub plan_sum-requires-clause-full : goal.plan_sum-requires-clause-full
-plan_sum-requires-clause-full c = full_of c.args.call.now.signs.now c.args.call.now.types.now c.in-Sum.is c.requires.can.full_type
+plan_sum-requires-clause-full c = full_of c.args.call.now.signs.now c.args.call.now.types.now c.in-Sum.is c.requires.prepared.full_type
 
 pub plan_gain-requires-clause-single : goal.plan_gain-requires-clause-single
-plan_gain-requires-clause-single c = arity_of (length c.args.call.now.types.now) c.in-Gain.is c.requires.can.arity
+plan_gain-requires-clause-single c = arity_of (length c.args.call.now.types.now) c.in-Gain.is c.requires.prepared.arity
 
 pub plan_gain-requires-clause-param : goal.plan_gain-requires-clause-param
-plan_gain-requires-clause-param c = (subst (λ (o : Op). HasParameters o c.args.call.now.types.now) c.in-Gain.is c.requires.can.parameters).0
+plan_gain-requires-clause-param c = (subst (λ (o : Op). HasParameters o c.args.call.now.types.now) c.in-Gain.is c.requires.prepared.parameters).0
 
 pub plan_gain-requires-clause-full : goal.plan_gain-requires-clause-full
-plan_gain-requires-clause-full c = full_of c.args.call.now.signs.now c.args.call.now.types.now c.in-Gain.is c.requires.can.full_type
+plan_gain-requires-clause-full c = full_of c.args.call.now.signs.now c.args.call.now.types.now c.in-Gain.is c.requires.prepared.full_type
 
 pub plan_product-requires-clause-two : goal.plan_product-requires-clause-two
-plan_product-requires-clause-two c = arity_of (length c.args.call.now.types.now) c.in-Product.is c.requires.can.arity
+plan_product-requires-clause-two c = arity_of (length c.args.call.now.types.now) c.in-Product.is c.requires.prepared.arity
 
 pub plan_product-requires-clause-full : goal.plan_product-requires-clause-full
-plan_product-requires-clause-full c = full_of c.args.call.now.signs.now c.args.call.now.types.now c.in-Product.is c.requires.can.full_type
+plan_product-requires-clause-full c = full_of c.args.call.now.signs.now c.args.call.now.types.now c.in-Product.is c.requires.prepared.full_type
 
 pub plan_switch-requires-clause-three : goal.plan_switch-requires-clause-three
-plan_switch-requires-clause-three c = arity_of (length c.args.call.now.types.now) c.in-Switch.is c.requires.can.arity
-
-pub compare_arguments-requires-clause-two : goal.compare_arguments-requires-clause-two
-compare_arguments-requires-clause-two c = arity_of (length c.args.call.now.types.now) c.in-Relational.is c.requires.can.arity
-
-pub compare_arguments-requires-clause-union : goal.compare_arguments-requires-clause-union
-compare_arguments-requires-clause-union c = full_of c.args.call.now.signs.now c.args.call.now.types.now c.in-Relational.is c.requires.can.full_type
+plan_switch-requires-clause-three c = arity_of (length c.args.call.now.types.now) c.in-Switch.is c.requires.prepared.arity
 
 pub plan_conversion-requires-clause-single : goal.plan_conversion-requires-clause-single
-plan_conversion-requires-clause-single c = arity_of (length c.args.call.now.types.now) c.in-Convert.is c.requires.can.arity
+plan_conversion-requires-clause-single c = arity_of (length c.args.call.now.types.now) c.in-Convert.is c.requires.prepared.arity

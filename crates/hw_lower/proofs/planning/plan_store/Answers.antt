@@ -6,10 +6,10 @@ use Rattle.hw_lower.proofs.Chained.{made-map}
 use Rattle.hw_lower.proofs.planning.plan_store.Goals as goal
 
 pub convert-requires-clause-at : goal.convert-requires-clause-at
-convert-requires-clause-at c = rw c.argument_of-from.ensures (c.requires.arguments.each 0 (omega (arith, c.requires.single)))
+convert-requires-clause-at c = rw c.argument_of-from.ensures (c.requires.can.arguments.each 0 (omega (arith, c.requires.single)))
 
 pub convert-requires-clause-to : goal.convert-requires-clause-to
-convert-requires-clause-to c = rw c.without_frac-to.ensures (without-type c.args.call.now.result c.requires.result)
+convert-requires-clause-to c = rw c.without_frac-to.ensures (without-type c.args.call.now.result c.requires.can.prepared.result)
 
 pub returns : goal.returns
 returns c =

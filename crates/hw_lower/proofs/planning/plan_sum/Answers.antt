@@ -37,4 +37,10 @@ returns c =
     ))
 
 pub sum_arguments-exact-requires-clause-terms : goal.sum_arguments-exact-requires-clause-terms
-sum_arguments-exact-requires-clause-terms c = record { arguments = c.requires.arguments; signed = c.requires.signs; some = c.requires.some; few = c.requires.few; valid = c.requires.types }
+sum_arguments-exact-requires-clause-terms c = record { arguments = c.requires.can.arguments; signed = c.requires.signs; some = c.requires.some; few = c.requires.few; valid = c.requires.can.prepared.types }
+
+pub convert_to_result-requires-clause-result : goal.convert_to_result-requires-clause-result
+convert_to_result-requires-clause-result c = c.requires.can.prepared.result
+
+pub sum_type-full-requires-clause-types : goal.sum_type-full-requires-clause-types
+sum_type-full-requires-clause-types c = c.requires.can.prepared.types

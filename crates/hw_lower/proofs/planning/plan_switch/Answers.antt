@@ -10,17 +10,15 @@ use Rattle.fx_type.proofs.Ranges.{range-word}
 use Rattle.hw_lower.proofs.Arguments.{switch-is}
 use Rattle.hw_lower.proofs.planning.plan_switch.Goals as goal
 
-pub convert_argument-first-requires-clause-arguments : goal.convert_argument-first-requires-clause-arguments
-convert_argument-first-requires-clause-arguments c = c.requires.arguments
-
 pub convert_argument-first-requires-clause-inside : goal.convert_argument-first-requires-clause-inside
 convert_argument-first-requires-clause-inside c = omega (arith, c.requires.three)
 
 pub convert_argument-first-requires-clause-few : goal.convert_argument-first-requires-clause-few
 convert_argument-first-requires-clause-few c = omega (arith, c.requires.three)
 
-pub convert_argument-other-requires-clause-arguments : goal.convert_argument-other-requires-clause-arguments
-convert_argument-other-requires-clause-arguments c = record { each = λ input inside. at-later _ _ (argument_of c.args.call.now.types.now input) c.convert_argument-first.ensures.grows (c.requires.arguments.each input inside) }
+pub convert_argument-other-requires-clause-can : goal.convert_argument-other-requires-clause-can
+convert_argument-other-requires-clause-can c =
+    record { prepared = c.requires.can.prepared; arguments = record { each = λ input inside. at-later _ _ (argument_of c.args.call.now.types.now input) c.convert_argument-first.ensures.grows (c.requires.can.arguments.each input inside) } }
 
 pub convert_argument-other-requires-clause-inside : goal.convert_argument-other-requires-clause-inside
 convert_argument-other-requires-clause-inside c = omega (arith, c.requires.three)
@@ -38,7 +36,7 @@ pub switch-requires : goal.switch-requires
 switch-requires c =
     let own = to_z-of_z w128 c.args.threshold c.ranges.threshold in
     rw (c.argument_of-control.ensures, own) (record {
-      control = at-later _ _ (argument_of c.args.call.now.types.now 1) c.convert_argument-other.ensures.grows (at-later _ _ (argument_of c.args.call.now.types.now 1) c.convert_argument-first.ensures.grows (c.requires.arguments.each 1 (omega (arith, c.requires.three))));
+      control = at-later _ _ (argument_of c.args.call.now.types.now 1) c.convert_argument-other.ensures.grows (at-later _ _ (argument_of c.args.call.now.types.now 1) c.convert_argument-first.ensures.grows (c.requires.can.arguments.each 1 (omega (arith, c.requires.three))));
       first = at-later _ _ c.convert_argument-first.result c.convert_argument-other.ensures.grows c.convert_argument-first.ensures.at;
       other = c.convert_argument-other.ensures.at;
       word = c.convert_argument-first.ensures.has_word ∙ sym c.convert_argument-other.ensures.has_word;

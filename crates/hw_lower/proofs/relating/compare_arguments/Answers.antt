@@ -17,37 +17,17 @@ holder c = union-holds (type_of c.args.types.now 0) (type_of c.args.types.now 1)
 pub unwrap-both-requires : goal.unwrap-both-requires
 unwrap-both-requires c = found-ok (IsUnion (type_of c.args.types.now 0) (type_of c.args.types.now 1)) c.union.result c.union.ensures.too_wide c.requires.union
 
-pub widen-left-requires-clause-kind : goal.widen-left-requires-clause-kind
-widen-left-requires-clause-kind c = rw c.side_of-one.ensures (c.requires.types 0 _ (omega (arith, c.requires.two)))
+pub widen-left-requires : goal.widen-left-requires
+widen-left-requires c =
+    let is = holder (goal.at.widen-left-requires c).After-unwrap-both in
+    let at = c.requires.arguments.each 0 (omega (arith, c.requires.two)) in
+    rw c.side_of-one.ensures (record { at = at; kind = c.requires.types 0 _ (omega (arith, c.requires.two)); valid = is.valid; above = holder-left (type_of c.args.types.now 0) (type_of c.args.types.now 1) c.unwrap-both.result is; holds = is.left })
 
-pub widen-right-requires-clause-kind : goal.widen-right-requires-clause-kind
-widen-right-requires-clause-kind c = rw c.side_of-other.ensures (c.requires.types 1 _ (omega (arith, c.requires.two)))
-
-pub widen-left-requires-clause-at : goal.widen-left-requires-clause-at
-widen-left-requires-clause-at c = rw c.side_of-one.ensures (c.requires.arguments.each 0 (omega (arith, c.requires.two)))
-
-pub widen-left-requires-clause-holder : goal.widen-left-requires-clause-holder
-widen-left-requires-clause-holder c = (holder (goal.at.widen-left-requires-clause-holder c).After-unwrap-both).valid
-
-pub widen-left-requires-clause-above : goal.widen-left-requires-clause-above
-widen-left-requires-clause-above c =
-    rw c.side_of-one.ensures (holder-left (type_of c.args.types.now 0) (type_of c.args.types.now 1) c.unwrap-both.result (holder (goal.at.widen-left-requires-clause-above c).After-unwrap-both))
-
-pub widen-left-requires-clause-holds : goal.widen-left-requires-clause-holds
-widen-left-requires-clause-holds c = rw c.side_of-one.ensures (holder (goal.at.widen-left-requires-clause-holds c).After-unwrap-both).left
-
-pub widen-right-requires-clause-at : goal.widen-right-requires-clause-at
-widen-right-requires-clause-at c = rw c.side_of-other.ensures (at-later _ _ (argument_of c.args.types.now 1) c.widen-left.ensures.grows (c.requires.arguments.each 1 (omega (arith, c.requires.two))))
-
-pub widen-right-requires-clause-holder : goal.widen-right-requires-clause-holder
-widen-right-requires-clause-holder c = (holder (goal.at.widen-right-requires-clause-holder c).After-unwrap-both).valid
-
-pub widen-right-requires-clause-above : goal.widen-right-requires-clause-above
-widen-right-requires-clause-above c =
-    rw c.side_of-other.ensures (holder-right (type_of c.args.types.now 0) (type_of c.args.types.now 1) c.unwrap-both.result (holder (goal.at.widen-right-requires-clause-above c).After-unwrap-both))
-
-pub widen-right-requires-clause-holds : goal.widen-right-requires-clause-holds
-widen-right-requires-clause-holds c = rw c.side_of-other.ensures (holder (goal.at.widen-right-requires-clause-holds c).After-unwrap-both).right
+pub widen-right-requires : goal.widen-right-requires
+widen-right-requires c =
+    let is = holder (goal.at.widen-right-requires c).After-unwrap-both in
+    let at = at-later _ _ (argument_of c.args.types.now 1) c.widen-left.ensures.grows (c.requires.arguments.each 1 (omega (arith, c.requires.two))) in
+    rw c.side_of-other.ensures (record { at = at; kind = c.requires.types 1 _ (omega (arith, c.requires.two)); valid = is.valid; above = holder-right (type_of c.args.types.now 0) (type_of c.args.types.now 1) c.unwrap-both.result is; holds = is.right })
 
 pub compare-requires-clause-one : goal.compare-requires-clause-one
 compare-requires-clause-one c = at-later _ _ c.widen-left.result c.widen-right.ensures.grows c.widen-left.ensures.at

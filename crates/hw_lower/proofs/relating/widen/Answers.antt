@@ -18,12 +18,12 @@ align-requires c =
       at = c.requires.at;
       kind = c.requires.kind;
       above = c.requires.above;
-      high = (frac_bounds c.args.holder c.requires.holder).1;
-      word = type-word c.args.holder c.requires.holder;
+      high = (frac_bounds c.args.holder c.requires.valid).1;
+      word = type-word c.args.holder c.requires.valid;
     })
 
 pub returns : goal.returns
 returns c =
     let f = frac_is (goal.at.returns c).After-frac in
     made-map (λ numbers. InRange c.args.side.kind (numbers c.args.side.from.place) → numbers c.align.result.place ≡ aligned (frac_of c.args.holder) c.args.side.kind (numbers c.args.side.from.place)) (rw (c.word_of.ensures, f) at c.align.ensures)
-    (λ numbers has p range. held-is c.args.holder c.args.side.kind (numbers c.args.side.from.place) (numbers c.align.result.place) c.requires.holder c.requires.holds p range)
+    (λ numbers has p range. held-is c.args.holder c.args.side.kind (numbers c.args.side.from.place) (numbers c.align.result.place) c.requires.valid c.requires.holds p range)
