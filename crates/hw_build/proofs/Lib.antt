@@ -112,4 +112,5 @@ mod Unread
 mod Wanting
 mod Whole
 mod Widths
+mod Within
 mod Words

@@ -1,17 +1,14 @@
-use Rattle.std.proofs.Common.{◌≡◌, ◌+◌, ◌*◌, ℕ, List, length, slice_index_or, ap, arith}
+use Rattle.std.proofs.Common.{◌≡◌, ◌+◌, ◌*◌, slice_index_or, arith}
 use Rattle.hw_build.specs.inner.Outgoing.{clocks_to}
 use Rattle.hw_build.proofs.Outgoing.{clocks_are}
+use Rattle.hw_build.proofs.Within.{entry_read}
 use Rattle.hw_build.proofs.outputs.output_of.Goals as goal
 
 pub bounds-as_slice-block : goal.bounds-as_slice-block
-bounds-as_slice-block c =
-    let same : length c.as_slice.result.now ≡ length c.args.design.latencies.now.lat = ap (λ (xs : List ℕ). length xs) c.as_slice.ensures in
-    omega (arith, c.requires.there, same, c.requires.can.designed.scheduled.timed.size)
+bounds-as_slice-block c = entry_read _ c.args.block _ c.as_slice.result.now c.requires.there c.requires.can.designed.scheduled.timed.size c.as_slice.ensures
 
 pub bounds-as_slice-block-2 : goal.bounds-as_slice-block-2
-bounds-as_slice-block-2 c =
-    let same : length c.as_slice-2.result.now ≡ length c.args.design.slots.now.ready = ap (λ (xs : List ℕ). length xs) c.as_slice-2.ensures in
-    omega (arith, c.requires.there, same, c.requires.can.slots.ready.size)
+bounds-as_slice-block-2 c = entry_read _ c.args.block _ c.as_slice-2.result.now c.requires.there c.requires.can.slots.ready.size c.as_slice-2.ensures
 
 pub overflow_mul-latency : goal.overflow_mul-latency
 overflow_mul-latency c =
@@ -31,10 +28,10 @@ returns c =
 
 pub offset_bounds-as_slice-block : goal.offset_bounds-as_slice-block
 offset_bounds-as_slice-block c =
-    let same : length c.as_slice.result.now ≡ length c.args.design.latencies.now.lat = ap (λ (xs : List ℕ). length xs) c.as_slice.ensures in
-    omega (arith, c.requires.there, same, c.requires.can.designed.scheduled.timed.size)
+    let low = entry_read _ c.args.block _ c.as_slice.result.now c.requires.there c.requires.can.designed.scheduled.timed.size c.as_slice.ensures in
+    omega (arith, low)
 
 pub offset_bounds-as_slice-block-2 : goal.offset_bounds-as_slice-block-2
 offset_bounds-as_slice-block-2 c =
-    let same : length c.as_slice-2.result.now ≡ length c.args.design.slots.now.ready = ap (λ (xs : List ℕ). length xs) c.as_slice-2.ensures in
-    omega (arith, c.requires.there, same, c.requires.can.slots.ready.size)
+    let low = entry_read _ c.args.block _ c.as_slice-2.result.now c.requires.there c.requires.can.slots.ready.size c.as_slice-2.ensures in
+    omega (arith, low)

@@ -8,10 +8,12 @@ use Rattle.hw_arcs.specs.Latencies.{latency_at}
 use Rattle.hw_latency.specs.Weight.{samples}
 use Rattle.hw_sched.specs.Slots.{Operation, operation, shared_operations, slot_of, unit_of}
 use Rattle.hw_build.specs.inner.Designed.{times_for}
-use Rattle.hw_build.specs.inner.Factors.{IsSecond}
+use Rattle.hw_build.specs.declared.design.Design.{Design}
+use Rattle.hw_build.specs.inner.Factors.{IsNumbered, IsSecond}
 use Rattle.hw_build.specs.inner.Operands.{offered_at}
 use Rattle.hw_build.proofs.Factoring.{shared_multiplies}
 use Rattle.hw_build.proofs.Operations.{of_shared}
+use Rattle.hw_build.proofs.Within.{entry_read}
 use Rattle.hw_build.proofs.shared.shared_of.Goals as goal
 
 pub second_of-requires-clause-multiplies : goal.second_of-requires-clause-multiplies
@@ -30,39 +32,33 @@ period-requires c = slice_get_within _ c.args.block c.args.one.now c.requires.bl
 pub bounds-as_slice-block : goal.bounds-as_slice-block
 bounds-as_slice-block c =
     let inside = slice_get_within _ c.args.block c.args.one.now c.requires.block in
-    let size = c.requires.can.designed.scheduled.timed.size in
-    let same : length c.as_slice.result.now ≡ length c.args.design.latencies.now.lat = ap length c.as_slice.ensures in
-    omega (arith, inside, size, same)
+    entry_read _ c.args.block _ c.as_slice.result.now inside c.requires.can.designed.scheduled.timed.size c.as_slice.ensures
+
+pub offset_bounds-as_slice-block : goal.offset_bounds-as_slice-block
+offset_bounds-as_slice-block c =
+    let inside = slice_get_within _ c.args.block c.args.one.now c.requires.block in
+    let low = entry_read _ c.args.block _ c.as_slice.result.now inside c.requires.can.designed.scheduled.timed.size c.as_slice.ensures in
+    omega (arith, low)
+
+-- what is read has an entry for each shared operation
+listed : (design : Design) (number : ℕ) (o : Operation) (list read : List ℕ) → IsNumbered design number o → length list ≡ length (shared_operations design.checked.now.diagram (attributes_of design.checked.now.diagram) design.plan.now) → read ≡ list → number < length read
+listed design number o list read is size same = entry_read _ number list read (slice_get_within _ number o is) size same
+
+pub bounds-as_slice-number : goal.bounds-as_slice-number
+bounds-as_slice-number c = listed c.args.design c.args.number (operation c.args.block c.args.element) _ c.as_slice-2.result.now c.requires.is c.requires.can.slots.starts.size c.as_slice-2.ensures
 
 pub offset_bounds-as_slice-number : goal.offset_bounds-as_slice-number
 offset_bounds-as_slice-number c =
-    let inside = slice_get_within (shared_operations c.args.design.checked.now.diagram (attributes_of c.args.design.checked.now.diagram) c.args.design.plan.now) c.args.number (operation c.args.block c.args.element) c.requires.is in
-    let size = c.requires.can.slots.starts.size in
-    let same : length c.as_slice-2.result.now ≡ length c.args.design.slots.now.starts = ap length c.as_slice-2.ensures in
-    let below : c.args.number < length c.as_slice-2.result.now = omega (arith, inside, size, same) in
-    search (rules, below)
-
-pub bounds-as_slice-number : goal.bounds-as_slice-number
-bounds-as_slice-number c =
-    let inside = slice_get_within (shared_operations c.args.design.checked.now.diagram (attributes_of c.args.design.checked.now.diagram) c.args.design.plan.now) c.args.number (operation c.args.block c.args.element) c.requires.is in
-    let size = c.requires.can.slots.starts.size in
-    let same : length c.as_slice-2.result.now ≡ length c.args.design.slots.now.starts = ap length c.as_slice-2.ensures in
-    omega (arith, inside, size, same)
-
-pub offset_bounds-as_slice-number-2 : goal.offset_bounds-as_slice-number-2
-offset_bounds-as_slice-number-2 c =
-    let inside = slice_get_within (shared_operations c.args.design.checked.now.diagram (attributes_of c.args.design.checked.now.diagram) c.args.design.plan.now) c.args.number (operation c.args.block c.args.element) c.requires.is in
-    let size = c.requires.can.slots.units.size in
-    let same : length c.as_slice-3.result.now ≡ length c.args.design.slots.now.units = ap length c.as_slice-3.ensures in
-    let below : c.args.number < length c.as_slice-3.result.now = omega (arith, inside, size, same) in
+    let below = listed c.args.design c.args.number (operation c.args.block c.args.element) _ c.as_slice-2.result.now c.requires.is c.requires.can.slots.starts.size c.as_slice-2.ensures in
     search (rules, below)
 
 pub bounds-as_slice-number-2 : goal.bounds-as_slice-number-2
-bounds-as_slice-number-2 c =
-    let inside = slice_get_within (shared_operations c.args.design.checked.now.diagram (attributes_of c.args.design.checked.now.diagram) c.args.design.plan.now) c.args.number (operation c.args.block c.args.element) c.requires.is in
-    let size = c.requires.can.slots.units.size in
-    let same : length c.as_slice-3.result.now ≡ length c.args.design.slots.now.units = ap length c.as_slice-3.ensures in
-    omega (arith, inside, size, same)
+bounds-as_slice-number-2 c = listed c.args.design c.args.number (operation c.args.block c.args.element) _ c.as_slice-3.result.now c.requires.is c.requires.can.slots.units.size c.as_slice-3.ensures
+
+pub offset_bounds-as_slice-number-2 : goal.offset_bounds-as_slice-number-2
+offset_bounds-as_slice-number-2 c =
+    let below = listed c.args.design c.args.number (operation c.args.block c.args.element) _ c.as_slice-3.result.now c.requires.is c.requires.can.slots.units.size c.as_slice-3.ensures in
+    search (rules, below)
 
 pub returns-clause-made : goal.returns-clause-made
 returns-clause-made c =
@@ -83,10 +79,3 @@ returns-clause-made c =
           subst (λ (one : Block). IsSecond diagram (offered_at diagram c.args.operands.now) c.args.net.now c.second_of.new.net c.args.block c.args.element (row_of one.kind).types.full c.in_ok-right.right)
           (same_Some c.args.one.now b (sym c.requires.block ∙ at)) c.in_ok-right.ensures.is;
     }
-
-pub offset_bounds-as_slice-block : goal.offset_bounds-as_slice-block
-offset_bounds-as_slice-block c =
-    let inside = slice_get_within _ c.args.block c.args.one.now c.requires.block in
-    let size = c.requires.can.designed.scheduled.timed.size in
-    let same : length c.as_slice.result.now ≡ length c.args.design.latencies.now.lat = ap length c.as_slice.ensures in
-    omega (arith, inside, size, same)
