@@ -61,31 +61,41 @@ fn register(kind: FxType, frame: Frame, slot: u32, from: u32) -> Net
     }
 }
 
-/// Puts in registers that take the net before them in a slot of a frame, behind the last net, each
-/// with its name.
+/// The registers of a plan behind an element.
+#[derive(Clone, Copy)]
+struct Stages {
+    /// The type of the element, in whose word they are.
+    kind: FxType,
+    /// The frames in which each takes the net before it, and the slot of a frame.
+    frame: Frame,
+    slot: u32,
+    /// The element, by which they are named.
+    block: u32,
+    element: u32,
+    /// How many there are.
+    count: u32,
+}
+
+/// Puts in registers behind the last net, which the first takes, each with its name.
 fn put_stages(
     alloc: Global,
     net: &mut Netlist,
-    kind: FxType,
-    frame: Frame,
-    slot: u32,
-    block: u32,
-    element: u32,
+    stages: Stages,
     begin: u32,
-    count: u32,
 ) -> Result<u32, OutOfMemory>
     requires { length net.old.nets ≡ begin + 1 }
-    ensures end { IfOk result (λ end. end ≡ begin + count) }
+    ensures end { IfOk result (λ end. end ≡ begin + stages.count) }
     ensures grown { OnOk result (net.new ≡ record net.old {
-      nets = net.old.nets ++ stage_nets kind frame slot begin count;
-      labels = net.old.labels ++ stage_labels begin block element count;
+      nets = net.old.nets ++ stage_nets stages.kind stages.frame stages.slot begin stages.count;
+      labels = net.old.labels ++ stage_labels begin stages.block stages.element stages.count;
     }) }
 {
     let mut end = begin;
-    for stage in 0..count {
-        let one = register(kind, frame, slot, end);
+    for stage in 0..stages.count {
+        let one = register(stages.kind, stages.frame, stages.slot, end);
         end = net.add(one)?;
-        let name = label(alloc, b"fx_p", block, element, Some(stage + 1))?;
+        let number = Some(stage + 1);
+        let name = label(alloc, b"fx_p", stages.block, stages.element, number)?;
         net.add_label(NetLabel { net: end, name })?;
     }
     Ok(end)
@@ -124,6 +134,14 @@ pub fn put_pipeline<'a>(
     let kind = design.checked.result(block);
     let _ = net.counter(frame)?;
     let begin = put_comb(alloc, net, word_of(kind), NetOp::Resize, &[entry])?;
-    let end = put_stages(alloc, net, kind, frame, slot, block, element, begin, stages)?;
+    let row = Stages {
+        kind,
+        frame,
+        slot,
+        block,
+        element,
+        count: stages,
+    };
+    let end = put_stages(alloc, net, row, begin)?;
     Ok(Piped { begin, end })
 }

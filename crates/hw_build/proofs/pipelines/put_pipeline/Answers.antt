@@ -1,4 +1,4 @@
-use Rattle.std.proofs.Common.{◌≡◌, ◌<◌, ◌+◌, ◌∷◌, [], ℕ, List, Some, slice_index_or, ap, sym, ◌∙◌, subst, refl, arith, length}
+use Rattle.std.proofs.Common.{◌≡◌, ◌<◌, ◌+◌, ◌∷◌, [], ℕ, List, Some, slice_index_or, ap, sym, ◌∙◌, subst, refl, arith}
 use Rattle.std.proofs.lemmas.Option.{none-some}
 use Rattle.dg_model.specs.Attributes.{attributes_of}
 use Rattle.hw_net.specs.declared.netlist.Frame.{Frame}
@@ -9,12 +9,11 @@ use Rattle.hw_build.specs.inner.Designed.{timing_for}
 use Rattle.hw_build.specs.inner.Piping.{stage_nets, wire_of}
 use Rattle.hw_build.proofs.Entering.{typed_net}
 use Rattle.hw_build.proofs.Piping.{pipeline_put, piped_put, with_nets}
+use Rattle.hw_build.proofs.Within.{entry_read}
 use Rattle.hw_build.proofs.pipelines.put_pipeline.Goals as goal
 
 pub bounds-as_slice-block : goal.bounds-as_slice-block
-bounds-as_slice-block c =
-    let same = ap (λ (xs : List ℕ). length xs) c.as_slice.ensures in
-    omega (arith, same, c.requires.there, c.requires.designed.scheduled.planned.size)
+bounds-as_slice-block c = entry_read _ c.args.block _ c.as_slice.result.now c.requires.there c.requires.designed.scheduled.planned.size c.as_slice.ensures
 
 pub period-requires : goal.period-requires
 period-requires c = c.requires.there
@@ -69,8 +68,8 @@ returns c =
 
 pub offset_bounds-as_slice-block : goal.offset_bounds-as_slice-block
 offset_bounds-as_slice-block c =
-    let same = ap (λ (xs : List ℕ). length xs) c.as_slice.ensures in
-    omega (arith, same, c.requires.there, c.requires.designed.scheduled.planned.size)
+    let low = entry_read _ c.args.block _ c.as_slice.result.now c.requires.there c.requires.designed.scheduled.planned.size c.as_slice.ensures in
+    omega (arith, low)
 
 pub returns-then-stages-eq0 : goal.returns-then-stages-eq0
 returns-then-stages-eq0 c =
