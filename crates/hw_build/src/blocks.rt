@@ -68,12 +68,9 @@ fn put_one<'a>(alloc: Global, net: &mut Netlist, element: Element<'a>, inputs: &
         return put_shared(alloc, net, design, place, one, full, product);
     }
     let mut operands = Sizes::new(alloc);
-    match put_operands(&mut operands, element, inputs) {
-        Ok(()) => {}
-        Err(wanting) => {
-            drop(operands);
-            return Err(wanting);
-        }
+    if let Err(wanting) = put_operands(&mut operands, element, inputs) {
+        drop(operands);
+        return Err(wanting);
     }
     let site = Site {
         design,

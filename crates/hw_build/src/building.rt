@@ -26,30 +26,19 @@ use hw_net::Netlist;
 use hw_sched::{SizeFault, Slots, check_size};
 use std::alloc::Global;
 
-/// Puts in all nets behind those that readers name, which begin here.
-fn put_nets<'a>(
-    alloc: Global,
-    net: &mut Netlist,
-    design: Design<'a>,
-    firsts: &PortWidths,
-) -> Result<(), OutOfMemory>
-    requires can { CanBuild design }
-    requires hubs { HasHubs design.checked.now.diagram (empty_circuit design.plan.now.cycles) net.old
-        firsts.now }
-    ensures { OnOk result (IsFilledFor design.entry net.new firsts.now) }
+/// Puts in all nets behind those that readers name, with which the ends begin.
+fn put_nets<'a>(alloc: Global, net: &mut Netlist, ends: Ends<'a>) -> Result<(), OutOfMemory>
+    requires can { CanBuild ends.design }
+    requires hubs { HasHubs ends.design.checked.now.diagram
+        (empty_circuit ends.design.plan.now.cycles) net.old ends.hubs.now }
+    ensures { OnOk result (IsFilledFor ends.entry.design net.new ends.entry.hubs.now) }
 {
+    let design = ends.design;
     design.checked.keeps_rules();
     dg_model::columns_are_a_stimulus();
     dg_model::edges_stand_by_port();
     dg_model::root_elements_are_listed();
-    let operands = put_lines(
-        alloc,
-        net,
-        Ends {
-            design,
-            hubs: firsts,
-        },
-    )?;
+    let operands = put_lines(alloc, net, ends)?;
     let products = match products_of(alloc, net, design, &operands) {
         Ok(products) => products,
         Err(wanting) => {
@@ -59,7 +48,7 @@ fn put_nets<'a>(
     };
     let setting = Setting {
         design,
-        firsts,
+        firsts: ends.hubs,
         operands: &operands,
         products: &products,
     };
@@ -116,7 +105,11 @@ fn put_netlist<'a>(
     ensures { OnOk result (IsDoneFor design.entry net.new) }
 {
     let firsts = hubs_of(alloc, net, design.checked, inputs)?;
-    match put_nets(alloc, net, design, &firsts) {
+    let ends = Ends {
+        design,
+        hubs: &firsts,
+    };
+    match put_nets(alloc, net, ends) {
         Ok(()) => {
             let put = put_ports(alloc, net, design, &firsts, inputs, outputs);
             drop(firsts);

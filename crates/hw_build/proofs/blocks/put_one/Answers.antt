@@ -19,7 +19,7 @@ returns-in-Some c =
 
 pub returns : goal.returns
 returns c =
-    IfOk-weaker c.put_entry-entry.result _ _ (λ entry put. one_entered c.args.element.setting c.setting_is_known.ensures c.args.net.now c.requires.going c.args.element.place.block c.args.element.one.now c.args.element.place.port c.args.element.place.element c.requires.hand.shown c.as_slice.result.now c.requires.hand.other (subst (Offer c.args.element.setting c.args.element.place.block c.args.element.one.now c.args.element.place.port c.args.element.place.element) (sym c.as_slice.ensures) c.in-Ok.ensures) c.put_entry-entry.new.net entry put (sym c.at.ensures ∙ c.in_default.is)) c.put_entry-entry.ensures
+    IfOk-weaker c.put_entry-entry.result _ _ (λ entry put. one_entered c.args.element.setting c.setting_is_known.ensures c.args.net.now c.requires.going c.args.element.place.block c.args.element.one.now c.args.element.place.port c.args.element.place.element c.requires.hand.shown c.as_slice.result.now c.requires.hand.other (subst (Offer c.args.element.setting c.args.element.place.block c.args.element.one.now c.args.element.place.port c.args.element.place.element) (sym c.as_slice.ensures) c.in_default-put_operands.ensures) c.put_entry-entry.new.net entry put (sym c.at.ensures ∙ c.in_default.is)) c.put_entry-entry.ensures
 
 pub at-requires : goal.at-requires
 at-requires c =
@@ -40,7 +40,7 @@ pub put_entry-entry-requires-clause-ready : goal.put_entry-entry-requires-clause
 put_entry-entry-requires-clause-ready c = record {
   shown = c.requires.hand.shown;
   types_are = c.as_slice-2.ensures.value ∙ c.requires.hand.reading.types_are;
-  operands_are = args_are c.args.element.setting c.setting_is_known.ensures c.args.net.now c.requires.going c.args.element.place.block c.args.element.one.now c.args.element.place.port c.args.element.place.element c.requires.hand.shown c.as_slice.result.now c.requires.hand.other (subst (Offer c.args.element.setting c.args.element.place.block c.args.element.one.now c.args.element.place.port c.args.element.place.element) (sym c.as_slice.ensures) c.in-Ok.ensures);
+  operands_are = args_are c.args.element.setting c.setting_is_known.ensures c.args.net.now c.requires.going c.args.element.place.block c.args.element.one.now c.args.element.place.port c.args.element.place.element c.requires.hand.shown c.as_slice.result.now c.requires.hand.other (subst (Offer c.args.element.setting c.args.element.place.block c.args.element.one.now c.args.element.place.port c.args.element.place.element) (sym c.as_slice.ensures) c.in_default-put_operands.ensures);
 }
 
 pub put_operands-requires-clause-hand : goal.put_operands-requires-clause-hand
