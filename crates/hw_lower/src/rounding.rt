@@ -1,6 +1,6 @@
 //! A number divided by a power of two and rounded, in its own word: the quotient rounded down, and
 //! a carry of one bit.
-ghost use Rattle.std.specs.Prelude.{◌≡◌, ◌-◌, ◌+ℤ◌};
+ghost use Rattle.std.specs.Prelude.{◌≡◌, ◌-◌, ◌+ℤ◌, true};
 ghost use Rattle.fx_type.specs.declared.rounding.Rounding.TheVariants.{Ceiling, Zero, Round};
 ghost use Rattle.fx_type.specs.declared.rounding.Rounding.TheVariants.{Nearest, Convergent};
 ghost use Rattle.hw_net.specs.Operation.{shifted_down, low_bits};
@@ -20,7 +20,13 @@ pub fn round(plan: &mut Plan, from: Operand, by: u8, mode: Rounding) -> Operand
     match mode {
         Rounding::Floor => down(plan, from, by),
         Rounding::Ceiling => up(plan, from, by),
-        Rounding::Zero => to_zero(plan, from, by),
+        Rounding::Zero => {
+            if from.word.signed {
+                to_zero(plan, from, by)
+            } else {
+                down(plan, from, by)
+            }
+        }
         Rounding::Nearest => to_nearest(plan, from, by),
         Rounding::Round => from_zero(plan, from, by),
         Rounding::Convergent => to_even(plan, from, by),
@@ -56,18 +62,16 @@ fn up(plan: &mut Plan, from: Operand, by: u8) -> Operand
     round_by_carry(plan, from, by, carry)
 }
 
-/// Rounded to 0: up where the number is negative and bits are lost.
+/// A number that may be negative, rounded to 0: up where it is and bits are lost.
 fn to_zero(plan: &mut Plan, from: Operand, by: u8) -> Operand
-    requires { CanRound plan.old from by }
+    requires can { CanRound plan.old from by }
+    requires signed { from.word.signed ≡ true }
     ensures { IsRounded Zero plan.old plan.new from by result }
 {
-    if from.word.signed {
-        let low = lowest(plan, from, by);
-        let sign = bit(plan, from, from.word.width - 1);
-        let carry = both(plan, low, sign);
-        return round_by_carry(plan, from, by, carry);
-    }
-    down(plan, from, by)
+    let low = lowest(plan, from, by);
+    let sign = bit(plan, from, from.word.width - 1);
+    let carry = both(plan, low, sign);
+    round_by_carry(plan, from, by, carry)
 }
 
 /// Rounded to the nearest, ties up: where the highest lost bit is set.
