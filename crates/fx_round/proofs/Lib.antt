@@ -10,3 +10,4 @@ mod Rounding
 mod Shifts
 mod Sizes
 mod Widening
+mod Worded

@@ -1,38 +1,22 @@
 use Rattle.std.proofs.Common.{◌^◌}
-use Rattle.std.specs.Int.{w128}
-use Rattle.std.specs.Int.Signed.{shr_z}
-use Rattle.std.proofs.lemmas.Int.{to_z-of_z}
-use Rattle.fx_num.proofs.Shifted.{shr-fits}
-use Rattle.fx_round.proofs.Biased.{shift_floors}
+use Rattle.fx_type.specs.declared.rounding.Rounding.TheVariants.{Ceiling, Zero, Nearest, Round, Convergent}
+use Rattle.fx_round.proofs.Worded.{by_word, shift_by_word}
 use Rattle.fx_round.proofs.split.rounded_near.Goals as goal
 
 pub returns-in-Nearest : goal.returns-in-Nearest
-returns-in-Nearest c =
-    let r = to_z-of_z w128 c.nearest.result (record { sfits = c.nearest.type_inv }) in
-    rw (c.in-Nearest.is, r) (rw (to_z-of_z w128 c.args.v c.ranges.v) at c.nearest.ensures)
+returns-in-Nearest c = rw c.in-Nearest.is (by_word c.args.v c.ranges.v Nearest (2 ^ c.args.by) c.nearest.result (record { sfits = c.nearest.type_inv }) c.nearest.ensures)
 
 pub returns-in-Ceiling : goal.returns-in-Ceiling
-returns-in-Ceiling c =
-    let r = to_z-of_z w128 c.by_rest.result (record { sfits = c.by_rest.type_inv }) in
-    rw (c.in-Ceiling.is, r) (rw (to_z-of_z w128 c.args.v c.ranges.v) at c.by_rest.ensures)
+returns-in-Ceiling c = rw c.in-Ceiling.is (by_word c.args.v c.ranges.v Ceiling (2 ^ c.args.by) c.by_rest.result (record { sfits = c.by_rest.type_inv }) c.by_rest.ensures)
 
 pub returns-in-Zero : goal.returns-in-Zero
-returns-in-Zero c =
-    let r = to_z-of_z w128 c.by_rest-in-Zero.result (record { sfits = c.by_rest-in-Zero.type_inv }) in
-    rw (c.in-Zero.is, r) (rw (to_z-of_z w128 c.args.v c.ranges.v) at c.by_rest-in-Zero.ensures)
+returns-in-Zero c = rw c.in-Zero.is (by_word c.args.v c.ranges.v Zero (2 ^ c.args.by) c.by_rest-in-Zero.result (record { sfits = c.by_rest-in-Zero.type_inv }) c.by_rest-in-Zero.ensures)
 
 pub returns-in-Round : goal.returns-in-Round
-returns-in-Round c =
-    let r = to_z-of_z w128 c.by_rest-in-Round.result (record { sfits = c.by_rest-in-Round.type_inv }) in
-    rw (c.in-Round.is, r) (rw (to_z-of_z w128 c.args.v c.ranges.v) at c.by_rest-in-Round.ensures)
+returns-in-Round c = rw c.in-Round.is (by_word c.args.v c.ranges.v Round (2 ^ c.args.by) c.by_rest-in-Round.result (record { sfits = c.by_rest-in-Round.type_inv }) c.by_rest-in-Round.ensures)
 
 pub returns-in-Convergent : goal.returns-in-Convergent
-returns-in-Convergent c =
-    let r = to_z-of_z w128 c.by_rest-in-Convergent.result (record { sfits = c.by_rest-in-Convergent.type_inv }) in
-    rw (c.in-Convergent.is, r) (rw (to_z-of_z w128 c.args.v c.ranges.v) at c.by_rest-in-Convergent.ensures)
+returns-in-Convergent c = rw c.in-Convergent.is (by_word c.args.v c.ranges.v Convergent (2 ^ c.args.by) c.by_rest-in-Convergent.result (record { sfits = c.by_rest-in-Convergent.type_inv }) c.by_rest-in-Convergent.ensures)
 
 pub returns-in-Floor : goal.returns-in-Floor
-returns-in-Floor c =
-    let v = to_z-of_z w128 c.args.v c.ranges.v in
-    let r = to_z-of_z w128 (shr_z c.args.v (2 ^ c.args.by)) (shr-fits w128 c.args.v (2 ^ c.args.by) c.ranges.v) in
-    rw (c.in-Floor.is, v, r) (shift_floors c.args.v c.args.by)
+returns-in-Floor c = rw c.in-Floor.is (shift_by_word c.args.v c.ranges.v c.args.by)
