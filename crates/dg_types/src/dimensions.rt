@@ -7,8 +7,7 @@ ghost use Rattle.dg_model.specs.Dimension.{KeepsDimension, KeepsDimensions, Brea
 ghost use Rattle.dg_model.specs.Widths.{widths_of};
 ghost use Rattle.dg_model.specs.Wired.{IsWired};
 ghost use Rattle.dg_types.specs.inner.Build.{all_forms};
-ghost use Rattle.dg_types.specs.inner.Scanned.{IsScan, KeepAllBelow};
-ghost use Rattle.dg_types.specs.inner.Shown.{Mirrors};
+ghost use Rattle.dg_types.specs.inner.Scanned.{CanBeScanned, IsScan, KeepAllBelow};
 
 use crate::build::width_round;
 use crate::elements::is_bounded;
@@ -104,12 +103,8 @@ fn widths_by(
     round: &WidthRound<'_>,
     scan: &mut Scan,
 ) -> Result<PortWidths, CheckFault>
-    requires wired { IsWired diagram.now }
-    requires size { length round.now.sources ≡ length diagram.now.blocks }
-    requires mirrors { Mirrors diagram.now (all_forms round.now.blocks.now)
-        round.now.sources }
-    requires widths { scan.old.widths ≡ [] }
-    requires again { scan.old.again ≡ [] }
+    requires { CanBeScanned diagram.now (all_forms round.now.blocks.now) round.now.sources
+        scan.old }
     ensures widths { IfOk result (λ widths. widths ≡ widths_of diagram.now) }
     ensures kept { OnOk result (KeepsDimensions diagram.now) }
     ensures refused { IfErr result (IsRefusal (BreaksDimension diagram.now)) }

@@ -1,9 +1,8 @@
-ghost use Rattle.std.specs.Prelude.{◌≡◌, ℕ, ◌^◌, ◌<◌, [], Some, length, slice_get, IfOk, OnOk};
+ghost use Rattle.std.specs.Prelude.{◌≡◌, ℕ, ◌^◌, ◌<◌, Some, slice_get, IfOk, OnOk};
 ghost use Rattle.dg_model.specs.declared.diagram.Block.{Block};
-ghost use Rattle.dg_model.specs.Wired.{IsWired};
-ghost use Rattle.dg_types.specs.inner.Shown.{shape_of, declared_width as declared_width_of, first_held as first_held_of, all_first as all_first_of, Mirrors};
+ghost use Rattle.dg_types.specs.inner.Shown.{shape_of, declared_width as declared_width_of, first_held as first_held_of, all_first as all_first_of};
 ghost use Rattle.dg_types.specs.inner.Build.{all_forms};
-ghost use Rattle.dg_types.specs.inner.Scanned.{IsScan};
+ghost use Rattle.dg_types.specs.inner.Scanned.{CanBeScanned, IsScan};
 
 use crate::linked::WidthRound;
 use crate::rows::{input_rows, put_rows};
@@ -54,12 +53,8 @@ pub fn put_scan(
     round: &WidthRound<'_>,
     scan: &mut Scan,
 ) -> Result<(), OutOfMemory>
-    requires wired { IsWired diagram.now }
-    requires size { length round.now.sources ≡ length diagram.now.blocks }
-    requires mirrors { Mirrors diagram.now (all_forms round.now.blocks.now)
-        round.now.sources }
-    requires widths { scan.old.widths ≡ [] }
-    requires again { scan.old.again ≡ [] }
+    requires { CanBeScanned diagram.now (all_forms round.now.blocks.now) round.now.sources
+        scan.old }
     ensures { OnOk result (IsScan diagram.now scan.new) }
 {
     let blocks = diagram.blocks.as_slice();
