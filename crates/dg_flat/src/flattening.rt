@@ -88,27 +88,6 @@ fn check(
     Ok(())
 }
 
-/// The flat diagram of nested blocks and lines that keep the rules.
-fn kept_diagram(
-    alloc: Global,
-    nested: &Nested,
-    systems: &Systems,
-    paths: &[SystemPath],
-) -> Result<Diagram, OutOfMemory>
-    requires sound { IsSound nested.now }
-    requires systems { AreSystems nested.now.blocks systems.now }
-    requires paths { ArePaths nested.now.blocks (length nested.now.blocks) paths.now }
-    requires kept { KeepsAll nested.now }
-    ensures { IfOk result (IsFlatOf nested.now) }
-{
-    let blocks = nested.blocks.as_slice();
-    let lines = nested.lines.as_slice();
-    let places = flat_places(alloc, blocks)?;
-    let edges = flat_edges(alloc, systems, blocks, &places, lines)?;
-    let blocks = flat_blocks(alloc, systems, blocks, &places, paths)?;
-    Ok(Diagram { blocks, edges })
-}
-
 /// The flat diagram of nested blocks and lines, or the first broken rule.
 fn diagram_of(
     alloc: Global,
@@ -124,8 +103,12 @@ fn diagram_of(
     ensures refused { IfErr result (IsRefusal (BreaksWiringOrEnable nested.now)) }
 {
     check(alloc, nested, systems, paths)?;
-    let diagram = kept_diagram(alloc, nested, systems, paths)?;
-    Ok(diagram)
+    let blocks = nested.blocks.as_slice();
+    let lines = nested.lines.as_slice();
+    let places = flat_places(alloc, blocks)?;
+    let edges = flat_edges(alloc, systems, blocks, &places, lines)?;
+    let blocks = flat_blocks(alloc, systems, blocks, &places, paths)?;
+    Ok(Diagram { blocks, edges })
 }
 
 /// The flat diagram of nested blocks and lines, or the first broken rule of wiring and of enabled

@@ -1,8 +1,22 @@
 use Rattle.std.proofs.lemmas.Result.{err_from_is_err_and}
+use Rattle.dg_flat.proofs.Found.{numbers_within}
+use Rattle.dg_flat.proofs.FromSound.{have_parents, have_ends}
+use Rattle.dg_flat.proofs.Law.{flat_of}
 use Rattle.dg_flat.proofs.flattening.diagram_of.Goals as goal
 
+pub flat_blocks-requires-clause-parents : goal.flat_blocks-requires-clause-parents
+flat_blocks-requires-clause-parents c = rw c.as_slice-blocks.ensures (have_parents c.args.nested.now c.requires.sound)
+
+pub flat_edges-requires-clause-numbers : goal.flat_edges-requires-clause-numbers
+flat_edges-requires-clause-numbers c = rw c.as_slice-blocks.ensures (numbers_within c.args.nested.now c.in_ok-check.ensures.kept.wiring)
+
+pub flat_edges-requires-clause-ends : goal.flat_edges-requires-clause-ends
+flat_edges-requires-clause-ends c = rw (c.as_slice-blocks.ensures, c.as_slice-lines.ensures) (have_ends c.args.nested.now c.requires.sound)
+
 pub returns-clause-flat : goal.returns-clause-flat
-returns-clause-flat c = c.in_ok-diagram.ensures
+returns-clause-flat c =
+    flat_of c.args.nested.now c.as_slice-blocks.result.now c.as_slice-lines.result.now c.in_ok-blocks.blocks c.in_ok-edges.edges c.as_slice-blocks.ensures c.as_slice-lines.ensures c.in_ok-blocks.ensures
+    c.in_ok-edges.ensures.same c.in_ok-edges.ensures.ordered
 
 pub returns-clause-kept : goal.returns-clause-kept
 returns-clause-kept c = c.in_ok-check.ensures.kept
