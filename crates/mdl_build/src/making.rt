@@ -1,11 +1,10 @@
 //! The blocks of a tree that keeps the rules of structure and of library.
-ghost use Rattle.std.specs.Prelude.{◌≡◌, ℕ, ◌<◌, ◌++◌, ◌∷◌, [], true, Some, List, length, option_map, unwrap_or, is_some, codes, IfOk, IfErr};
+ghost use Rattle.std.specs.Prelude.{◌≡◌, ℕ, ◌<◌, ◌++◌, ◌∷◌, [], true, List, length, option_map, unwrap_or, IfOk, IfErr};
 ghost use Rattle.std.specs.Option.{ForSome};
 ghost use Rattle.dg_model.specs.Faults.{IsRefusal};
 ghost use Rattle.mdl_build.specs.Blocks.{number_at, standing_in};
 ghost use Rattle.mdl_build.specs.Nested.{IsBlockAt};
 ghost use Rattle.mdl_build.specs.Roles.{role_of, is_block, blocks_of};
-ghost use Rattle.mdl_build.specs.Rules.{type_at};
 ghost use Rattle.mdl_build.specs.Sections.{holder_of, value_of};
 ghost use Rattle.mdl_build.specs.Settings.{unset};
 ghost use Rattle.mdl_build.specs.inner.Known.{IsKnown, AreEnabled, AreNumbersTo, AreNumbers, IsWrongAt};
@@ -78,7 +77,7 @@ fn note_blocks(enabled: &mut Vec<bool>, numbers: &mut Vec<u32>, known: &Known)
 }
 
 impl<'k, 'a> Maker<'k, 'a> {
-    ghost use Rattle.mdl_build.specs.inner.Makers.{IsMaker, items_of};
+    ghost use Rattle.mdl_build.specs.inner.Makers.{IsMaker, IsNamedBlock, items_of};
 
     /// What makes the blocks of a tree.
     pub fn new(alloc: Global, known: &'k Known<'a>) -> Result<Maker<'k, 'a>, OutOfMemory>
@@ -142,10 +141,7 @@ impl<'k, 'a> Maker<'k, 'a> {
         settings: &mut Settings,
     ) -> Result<NestedBlock, CheckFault>
         requires maker { IsMaker self.now }
-        requires within { place < length (items_of self.now) }
-        requires counts { is_block (role_of (items_of self.now) place) ≡ true }
-        requires named { is_some (value_of (items_of self.now) place (codes "Name")) ≡ true }
-        requires typed { type_at (items_of self.now) place ≡ Some block_type }
+        requires block { IsNamedBlock (items_of self.now) place block_type }
         requires unset { settings.old ≡ unset }
         ensures ok { IfOk result (IsBlockAt (items_of self.now) place) }
         ensures err { IfErr result (IsRefusal (IsWrongAt (items_of self.now) block_type place)) }
@@ -176,10 +172,7 @@ impl<'k, 'a> Maker<'k, 'a> {
         block_type: BlockType,
     ) -> Result<NestedBlock, CheckFault>
         requires maker { IsMaker self.now }
-        requires within { place < length (items_of self.now) }
-        requires counts { is_block (role_of (items_of self.now) place) ≡ true }
-        requires named { is_some (value_of (items_of self.now) place (codes "Name")) ≡ true }
-        requires typed { type_at (items_of self.now) place ≡ Some block_type }
+        requires block { IsNamedBlock (items_of self.now) place block_type }
         ensures ok { IfOk result (IsBlockAt (items_of self.now) place) }
         ensures err { IfErr result (IsRefusal (IsWrongAt (items_of self.now) block_type place)) }
     {

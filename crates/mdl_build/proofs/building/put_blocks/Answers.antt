@@ -24,17 +24,20 @@ unreachable-requires c =
     let at = listed items places k 0 (c.places-place-items.ensures ∙ c.requires.maker.known.blocks.places) c.loop-place-test.true in
     type_kept items c.requires.known k (get_or places k 0) at (sym c.type_at.ensures ∙ c.in_default.is)
 
-pub block-requires-clause-counts : goal.block-requires-clause-counts
-block-requires-clause-counts c =
-    (block_here (items_of c.args.maker.now) c.places-place-items.result.now c.loop-place.place-index 0 (c.places-place-items.ensures ∙ c.requires.maker.known.blocks.places) c.loop-place-test.true).counts
-
-pub block-requires-clause-named : goal.block-requires-clause-named
-block-requires-clause-named c =
+pub block-requires-clause-block : goal.block-requires-clause-block
+block-requires-clause-block c =
     let items = items_of c.args.maker.now in
     let k = c.loop-place.place-index in
     let places = c.places-place-items.result.now in
-    let at = listed items places k 0 (c.places-place-items.ensures ∙ c.requires.maker.known.blocks.places) c.loop-place-test.true in
-    name_kept items (get_or places k 0) (structure_kept items c.requires.structured k (get_or places k 0) at)
+    let list = c.places-place-items.ensures ∙ c.requires.maker.known.blocks.places in
+    let place = get_or places k 0 in
+    let here = block_here items places k 0 list c.loop-place-test.true in
+    record {
+      within = here.within;
+      counts = here.counts;
+      named = name_kept items place (structure_kept items c.requires.structured k place (listed items places k 0 list c.loop-place-test.true));
+      typed = sym c.type_at.ensures ∙ c.in-Some.is;
+    }
 
 pub returns-in_err-block-clause-err : goal.returns-in_err-block-clause-err
 returns-in_err-block-clause-err c =
@@ -60,10 +63,3 @@ returns-clause-ok c =
     let items = items_of c.args.maker.now in
     made_all items c.loop-place.place-index c.loop-place.blocks
     (omega (arith, c.loop-place-test.false, c.loop-place.auto.place-index-end, ap length (c.places-place-items.ensures ∙ c.requires.maker.known.blocks.places))) c.loop-place.invariant
-
-pub block-requires-clause-within : goal.block-requires-clause-within
-block-requires-clause-within c =
-    (block_here (items_of c.args.maker.now) c.places-place-items.result.now c.loop-place.place-index 0 (c.places-place-items.ensures ∙ c.requires.maker.known.blocks.places) c.loop-place-test.true).within
-
-pub block-requires-clause-typed : goal.block-requires-clause-typed
-block-requires-clause-typed c = sym c.type_at.ensures ∙ c.in-Some.is

@@ -25,7 +25,7 @@ read_block-requires-clause-texts c =
     ∙ at_number (λ texts. contents_of texts.items) (fallbacks_of (items_of maker)) maker.defaults.items c.requires.maker.defaults c.args.block_type c.number_of.result c.number_of.ensures c.index-defaults.result.now
 
 pub number-requires-clause-within : goal.number-requires-clause-within
-number-requires-clause-within c = λ x e. let h = parent_before (items_of c.args.self.now) c.args.place x (sym c.parent-parent.ensures ∙ e) in omega (arith, h.0, c.requires.within)
+number-requires-clause-within c = λ x e. let h = parent_before (items_of c.args.self.now) c.args.place x (sym c.parent-parent.ensures ∙ e) in omega (arith, h.0, c.requires.block.within)
 
 pub number-requires-clause-counts : goal.number-requires-clause-counts
 number-requires-clause-counts c = λ x e. (parent_before (items_of c.args.self.now) c.args.place x (sym c.parent-parent.ensures ∙ e)).1
@@ -34,10 +34,10 @@ pub returns-clause-ok : goal.returns-clause-ok
 returns-clause-ok c =
     let items = items_of c.args.self.now in
     record {
-      name = some_text (value_of items c.args.place (codes "Name")) c.in_ok-name.name c.requires.named (c.in_ok-name.ensures ∙ c.text_or_empty.ensures);
+      name = some_text (value_of items c.args.place (codes "Name")) c.in_ok-name.name c.requires.block.named (c.in_ok-name.ensures ∙ c.text_or_empty.ensures);
       parent = c.number.ensures ∙ ap (option_map (number_at items)) c.parent-parent.ensures;
       block_type = c.args.block_type;
-      type_is = c.requires.typed;
+      type_is = c.requires.block.typed;
       settings = c.read_block.new.settings;
       has = rw c.in_default.is at c.in_ok-wrong.ensures;
       part =
