@@ -25,3 +25,13 @@ pub returns-in_err-check-clause-refused : goal.returns-in_err-check-clause-refus
 returns-in_err-check-clause-refused c =
     let p = err_from_is_err_and c.from_residual.result c.from_residual.ensures.1 in
     rw (p.1, p.2) c.in_err-check.ensures.refused
+
+-- want of memory breaks no rule
+pub returns-in_err-places-clause-refused : goal.returns-in_err-places-clause-refused
+returns-in_err-places-clause-refused c = let p = err_from_is_err_and c.from_residual-in_err-places.result c.from_residual-in_err-places.ensures.1 in rw (p.1, p.2) tt
+
+pub returns-in_err-edges-clause-refused : goal.returns-in_err-edges-clause-refused
+returns-in_err-edges-clause-refused c = let p = err_from_is_err_and c.from_residual-in_err-edges.result c.from_residual-in_err-edges.ensures.1 in rw (p.1, p.2) tt
+
+pub returns-in_err-blocks-clause-refused : goal.returns-in_err-blocks-clause-refused
+returns-in_err-blocks-clause-refused c = let p = err_from_is_err_and c.from_residual-in_err-blocks.result c.from_residual-in_err-blocks.ensures.1 in rw (p.1, p.2) tt
