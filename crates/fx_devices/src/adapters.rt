@@ -1,6 +1,6 @@
 ghost use Rattle.std.specs.Prelude.{◌≡◌, ◌<◌, ◌≤◌, length, take, None, IfOk, IsOk, OnErr};
 ghost use Rattle.std.specs.Io.KnownBytes.{WriteAppends};
-ghost use Rattle.fx_devices.specs.inner.Fetching.{IsCounted};
+ghost use Rattle.fx_devices.specs.inner.Fetching.{IsOwed};
 ghost use Rattle.fx_io.specs.Cause.{Rose};
 ghost use Rattle.fx_devices.specs.declared.adapters.Rest.TheVariants.{Dropped};
 ghost use Rattle.fx_io.specs.Sink.{also_took, untold};
@@ -64,7 +64,7 @@ fn fetched<R: Files>(
     faults: &mut u64,
     overlong: &mut u64,
 ) -> Result<Text, FetchFault>
-    ensures { IsCounted limit faults.old faults.new overlong.old overlong.new result }
+    ensures { IsOwed limit faults.old faults.new overlong.old overlong.new result }
 {
     match read_file(files, alloc, name, limit) {
         Ok(bytes) if bytes.len() as u64 <= limit => match Text::from_vec(alloc, bytes) {

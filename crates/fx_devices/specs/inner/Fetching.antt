@@ -1,6 +1,7 @@
 -- What a fetch gave, and what it counted.
-use Rattle.std.specs.Prelude.{◌≡◌, ◌<◌, ◌≤◌, ℕ, List, Result, Ok, Err, length}
+use Rattle.std.specs.Prelude.{◌≡◌, ◌<◌, ◌≤◌, ℕ, List, Result, Ok, Err, None, length, IfOk, IsErrOf, OnOk}
 use Rattle.fx_io.specs.Cause.{Rose}
+use Rattle.fx_io.specs.Shelf.{Fetched, IsOverlong}
 use Rattle.fx_io.specs.declared.shelf.FetchFault.{FetchFault}
 use Rattle.fx_io.specs.declared.shelf.FetchFault.TheVariants.{Failed, TooLong, OutOfMemory}
 
@@ -14,3 +15,16 @@ IsCounted limit faults later overlong longer (Err (TooLong reported)) =
     (limit < reported) × (later ≡ faults) × Rose overlong longer × (overlong ≤ longer)
 IsCounted limit faults later overlong longer (Err OutOfMemory) =
     (later ≡ faults) × (longer ≡ overlong)
+
+-- what a shelf owes of a fetch that tells nothing of its files
+pub record IsOwed (limit faults later overlong longer : ℕ) (result : Result (List ℕ) FetchFault)
+    : Type 0 where
+  pub found : IfOk result (λ bytes. Fetched None limit bytes)
+  pub failed : IsErrOf result Failed → Rose faults later
+  pub faultless : (IsErrOf result Failed → ⊥) → later ≡ faults
+  pub too_long : (reported : ℕ) → result ≡ Err (TooLong reported)
+      → IsOverlong None limit reported
+  pub too_long_cause : (reported : ℕ) → result ≡ Err (TooLong reported) → Rose overlong longer
+  pub none_too_long : OnOk result (longer ≡ overlong)
+  pub faults_later : faults ≤ later
+  pub overlong_later : overlong ≤ longer
