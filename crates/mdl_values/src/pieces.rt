@@ -1,8 +1,8 @@
 //! Values cut into pieces, words and elements.
 ghost use Rattle.std.specs.Prelude.{◌≡◌, ◌<◌, ◌≤◌, ◌∷◌, ◌++◌, ◌==◌, [], length, OnOk, IfOk, IfSome, MatchOption};
 ghost use Rattle.std.specs.List.{prefix_len};
-ghost use Rattle.mdl_text.specs.Bytes.{is_blank};
 ghost use Rattle.mdl_values.specs.Pieces.{is_other, pieces_at, is_solid, words_of, unblanked, separator_of, may_stand, elements_of};
+ghost use Rattle.mdl_values.specs.inner.Runs.{is_of};
 
 use fx_io::{OutOfMemory, Text, Texts};
 use std::alloc::Global;
@@ -15,26 +15,13 @@ pub fn is_solid(byte: u8) -> bool
     byte != b' ' && byte != b'\t' && byte != b'\r'
 }
 
-/// How many blanks stand at the front.
-fn blank_length(text: &[u8]) -> usize
-    ensures value { result ≡ prefix_len is_blank text.now }
+/// How many bytes from the front on are solid, or how many are blanks.
+fn run_length(text: &[u8], solid: bool) -> usize
+    ensures value { result ≡ prefix_len (is_of solid) text.now }
     ensures within { result ≤ length text.now }
 {
     for (i, byte) in text.iter().enumerate() {
-        if is_solid(*byte) {
-            return i;
-        }
-    }
-    text.len()
-}
-
-/// How many bytes from the front on are no blanks.
-fn word_length(text: &[u8]) -> usize
-    ensures value { result ≡ prefix_len is_solid text.now }
-    ensures within { result ≤ length text.now }
-{
-    for (i, byte) in text.iter().enumerate() {
-        if !is_solid(*byte) {
+        if is_solid(*byte) != solid {
             return i;
         }
     }
@@ -73,7 +60,7 @@ pub fn trim_start(text: &[u8]) -> &[u8]
     ensures value { result.now ≡ unblanked text.now }
     ensures within { length result.now ≤ length text.now }
 {
-    &text[blank_length(text)..]
+    &text[run_length(text, false)..]
 }
 
 /// The first word, and the text behind it.
@@ -83,7 +70,7 @@ pub fn first_word(text: &[u8]) -> Option<(&[u8], &[u8])>
     ensures shorter { IfSome result (λ cut. length cut.1.now < length text.now) }
 {
     let solid = trim_start(text);
-    let end = word_length(solid);
+    let end = run_length(solid, true);
     if end == 0 {
         None
     } else {

@@ -5,6 +5,6 @@ use Rattle.mdl_values.proofs.pieces.trim_start.Goals as goal
 
 pub returns-clause-value : goal.returns-clause-value
 returns-clause-value c =
-    take_rest c.args.text.now c.blank_length.result
-    ∙ ap (λ n. drop n c.args.text.now) c.blank_length.ensures.value
+    take_rest c.args.text.now c.run_length.result
+    ∙ ap (λ n. drop n c.args.text.now) c.run_length.ensures.value
     ∙ unblanked_is c.args.text.now
