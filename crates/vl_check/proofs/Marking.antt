@@ -279,6 +279,13 @@ numbered-text text numbers count known =
     let long : length (map mentioned (shown text)) ≡ length text = length-map (shown text) mentioned ∙ length-map text mention_of in
     record { long = known.long ∙ long; low = λ i below. known.below i (omega (arith, long, below)); known = known }
 
+-- the number at a place stands in the list of numbers, and is a mark's
+pub number-there : (text : List MentionHere) (numbers : List ℕ) (count : ℕ) → AreNumbered text numbers count → (i : ℕ) → i < length text → i < length numbers
+number-there text numbers count known i here = let long = known.long in omega (arith, long, here)
+
+pub number-below : (text : List MentionHere) (numbers : List ℕ) (count : ℕ) → AreNumbered text numbers count → (i : ℕ) → i < length text → (marks : ℕ) → marks ≡ count → slice_index numbers i < marks
+number-below text numbers count known i here marks long = let low = known.low i here in omega (arith, low, long)
+
 pub past-all : (text : List MentionHere) (i : ℕ) → length text ≤ i → length (shown text) ≤ i
 past-all text i past = let long = length-map text mention_of in omega (arith, long, past)
 

@@ -1,9 +1,9 @@
-use Rattle.std.proofs.Common.{map, sym, subst, ◌∙◌, rules, ◌<◌, length, arith}
+use Rattle.std.proofs.Common.{map, sym, subst, ◌∙◌, rules}
 use Rattle.std.proofs.lemmas.List.{take_all}
 use Rattle.vl_ast.specs.Conditions.{is_driver_of, mentioned}
 use Rattle.vl_check.specs.inner.Mentioned.{shown}
 use Rattle.vl_check.specs.inner.Marks.{Marks, drives}
-use Rattle.vl_check.proofs.Marking.{driver-test, marks-step, marks-long, none-marked, past-all}
+use Rattle.vl_check.proofs.Marking.{driver-test, marks-step, marks-long, none-marked, number-there, number-below, past-all}
 use Rattle.vl_check.proofs.driving.driven_names.Goals as goal
 
 pub loop-i-init : goal.loop-i-init
@@ -29,13 +29,7 @@ returns c =
     }
 
 pub bounds-numbers-i : goal.bounds-numbers-i
-bounds-numbers-i c =
-    let long = c.requires.long in
-    let here : c.loop-i.i < length c.args.text.now = c.loop-i-test.true in
-    omega (arith, long, here)
+bounds-numbers-i c = number-there _ _ _ c.requires c.loop-i.i c.loop-i-test.true
 
 pub mark-requires : goal.mark-requires
-mark-requires c =
-    let low = c.requires.low c.loop-i.i c.loop-i-test.true in
-    let long = c.loop-i.invariant.long in
-    omega (arith, low, long)
+mark-requires c = number-below _ _ _ c.requires c.loop-i.i c.loop-i-test.true _ c.loop-i.invariant.long

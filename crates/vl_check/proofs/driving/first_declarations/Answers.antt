@@ -1,9 +1,9 @@
-use Rattle.std.proofs.Common.{◌+◌, map, take, sym, subst, ◌∙◌, rules, ◌<◌, length, arith}
+use Rattle.std.proofs.Common.{◌+◌, map, take, sym, subst, ◌∙◌, rules}
 use Rattle.std.proofs.lemmas.List.{take_all}
 use Rattle.vl_ast.specs.Conditions.{mentioned}
 use Rattle.vl_check.specs.inner.Mentioned.{shown}
 use Rattle.vl_check.specs.inner.Marks.{AreFirst}
-use Rattle.vl_check.proofs.Marking.{first-step, first-long, none-first, past-all}
+use Rattle.vl_check.proofs.Marking.{first-step, first-long, none-first, number-there, number-below, past-all}
 use Rattle.vl_check.proofs.driving.first_declarations.Goals as goal
 
 pub loop-i-init : goal.loop-i-init
@@ -30,13 +30,7 @@ returns c =
     }
 
 pub bounds-numbers-i : goal.bounds-numbers-i
-bounds-numbers-i c =
-    let long = c.requires.long in
-    let here : c.loop-i.i < length c.args.text.now = c.loop-i-test.true in
-    omega (arith, long, here)
+bounds-numbers-i c = number-there _ _ _ c.requires c.loop-i.i c.loop-i-test.true
 
 pub declare-requires : goal.declare-requires
-declare-requires c =
-    let low = c.requires.low c.loop-i.i c.loop-i-test.true in
-    let long = c.loop-i.invariant.long in
-    omega (arith, low, long)
+declare-requires c = number-below _ _ _ c.requires c.loop-i.i c.loop-i-test.true _ c.loop-i.invariant.long

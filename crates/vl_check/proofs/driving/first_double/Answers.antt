@@ -1,9 +1,9 @@
-use Rattle.std.proofs.Common.{[], length, take, Some, None, refl, sym, ap, ◌∙◌, rules, ◌<◌, arith}
+use Rattle.std.proofs.Common.{[], length, take, Some, None, refl, sym, ap, ◌∙◌, rules}
 use Rattle.std.proofs.Math.ListN.{drop_of_length-le}
 use Rattle.vl_ast.specs.Conditions.{first_fault, is_declaration_of, is_double, is_driver_of}
 use Rattle.vl_check.specs.inner.Mentioned.{shown}
 use Rattle.vl_check.specs.inner.Marks.{declares, drives}
-use Rattle.vl_check.proofs.Marking.{driver-test, declaration-test, marks-step, fault-step, fault-found, mark-here, declared-here, double-here, marks-long, none-marked, past-all}
+use Rattle.vl_check.proofs.Marking.{driver-test, declaration-test, marks-step, fault-step, fault-found, mark-here, declared-here, double-here, marks-long, none-marked, number-there, number-below, past-all}
 use Rattle.vl_check.proofs.driving.first_double.Goals as goal
 
 pub returns-then-is_double : goal.returns-then-is_double
@@ -48,36 +48,19 @@ loop-i-init c = record {
 }
 
 pub bounds-numbers-i : goal.bounds-numbers-i
-bounds-numbers-i c =
-    let long = c.requires.numbers.long in
-    let here : c.loop-i.i < length c.args.text.now = c.loop-i-test.true in
-    omega (arith, long, here)
+bounds-numbers-i c = number-there _ _ _ c.requires.numbers c.loop-i.i c.loop-i-test.true
 
 pub bounds-first-number : goal.bounds-first-number
 bounds-first-number c = c.requires.numbers.low c.loop-i.i c.loop-i-test.true
 
 pub index-requires : goal.index-requires
-index-requires c =
-    let low = c.requires.numbers.low c.loop-i.i c.loop-i-test.true in
-    let long = c.loop-i.invariant.long in
-    let own = c.loop-i.declared.ok.0 in
-    omega (arith, low, long, own)
+index-requires c = number-below _ _ _ c.requires.numbers c.loop-i.i c.loop-i-test.true _ (c.loop-i.declared.ok.0 ∙ c.loop-i.invariant.long)
 
 pub index-requires-in-loop-i : goal.index-requires-in-loop-i
-index-requires-in-loop-i c =
-    let low = c.requires.numbers.low c.loop-i.i c.loop-i-test.true in
-    let long = c.loop-i.invariant.driven_long in
-    let own = c.loop-i.driven.ok.0 in
-    omega (arith, low, long, own)
+index-requires-in-loop-i c = number-below _ _ _ c.requires.numbers c.loop-i.i c.loop-i-test.true _ (c.loop-i.driven.ok.0 ∙ c.loop-i.invariant.driven_long)
 
 pub mark-requires : goal.mark-requires
-mark-requires c =
-    let low = c.requires.numbers.low c.loop-i.i c.loop-i-test.true in
-    let long = c.loop-i.invariant.long in
-    omega (arith, low, long)
+mark-requires c = number-below _ _ _ c.requires.numbers c.loop-i.i c.loop-i-test.true _ c.loop-i.invariant.long
 
 pub mark-requires-in-loop-i : goal.mark-requires-in-loop-i
-mark-requires-in-loop-i c =
-    let low = c.requires.numbers.low c.loop-i.i c.loop-i-test.true in
-    let long = c.loop-i.invariant.driven_long in
-    omega (arith, low, long)
+mark-requires-in-loop-i c = number-below _ _ _ c.requires.numbers c.loop-i.i c.loop-i-test.true _ c.loop-i.invariant.driven_long

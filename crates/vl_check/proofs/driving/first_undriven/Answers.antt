@@ -1,9 +1,9 @@
-use Rattle.std.proofs.Common.{take, Some, refl, sym, ap, ◌∙◌, rules, ◌<◌, length, arith}
+use Rattle.std.proofs.Common.{take, Some, refl, sym, ap, ◌∙◌, rules}
 use Rattle.std.proofs.Math.ListN.{drop_of_length-le}
 use Rattle.vl_ast.specs.Conditions.{first_fault, is_declaration_of, is_driver_of, is_undriven}
 use Rattle.vl_check.specs.inner.Mentioned.{shown}
 use Rattle.vl_check.specs.inner.Marks.{declares}
-use Rattle.vl_check.proofs.Marking.{declaration-test, marks-step, fault-step, fault-found, mark-here, undriven-here, marks-long, none-marked, past-all}
+use Rattle.vl_check.proofs.Marking.{declaration-test, marks-step, fault-step, fault-found, mark-here, undriven-here, marks-long, none-marked, number-there, number-below, past-all}
 use Rattle.vl_check.proofs.driving.first_undriven.Goals as goal
 
 pub returns-then-is_undriven : goal.returns-then-is_undriven
@@ -43,27 +43,13 @@ returns c =
     sym (ap (first_fault (is_undriven (shown text)) (take c.loop-i.i (shown text))) (drop_of_length-le (shown text) (past-all text c.loop-i.i c.loop-i-test.false))) ∙ c.loop-i.invariant.fault
 
 pub bounds-numbers-i : goal.bounds-numbers-i
-bounds-numbers-i c =
-    let long = c.requires.long in
-    let here : c.loop-i.i < length c.args.text.now = c.loop-i-test.true in
-    omega (arith, long, here)
+bounds-numbers-i c = number-there _ _ _ c.requires c.loop-i.i c.loop-i-test.true
 
 pub index-requires : goal.index-requires
-index-requires c =
-    let low = c.requires.low c.loop-i.i c.loop-i-test.true in
-    let long = c.loop-i.invariant.long in
-    let own = c.loop-i.declared.ok.0 in
-    omega (arith, low, long, own)
+index-requires c = number-below _ _ _ c.requires c.loop-i.i c.loop-i-test.true _ (c.loop-i.declared.ok.0 ∙ c.loop-i.invariant.long)
 
 pub index-requires-in-loop-i : goal.index-requires-in-loop-i
-index-requires-in-loop-i c =
-    let low = c.requires.low c.loop-i.i c.loop-i-test.true in
-    let long = c.in_ok-driven.ensures.long in
-    let own = c.in_ok-driven.driven.ok.0 in
-    omega (arith, low, long, own)
+index-requires-in-loop-i c = number-below _ _ _ c.requires c.loop-i.i c.loop-i-test.true _ (c.in_ok-driven.driven.ok.0 ∙ c.in_ok-driven.ensures.long)
 
 pub mark-requires : goal.mark-requires
-mark-requires c =
-    let low = c.requires.low c.loop-i.i c.loop-i-test.true in
-    let long = c.loop-i.invariant.long in
-    omega (arith, low, long)
+mark-requires c = number-below _ _ _ c.requires c.loop-i.i c.loop-i-test.true _ c.loop-i.invariant.long
