@@ -105,12 +105,6 @@ module _ (by_layer : ByLayer) (base : ℕ) (scope : Scope) (slots : List ℕ) wh
         few = λ n c. p.few n (tail-in (codes "reset") n (name ∷ names) (tail-in name n names c));
       }
 
-  -- the register's own width
-  pub own-few : (ops : List Op) (name : List ℕ) (condition : Option Expr) (value : Expr) → ArePlaced base scope slots ops (next_names name condition value) → (nets name).width ≤ 128
-  own-few ops name condition value p =
-      let names = condition_names condition ++ names_read value in
-      p.few name (tail-in (codes "reset") name (name ∷ names) (head-in name names))
-
   -- what a register takes, as an operation
   abbrev next : ℕ → ℕ → ℕ → ℕ → ℕ → Op
   next reset bits test taken kept = Next (record { reset = reset; first = bits; test = test; value = taken; kept = kept })
