@@ -36,6 +36,19 @@ use Rattle.vl_eval.proofs.Words.{shift-gives, shift-reads}
 use Rattle.vl_eval.proofs.Forms.{and-turned, shows-unary-whole, shows-unary-alone, shows-whole, shows-together, shows-alone, shows-choice, shows-as-unsigned, shows-cast, shows-as-signed, shows-name, shows-signed-name, shows-bit, shows-part, shows-literal, shows-shift, Value, still-shows, settled-before}
 use Rattle.vl_eval.proofs.Operands.{names-choose, sound-unary, length-unary, sound-binary, length-binary, sound-as-signed, length-as-signed, sound-shift, length-shift, steps-of}
 
+-- what is done, then more behind it, and what both come to, unless something was wanting
+pub behind : {was mid now : Bool} {Done More Both : Type 0} → (mid ≡ false → (was ≡ false) × Done) → (now ≡ false → (mid ≡ false) × More) → (Done → More → Both) → now ≡ false → (was ≡ false) × Both
+behind done more both fine =
+    let last = more fine in
+    let first = done last.0 in
+    (first.0, both first.1 last.1)
+
+pub both-fine : {was mid now : Bool} {Done More : Type 0} → (mid ≡ false → (was ≡ false) × Done) → (now ≡ false → (mid ≡ false) × More) → now ≡ false → (was ≡ false) × (Done × More)
+both-fine done more = behind done more (λ first last. (first, last))
+
+pub fine-as : {was now : Bool} {Done Said : Type 0} → (now ≡ false → (was ≡ false) × Done) → (Done → Said) → now ≡ false → (was ≡ false) × Said
+fine-as done said fine = let first = done fine in (first.0, said first.1)
+
 -- operations added to operations
 pub grows-more : (base : ℕ) (before mid after : List Op) → Grows base before mid → Grows base mid after → Grows base before after
 grows-more base before mid after a b = record {

@@ -10,8 +10,12 @@ use Rattle.vl_ast.specs.declared.expressions.Expr.TheVariants.{Unary, Binary}
 use Rattle.vl_ast.specs.Context.{Net, Place, InWhole, Together, Alone, own_length, is_signed, length_at, unary_place, binary_place}
 use Rattle.vl_ast.specs.Conditions.{is_number, is_sound, is_width}
 use Rattle.vl_check.specs.declared.shapes.Shape.{Shape}
+use Rattle.vl_check.specs.Scope.{nets_in}
 use Rattle.vl_check.specs.Shape.{shape_of}
+use Rattle.vl_eval.specs.declared.adding.Additions.{Additions}
+use Rattle.vl_eval.specs.declared.site.Site.{Site}
 use Rattle.vl_eval.specs.inner.Contexts.{context_at, context_of, left_context, unary_context}
+use Rattle.vl_eval.specs.inner.Site.{CanBuild}
 use Rattle.vl_eval.proofs.Operands.{few-of, length-binary, length-unary, sound-binary, sound-unary}
 
 -- a shape that is a context has room for what the context has room for
@@ -61,3 +65,11 @@ module _ (nets : List ℕ → Net) where
       let m : max (own_length nets right) (own_length nets left) ≡ max (own_length nets left) (own_length nets right) = omega arith in
       context-room (binary_place of) (own_length nets right) (own_length nets left) width (is_signed nets right) (is_signed nets left) signed (few-of nets right oks.1) (few-of nets left oks.0)
       (subst (λ n. n ≤ width) (length-binary nets of left right ∙ ap (length_at (binary_place of)) (sym m)) le) most
+
+-- an operator that can be built has room for its operands in their contexts
+module _ (site : Site) (ops : Additions) (of : BinOp) (left right : Expr) (context : Shape) (can : CanBuild site ops context.length (Binary of left right)) (on : Shape) where
+  pub left-fits : on ≡ left_context (nets_in site.scope.now) of left right context.length context.signed → (own_length (nets_in site.scope.now) left ≤ on.length) × (on.length ≤ 128)
+  left-fits is = room-in (own_length (nets_in site.scope.now) left) on _ is (left-context-room (nets_in site.scope.now) of left right context.length context.signed can.sound can.longer can.most)
+
+  pub right-fits : on ≡ left_context (nets_in site.scope.now) of right left context.length context.signed → (own_length (nets_in site.scope.now) right ≤ on.length) × (on.length ≤ 128)
+  right-fits is = room-in (own_length (nets_in site.scope.now) right) on _ is (right-context-room (nets_in site.scope.now) of left right context.length context.signed can.sound can.longer can.most)

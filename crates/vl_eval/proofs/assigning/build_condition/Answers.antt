@@ -6,6 +6,7 @@ use Rattle.vl_check.specs.Scope.{nets_in}
 use Rattle.vl_eval.specs.inner.Assigning.{Tests}
 use Rattle.vl_eval.specs.inner.Site.{ArePlaced}
 use Rattle.vl_eval.proofs.Assigns.{tests-none, tests-some}
+use Rattle.vl_eval.proofs.Builds.{fine-as}
 use Rattle.vl_eval.proofs.assigning.build_condition.Goals as goal
 
 pub build-requires : goal.build-requires
@@ -20,19 +21,15 @@ build-requires c =
     }
 
 pub returns-in-None : goal.returns-in-None
-returns-in-None c = λ fine.
+returns-in-None c =
     let site = c.args.site.now in
-    let p = c.push.ensures fine in (
-      p.0,
-      subst (Tests site.base site.scope.now site.slots.now c.args.ops.now.code c.push.new.ops.code c.push.result) (sym c.in-None.is)
-          (tests-none c.meaning_by_layer.ensures.value site.base site.scope.now site.slots.now c.args.ops.now.code c.push.new.ops.code c.push.result p.1),
-    )
+    fine-as c.push.ensures
+    (λ p. subst (Tests site.base site.scope.now site.slots.now c.args.ops.now.code c.push.new.ops.code c.push.result) (sym c.in-None.is)
+    (tests-none c.meaning_by_layer.ensures.value site.base site.scope.now site.slots.now c.args.ops.now.code c.push.new.ops.code c.push.result p))
 
 pub returns-in-Some : goal.returns-in-Some
-returns-in-Some c = λ fine.
+returns-in-Some c =
     let site = c.args.site.now in
-    let b = c.build.ensures fine in (
-      b.0,
-      subst (Tests site.base site.scope.now site.slots.now c.args.ops.now.code c.build.new.ops.code c.build.result) (sym c.in-Some.is)
-          (tests-some c.meaning_by_layer.ensures.value site.base site.scope.now site.slots.now c.in-Some.e c.args.ops.now.code c.build.new.ops.code c.build.result c.shape_of-shape.result c.shape_of-shape.ensures.length c.shape_of-shape.ensures.sign b.1),
-    )
+    fine-as c.build.ensures
+    (λ b. subst (Tests site.base site.scope.now site.slots.now c.args.ops.now.code c.build.new.ops.code c.build.result) (sym c.in-Some.is)
+    (tests-some c.meaning_by_layer.ensures.value site.base site.scope.now site.slots.now c.in-Some.e c.args.ops.now.code c.build.new.ops.code c.build.result c.shape_of-shape.result c.shape_of-shape.ensures.length c.shape_of-shape.ensures.sign b))

@@ -12,9 +12,9 @@ use Rattle.vl_eval.specs.inner.Site.{ArePlaced, Built, CanBuild, IsBuilt}
 use Rattle.std.proofs.lemmas.Bool.{not-false, not-true}
 use Rattle.std.proofs.lemmas.List.{take_all}
 use Rattle.vl_eval.proofs.Operands.{sound-unary, names-unary, sound-as-signed, length-as-signed, names-as-signed, sound-as-unsigned, names-as-unsigned, sound-binary, names-binary, sound-shift, length-shift, names-shift, sound-choose, length-choose, sound-repeat, length-repeat, sign-repeat, names-repeat, sound-concat, names-concat}
-use Rattle.vl_eval.proofs.Rooms.{room-in, unary-room, left-context-room, right-context-room}
+use Rattle.vl_eval.proofs.Rooms.{room-in, unary-room, left-fits, right-fits}
 use Rattle.vl_eval.proofs.SideBySide.{Copied, Joined, beside-grows, built-copies, built-no-parts, built-parts, concat-alone, copied-more, copied-one, copied-room, copies-few, joined-all, joined-more, lengths-more, one-copy, part-in, part-placed, part-size, part-sound, parts-few, parts-more, shows-alone-too, value-at}
-use Rattle.vl_eval.proofs.Builds.{built-unary, built-binary, built-as-signed, built-as-signed-plain, built-as-unsigned, built-shift, built-choice, grows-more, grows-none, placed-choose, placed-left, placed-right, placed-later}
+use Rattle.vl_eval.proofs.Builds.{behind, both-fine, fine-as, built-unary, built-binary, built-as-signed, built-as-signed-plain, built-as-unsigned, built-shift, built-choice, grows-more, grows-none, placed-choose, placed-left, placed-right, placed-later}
 use Rattle.vl_eval.proofs.building.+build.Given as given
 use Rattle.vl_eval.proofs.building.+build.Goals as goal
 
@@ -36,11 +36,10 @@ pub build_unary-mask_of-requires : goal.build_unary-mask_of-requires
 build_unary-mask_of-requires t c = c.requires.most
 
 pub build_unary-returns : goal.build_unary-returns
-build_unary-returns t c = λ fine.
+build_unary-returns t c =
     let site = c.args.site.now in
-    let p = c.push.ensures fine in
-    let b = c.build-slot.ensures p.0 in
-    (b.0, built-unary c.requires.by_layer site.base site.scope.now site.slots.now c.args.op c.args.part.now c.args.ops.now.code c.build-slot.new.ops.code c.push.new.ops.code c.build-slot.result c.push.result c.args.context.length c.mask_of.result c.args.context.signed c.unary_context-inner.result c.requires.sound c.requires.longer c.requires.most c.mask_of.ensures c.unary_context-inner.ensures b.1 (subst (λ o. Pushed site.base c.build-slot.new.ops.code c.push.new.ops.code c.push.result o) c.unary_op.ensures p.1))
+    behind c.build-slot.ensures c.push.ensures
+    (λ b p. built-unary c.requires.by_layer site.base site.scope.now site.slots.now c.args.op c.args.part.now c.args.ops.now.code c.build-slot.new.ops.code c.push.new.ops.code c.build-slot.result c.push.result c.args.context.length c.mask_of.result c.args.context.signed c.unary_context-inner.result c.requires.sound c.requires.longer c.requires.most c.mask_of.ensures c.unary_context-inner.ensures b (subst (λ o. Pushed site.base c.build-slot.new.ops.code c.push.new.ops.code c.push.result o) c.unary_op.ensures p))
 
 pub build_as_signed-build_alone-own-requires : goal.build_as_signed-build_alone-own-requires
 build_as_signed-build_alone-own-requires t c =
@@ -48,11 +47,10 @@ build_as_signed-build_alone-own-requires t c =
     (omega arith, record { by_layer = c.requires.by_layer; sound = sound-as-signed nets c.args.part.now c.requires.sound; placed = placed c.args.site.now c.args.ops.now _ _ (names-as-signed nets c.args.part.now) c.requires.placed })
 
 pub build_as_signed-returns-then-not-context : goal.build_as_signed-returns-then-not-context
-build_as_signed-returns-then-not-context t c = λ fine.
+build_as_signed-returns-then-not-context t c =
     let site = c.args.site.now in
     let own = c.build_alone-own.ensures in
-    let b = own.built fine in
-    (b.0, built-as-signed-plain c.requires.by_layer site.base site.scope.now site.slots.now c.args.part.now c.args.ops.now.code c.build_alone-own.new.ops.code c.build_alone-own.result.slot c.args.context.length c.args.context.signed c.build_alone-own.result.shape own.length own.sign (not-true c.args.context.signed c.if-not-context.true) b.1)
+    fine-as own.built (built-as-signed-plain c.requires.by_layer site.base site.scope.now site.slots.now c.args.part.now c.args.ops.now.code c.build_alone-own.new.ops.code c.build_alone-own.result.slot c.args.context.length c.args.context.signed c.build_alone-own.result.shape own.length own.sign (not-true c.args.context.signed c.if-not-context.true))
 
 pub build_as_signed-extend-requires-clause-longer : goal.build_as_signed-extend-requires-clause-longer
 build_as_signed-extend-requires-clause-longer t c = let l = length-as-signed (nets_in c.args.site.now.scope.now) c.args.part.now in let own = c.build_alone-own.ensures.length in omega (arith, l, own, c.requires.longer)
@@ -61,12 +59,10 @@ pub build_as_signed-extend-requires-clause-most : goal.build_as_signed-extend-re
 build_as_signed-extend-requires-clause-most t c = c.requires.most
 
 pub build_as_signed-returns : goal.build_as_signed-returns
-build_as_signed-returns t c = λ fine.
+build_as_signed-returns t c =
     let site = c.args.site.now in
     let own = c.build_alone-own.ensures in
-    let x = c.extend.ensures fine in
-    let b = own.built x.0 in
-    (b.0, built-as-signed c.requires.by_layer site.base site.scope.now site.slots.now c.args.part.now c.args.ops.now.code c.build_alone-own.new.ops.code c.extend.new.ops.code c.build_alone-own.result.slot c.extend.result c.args.context.length c.args.context.signed c.build_alone-own.result.shape c.requires.sound c.requires.longer c.requires.most own.length own.sign (not-false c.args.context.signed c.if-not-context.false) b.1 x.1)
+    behind own.built c.extend.ensures (built-as-signed c.requires.by_layer site.base site.scope.now site.slots.now c.args.part.now c.args.ops.now.code c.build_alone-own.new.ops.code c.extend.new.ops.code c.build_alone-own.result.slot c.extend.result c.args.context.length c.args.context.signed c.build_alone-own.result.shape c.requires.sound c.requires.longer c.requires.most own.length own.sign (not-false c.args.context.signed c.if-not-context.false))
 
 pub build_as_unsigned-build_alone-own-requires : goal.build_as_unsigned-build_alone-own-requires
 build_as_unsigned-build_alone-own-requires t c =
@@ -74,11 +70,10 @@ build_as_unsigned-build_alone-own-requires t c =
     (omega arith, record { by_layer = c.requires.by_layer; sound = sound-as-unsigned nets c.args.part.now c.requires.sound; placed = placed c.args.site.now c.args.ops.now _ _ (names-as-unsigned nets c.args.part.now) c.requires.placed })
 
 pub build_as_unsigned-returns : goal.build_as_unsigned-returns
-build_as_unsigned-returns t c = λ fine.
+build_as_unsigned-returns t c =
     let site = c.args.site.now in
     let own = c.build_alone-own.ensures in
-    let b = own.built fine in
-    (b.0, built-as-unsigned c.requires.by_layer site.base site.scope.now site.slots.now c.args.part.now c.args.ops.now.code c.build_alone-own.new.ops.code c.build_alone-own.result.slot c.args.context.length c.args.context.signed c.build_alone-own.result.shape own.length own.sign b.1)
+    fine-as own.built (built-as-unsigned c.requires.by_layer site.base site.scope.now site.slots.now c.args.part.now c.args.ops.now.code c.build_alone-own.new.ops.code c.build_alone-own.result.slot c.args.context.length c.args.context.signed c.build_alone-own.result.shape own.length own.sign)
 
 pub build_binary-left_context-on_left-requires-clause-left : goal.build_binary-left_context-on_left-requires-clause-left
 build_binary-left_context-on_left-requires-clause-left t c = (sound-binary (nets_in c.args.site.now.scope.now) c.args.op c.args.left.now c.args.right.now c.requires.sound).0
@@ -95,36 +90,29 @@ build_binary-left_context-on_right-requires-clause-right t c = (sound-binary (ne
 pub build_binary-build-first-requires : goal.build_binary-build-first-requires
 build_binary-build-first-requires t c =
     let site = c.args.site.now in
-    let nets = nets_in site.scope.now in
-    let room = room-in (own_length nets c.args.left.now) _ _ c.left_context-on_left.ensures (left-context-room nets c.args.op c.args.left.now c.args.right.now c.args.context.length c.args.context.signed c.requires.sound c.requires.longer c.requires.most) in
-    let all = placed site c.args.ops.now _ _ (names-binary nets c.args.op c.args.left.now c.args.right.now) c.requires.placed in
-    (omega arith, record { by_layer = c.requires.by_layer; sound = (sound-binary nets c.args.op c.args.left.now c.args.right.now c.requires.sound).0; longer = room.0; most = room.1; placed = λ fine. placed-left c.requires.by_layer site.base site.scope.now site.slots.now c.args.ops.now.code (names_read c.args.left.now) (names_read c.args.right.now) (all fine) })
+    let room = left-fits site c.args.ops.now c.args.op c.args.left.now c.args.right.now c.args.context c.requires c.left_context-on_left.result c.left_context-on_left.ensures in
+    let all = placed site c.args.ops.now _ _ (names-binary (nets_in site.scope.now) c.args.op c.args.left.now c.args.right.now) c.requires.placed in
+    (omega arith, record { by_layer = c.requires.by_layer; sound = (sound-binary (nets_in site.scope.now) c.args.op c.args.left.now c.args.right.now c.requires.sound).0; longer = room.0; most = room.1; placed = λ fine. placed-left c.requires.by_layer site.base site.scope.now site.slots.now c.args.ops.now.code (names_read c.args.left.now) (names_read c.args.right.now) (all fine) })
 
 pub build_binary-build-second-requires : goal.build_binary-build-second-requires
 build_binary-build-second-requires t c =
     let site = c.args.site.now in
-    let nets = nets_in site.scope.now in
-    let room = room-in (own_length nets c.args.right.now) _ _ c.left_context-on_right.ensures (right-context-room nets c.args.op c.args.left.now c.args.right.now c.args.context.length c.args.context.signed c.requires.sound c.requires.longer c.requires.most) in
-    let all = placed site c.args.ops.now _ _ (names-binary nets c.args.op c.args.left.now c.args.right.now) c.requires.placed in
-    (omega arith, record { by_layer = c.requires.by_layer; sound = (sound-binary nets c.args.op c.args.left.now c.args.right.now c.requires.sound).1; longer = room.0; most = room.1; placed = λ fine. let first = c.build-first.ensures fine in placed-later c.requires.by_layer site.base site.scope.now site.slots.now c.args.ops.now.code c.build-first.new.ops.code (names_read c.args.right.now) first.1.grows (placed-right c.requires.by_layer site.base site.scope.now site.slots.now c.args.ops.now.code (names_read c.args.left.now) (names_read c.args.right.now) (all first.0)) })
+    let room = right-fits site c.args.ops.now c.args.op c.args.left.now c.args.right.now c.args.context c.requires c.left_context-on_right.result c.left_context-on_right.ensures in
+    let all = placed site c.args.ops.now _ _ (names-binary (nets_in site.scope.now) c.args.op c.args.left.now c.args.right.now) c.requires.placed in
+    (omega arith, record { by_layer = c.requires.by_layer; sound = (sound-binary (nets_in site.scope.now) c.args.op c.args.left.now c.args.right.now c.requires.sound).1; longer = room.0; most = room.1; placed = λ fine. let first = c.build-first.ensures fine in placed-later c.requires.by_layer site.base site.scope.now site.slots.now c.args.ops.now.code c.build-first.new.ops.code (names_read c.args.right.now) first.1.grows (placed-right c.requires.by_layer site.base site.scope.now site.slots.now c.args.ops.now.code (names_read c.args.left.now) (names_read c.args.right.now) (all first.0)) })
 
 pub build_binary-half_in-requires : goal.build_binary-half_in-requires
 build_binary-half_in-requires t c =
-    let site = c.args.site.now in
-    let nets = nets_in site.scope.now in
-    let room = left-context-room nets c.args.op c.args.left.now c.args.right.now c.args.context.length c.args.context.signed c.requires.sound c.requires.longer c.requires.most in
-    (room-in (own_length nets c.args.left.now) _ _ c.left_context-on_left.ensures room).1
+    (left-fits c.args.site.now c.args.ops.now c.args.op c.args.left.now c.args.right.now c.args.context c.requires c.left_context-on_left.result c.left_context-on_left.ensures).1
 
 pub build_binary-mask_of-requires : goal.build_binary-mask_of-requires
 build_binary-mask_of-requires t c = c.requires.most
 
 pub build_binary-returns : goal.build_binary-returns
-build_binary-returns t c = λ fine.
+build_binary-returns t c =
     let site = c.args.site.now in
-    let p = c.push.ensures fine in
-    let second = c.build-second.ensures p.0 in
-    let first = c.build-first.ensures second.0 in
-    (first.0, built-binary c.requires.by_layer site.base site.scope.now site.slots.now c.args.op c.args.left.now c.args.right.now c.args.ops.now.code c.build-first.new.ops.code c.build-second.new.ops.code c.push.new.ops.code c.build-first.result c.build-second.result c.push.result c.args.context.length c.mask_of.result c.half_in.result c.args.context.signed c.left_context-on_left.result c.left_context-on_right.result c.requires.sound c.requires.longer c.requires.most c.mask_of.ensures c.left_context-on_left.ensures c.left_context-on_right.ensures c.half_in.ensures first.1 second.1 (subst (λ o. Pushed site.base c.build-second.new.ops.code c.push.new.ops.code c.push.result o) c.binary_op.ensures p.1))
+    behind (both-fine c.build-first.ensures c.build-second.ensures) c.push.ensures
+    (λ b p. built-binary c.requires.by_layer site.base site.scope.now site.slots.now c.args.op c.args.left.now c.args.right.now c.args.ops.now.code c.build-first.new.ops.code c.build-second.new.ops.code c.push.new.ops.code c.build-first.result c.build-second.result c.push.result c.args.context.length c.mask_of.result c.half_in.result c.args.context.signed c.left_context-on_left.result c.left_context-on_right.result c.requires.sound c.requires.longer c.requires.most c.mask_of.ensures c.left_context-on_left.ensures c.left_context-on_right.ensures c.half_in.ensures b.0 b.1 (subst (λ o. Pushed site.base c.build-second.new.ops.code c.push.new.ops.code c.push.result o) c.binary_op.ensures p))
 
 pub build_choice-build_alone-tested-requires : goal.build_choice-build_alone-tested-requires
 build_choice-build_alone-tested-requires t c =
@@ -144,14 +132,11 @@ build_choice-build-second-requires t c =
     (omega arith, record { by_layer = c.requires.by_layer; sound = (sound-choose (nets_in site.scope.now) c.args.test.now c.args.chosen.now c.args.other.now c.requires.sound).2; longer = omega (arith, l, c.requires.longer); most = c.requires.most; placed = λ fine. let first = c.build-first.ensures fine in let tested = c.build_alone-tested.ensures.built first.0 in placed-later c.requires.by_layer site.base site.scope.now site.slots.now c.args.ops.now.code c.build-first.new.ops.code (names_read c.args.other.now) (grows-more site.base c.args.ops.now.code c.build_alone-tested.new.ops.code c.build-first.new.ops.code tested.1.grows first.1.grows) (placed-choose c.requires.by_layer site.base site.scope.now site.slots.now c.args.ops.now.code c.args.test.now c.args.chosen.now c.args.other.now (c.requires.placed tested.0)).2 })
 
 pub build_choice-returns : goal.build_choice-returns
-build_choice-returns t c = λ fine.
+build_choice-returns t c =
     let site = c.args.site.now in
-    let p = c.push.ensures fine in
-    let second = c.build-second.ensures p.0 in
-    let first = c.build-first.ensures second.0 in
     let own = c.build_alone-tested.ensures in
-    let tested = own.built first.0 in
-    (tested.0, built-choice c.requires.by_layer site.base site.scope.now site.slots.now c.args.test.now c.args.chosen.now c.args.other.now c.args.ops.now.code c.build_alone-tested.new.ops.code c.build-first.new.ops.code c.build-second.new.ops.code c.push.new.ops.code c.build_alone-tested.result.slot c.build-first.result c.build-second.result c.push.result c.args.context.length c.args.context.signed c.build_alone-tested.result.shape own.length own.sign tested.1 first.1 second.1 p.1)
+    behind (both-fine own.built (both-fine c.build-first.ensures c.build-second.ensures)) c.push.ensures
+    (λ b p. built-choice c.requires.by_layer site.base site.scope.now site.slots.now c.args.test.now c.args.chosen.now c.args.other.now c.args.ops.now.code c.build_alone-tested.new.ops.code c.build-first.new.ops.code c.build-second.new.ops.code c.push.new.ops.code c.build_alone-tested.result.slot c.build-first.result c.build-second.result c.push.result c.args.context.length c.args.context.signed c.build_alone-tested.result.shape own.length own.sign b.0 b.1.0 b.1.1 p)
 
 pub build_shift-build-slot-requires : goal.build_shift-build-slot-requires
 build_shift-build-slot-requires t c =
@@ -166,11 +151,10 @@ pub build_shift-shift_op-requires : goal.build_shift-shift_op-requires
 build_shift-shift_op-requires t c = c.requires.most
 
 pub build_shift-returns : goal.build_shift-returns
-build_shift-returns t c = λ fine.
+build_shift-returns t c =
     let site = c.args.site.now in
-    let p = c.push.ensures fine in
-    let b = c.build-slot.ensures p.0 in
-    (b.0, built-shift c.requires.by_layer site.base site.scope.now site.slots.now c.args.op c.args.part.now c.args.amount.now c.args.ops.now.code c.build-slot.new.ops.code c.push.new.ops.code c.build-slot.result c.push.result c.args.context.length c.args.context.signed c.requires.sound c.requires.longer c.requires.most b.1 (subst (λ o. Pushed site.base c.build-slot.new.ops.code c.push.new.ops.code c.push.result o) (c.shift_op.ensures ∙ ap (λ (places : ℕ). shift_op c.args.op c.build-slot.result places c.args.context.length c.args.context.signed) c.get.ensures) p.1))
+    behind c.build-slot.ensures c.push.ensures
+    (λ b p. built-shift c.requires.by_layer site.base site.scope.now site.slots.now c.args.op c.args.part.now c.args.amount.now c.args.ops.now.code c.build-slot.new.ops.code c.push.new.ops.code c.build-slot.result c.push.result c.args.context.length c.args.context.signed c.requires.sound c.requires.longer c.requires.most b (subst (λ o. Pushed site.base c.build-slot.new.ops.code c.push.new.ops.code c.push.result o) (c.shift_op.ensures ∙ ap (λ (places : ℕ). shift_op c.args.op c.build-slot.result places c.args.context.length c.args.context.signed) c.get.ensures) p))
 
 pub build_copies-build_alone-own-requires : goal.build_copies-build_alone-own-requires
 build_copies-build_alone-own-requires t c =
