@@ -1,56 +1,17 @@
 -- What a search over a text or over items finds.
-use Rattle.std.proofs.Common.{◌≡◌, ◌<◌, ◌≤◌, ◌+◌, ℕ, suc, min, Bool, true, false, not, ◌||◌, if◌then◌else◌, List, [], ◌∷◌, ◌++◌, length, map, take, drop, find, slice_index_or, Option, Some, None, refl, sym, ap, ◌∙◌, arith, ◌&&◌, subst}
+use Rattle.std.proofs.Common.{◌≡◌, ◌<◌, ◌≤◌, ◌+◌, ℕ, suc, min, Bool, true, false, not, ◌||◌, if◌then◌else◌, List, [], ◌∷◌, ◌++◌, length, map, take, drop, find, slice_index_or, Some, None, refl, sym, ap, ◌∙◌, ◌&&◌, subst}
 use Rattle.std.specs.Prelude.{take_while}
 use Rattle.std.specs.List.{list_any, list_all, prefix_len}
 use Rattle.std.specs.Option.{option_or}
-use Rattle.std.proofs.Math.ListN.{drop_of_length-le}
 use Rattle.std.proofs.Math.Seq.{drop-cons}
 use Rattle.std.proofs.lemmas.Bool.{and_from, and_parts}
-use Rattle.std.proofs.lemmas.List.{get_or_default, take-append-drop, take_more, map-append, length-take, length-take-le, length-map}
+use Rattle.std.proofs.lemmas.List.{take-append-drop, take_more, map-append, length-take, length-take-le, length-map}
 use Rattle.std.proofs.lemmas.List.Sums.{position_or_len_is}
 use Rattle.std.proofs.lemmas.List.Folds.{find-append}
 
 pub any-map : {X Y : Type 0} (f : X → Y) (p : Y → Bool) (xs : List X) → list_any (λ x. p (f x)) xs ≡ list_any p (map f xs)
 any-map f p [] = refl
 any-map f p (x ∷ xs) = ap (λ t. p (f x) || t) (any-map f p xs)
-
--- a search in what is left of a list, whose answer is that of the whole
-module _ {X : Type 0} (p : X → Bool) (xs : List X) (i : ℕ) (whole : Bool) (left : list_any p (drop i xs) ≡ whole) where
-  here : (x : X) → i < length xs → x ≡ slice_index_or xs i x → (p x || list_any p (drop (i + 1) xs)) ≡ whole
-  here x below is =
-      let next : suc i ≡ i + 1 = omega arith in
-      sym (ap (list_any p) (drop-cons xs i x below ∙ (λ k. sym is k ∷ drop (next k) xs))) ∙ left
-
-  pub any-found : (x : X) → i < length xs → x ≡ slice_index_or xs i x → p x ≡ true → true ≡ whole
-  any-found x below is holds = sym (ap (λ t. t || list_any p (drop (i + 1) xs)) holds) ∙ here x below is
-
-  pub any-passed : (x : X) → i < length xs → x ≡ slice_index_or xs i x → p x ≡ false → list_any p (drop (i + 1) xs) ≡ whole
-  any-passed x below is fails = sym (ap (λ t. t || list_any p (drop (i + 1) xs)) fails) ∙ here x below is
-
-  -- the same of an element by its place
-  pub found-at : (d : X) → i < length xs → p (slice_index_or xs i d) ≡ true → true ≡ whole
-  found-at d below holds = any-found (slice_index_or xs i d) below (get_or_default xs i d (slice_index_or xs i d) below) holds
-
-  pub passed-at : (d : X) → i < length xs → p (slice_index_or xs i d) ≡ false → list_any p (drop (i + 1) xs) ≡ whole
-  passed-at d below fails = any-passed (slice_index_or xs i d) below (get_or_default xs i d (slice_index_or xs i d) below) fails
-
-  pub any-none : length xs ≤ i → false ≡ whole
-  any-none past = sym (ap (list_any p) (drop_of_length-le xs past)) ∙ left
-
-module _ {X : Type 0} (p : X → Bool) (xs : List X) (i : ℕ) (whole : Option X) (left : find p (drop i xs) ≡ whole) where
-  there : (x : X) → i < length xs → x ≡ slice_index_or xs i x → (if p x then Some x else find p (drop (i + 1) xs)) ≡ whole
-  there x below is =
-      let next : suc i ≡ i + 1 = omega arith in
-      sym (ap (find p) (drop-cons xs i x below ∙ (λ k. sym is k ∷ drop (next k) xs))) ∙ left
-
-  pub find-found : (x : X) → i < length xs → x ≡ slice_index_or xs i x → p x ≡ true → Some x ≡ whole
-  find-found x below is holds = sym (ap (λ t. if t then Some x else find p (drop (i + 1) xs)) holds) ∙ there x below is
-
-  pub find-passed : (x : X) → i < length xs → x ≡ slice_index_or xs i x → p x ≡ false → find p (drop (i + 1) xs) ≡ whole
-  find-passed x below is fails = sym (ap (λ t. if t then Some x else find p (drop (i + 1) xs)) fails) ∙ there x below is
-
-  pub find-none : length xs ≤ i → None ≡ whole
-  find-none past = sym (ap (find p) (drop_of_length-le xs past)) ∙ left
 
 -- how many pass a test before the first that doesn't
 prefix-map : {X Y : Type 0} (f : X → Y) (p : Y → Bool) (xs : List X) → prefix_len (λ x. p (f x)) xs ≡ prefix_len p (map f xs)

@@ -69,12 +69,7 @@ fn lacks_attribute(port: &Port, stalls: bool) -> bool
 fn first_lacking(ports: &[Port], stalls: bool) -> Option<&Port>
     ensures { option_map (λ port. port.now) result ≡ find (lacks_attribute stalls) ports.now }
 {
-    for port in ports {
-        if lacks_attribute(port, stalls) {
-            return Some(port);
-        }
-    }
-    None
+    ports.iter().find(|port| lacks_attribute(port, stalls))
 }
 
 /// The module's name where it lacks `fx_cycles`, or else the first port that carries numbers and lacks

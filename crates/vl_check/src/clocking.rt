@@ -44,12 +44,7 @@ fn is_bit_input(port: &Port, name: &[u8]) -> bool
 pub fn has_bit_input(ports: &[Port], name: &[u8]) -> bool
     ensures { result ≡ list_any (is_bit_input name.now) ports.now }
 {
-    for port in ports {
-        if is_bit_input(port, name) {
-            return true;
-        }
-    }
-    false
+    ports.iter().any(|port| is_bit_input(port, name))
 }
 
 fn is_read_of(mention: &Mention<'_>, name: &[u8]) -> bool
@@ -64,12 +59,7 @@ fn is_read_of(mention: &Mention<'_>, name: &[u8]) -> bool
 fn is_read(text: &[Mention<'_>], name: &[u8]) -> bool
     ensures { result ≡ list_any (λ x. is_read_of name.now (mention_of x)) text.now }
 {
-    for mention in text {
-        if is_read_of(mention, name) {
-            return true;
-        }
-    }
-    false
+    text.iter().any(|mention| is_read_of(mention, name))
 }
 
 fn is_clk_at_fault(text: &[Mention<'_>], ports: &[Port]) -> bool
