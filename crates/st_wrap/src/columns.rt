@@ -9,7 +9,7 @@ use crate::pace::samples_late;
 use fx_io::{Sequence, Text};
 use std::alloc::Global;
 use vl_ast::{Made, Module, Port, begin, both, clocks_of, finish, put};
-use vl_check::{is_number_input, is_number_output, is_stallable};
+use vl_check::{carries, is_stallable};
 
 /// A port of the core that carries numbers.
 #[derive(Drop)]
@@ -42,17 +42,6 @@ fn column_for(alloc: Global, port: &Port, name: &Text, late: u64) -> Made<Column
     })
 }
 
-/// Whether a port is an input that carries numbers, or else such an output.
-fn is_column(port: &Port, input: bool, stalls: bool) -> bool
-    ensures { result ≡ is_column input stalls port.now }
-{
-    if input {
-        is_number_input(port, stalls)
-    } else {
-        is_number_output(port, stalls)
-    }
-}
-
 /// The inputs, or else the outputs, in order, with these names. Each is held back until the one that
 /// comes so many samples late.
 pub fn columns(
@@ -70,7 +59,7 @@ pub fn columns(
     let mut out = begin(alloc);
     let mut left = names;
     for port in core.ports.as_slice() {
-        if is_column(port, input, stalls) {
+        if carries(port, stalls, input) {
             if let Some((name, others)) = left.split_first() {
                 let late = latest.saturating_sub(samples_late(cycles, port));
                 put(&mut out, column_for(alloc, port, name, late));

@@ -1,4 +1,4 @@
-ghost use Rattle.std.specs.Prelude.{◌≡◌, ◌&&◌, bytes_eq, codes, find, not, option_map};
+ghost use Rattle.std.specs.Prelude.{◌≡◌, ◌&&◌, bytes_eq, codes, find, if◌then◌else◌, not, option_map};
 ghost use Rattle.vl_ast.specs.Conditions.{lacks_attribute, no_attribute};
 ghost use Rattle.vl_ast.specs.Control.{is_clock_or_reset, is_control_input, is_control_output};
 ghost use Rattle.vl_ast.specs.Control.{is_number_input, is_number_output, is_stallable};
@@ -41,7 +41,7 @@ pub fn is_driven_input(port: &Port) -> bool
 
 /// Whether the port of a module that stalls or doesn't is an input that carries numbers: none of
 /// `clk`, `reset` and `clk_enable` (own).
-pub fn is_number_input(port: &Port, stalls: bool) -> bool
+fn is_number_input(port: &Port, stalls: bool) -> bool
     ensures { result ≡ is_number_input stalls port.now }
 {
     port.input && !is_control_input(port, stalls)
@@ -53,6 +53,18 @@ pub fn is_number_output(port: &Port, stalls: bool) -> bool
     ensures { result ≡ is_number_output stalls port.now }
 {
     !(is_control_output(port, stalls) || port.input)
+}
+
+/// Whether the port of a module that stalls or doesn't carries numbers inwards, or else outwards.
+pub fn carries(port: &Port, stalls: bool, inputs: bool) -> bool
+    ensures { result ≡ (if inputs then is_number_input stalls port.now
+        else is_number_output stalls port.now) }
+{
+    if inputs {
+        is_number_input(port, stalls)
+    } else {
+        is_number_output(port, stalls)
+    }
 }
 
 fn lacks_attribute(port: &Port, stalls: bool) -> bool

@@ -26,7 +26,7 @@ mod shapes;
 mod sorting;
 mod widths;
 
-pub use attributes::{is_driven_input, is_number_input, is_number_output, is_stallable};
+pub use attributes::{carries, is_driven_input, is_number_output, is_stallable};
 pub use checking::{Checked, check};
 pub use fault::VlFault;
 pub use mentions::{Declared, Kind};

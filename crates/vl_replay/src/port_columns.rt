@@ -10,7 +10,7 @@ use fx_io::{OutOfMemory, Sequence};
 use fx_tables::{Column, Columns};
 use std::alloc::Global;
 use vl_ast::{Port, mask_of, step_of};
-use vl_check::{is_number_input, is_number_output, is_stallable};
+use vl_check::{carries, is_stallable};
 use vl_eval::Machine;
 
 /// The columns of a stimulus and of its response (own).
@@ -48,17 +48,6 @@ fn column(port: &Port) -> Column
             high: greatest as i128,
             period,
         }
-    }
-}
-
-/// Whether the port is an input that carries numbers, or else an output that does.
-fn carries(port: &Port, stalls: bool, inputs: bool) -> bool
-    ensures { result ≡ carries inputs stalls port.now }
-{
-    if inputs {
-        is_number_input(port, stalls)
-    } else {
-        is_number_output(port, stalls)
     }
 }
 

@@ -15,7 +15,8 @@ use Rattle.vl_replay.specs.Sampled.{hit_at}
 
 -- a port is an input that carries numbers, or else an output that does
 abbrev pub carries : Bool → Bool → Port → Bool
-carries inputs stalls = if inputs then is_number_input stalls else is_number_output stalls
+carries inputs stalls port =
+    if inputs then is_number_input stalls port else is_number_output stalls port
 
 -- when an output is sampled, with so many clocks per sample
 abbrev pub sampler_of : ℕ → Port → Sampler

@@ -5,7 +5,7 @@ use Rattle.vl_ast.specs.Attributes.{clocks_of}
 use Rattle.st_wrap.specs.inner.Columns.{column_of, is_column, output_column}
 use Rattle.st_wrap.specs.Pace.{samples_late}
 use Rattle.st_wrap.proofs.Gathered.{all-gathered, gathered-as, none-gathered, one-gathered, other-gathered, unnamed-gathered}
-use Rattle.st_wrap.proofs.columns.columns.Goals.{then-is_column+in-Some, then-is_column+in_default, else-is_column}
+use Rattle.st_wrap.proofs.columns.columns.Goals.{then-carries+in-Some, then-carries+in_default, else-carries}
 use Rattle.st_wrap.proofs.columns.columns.Goals as goal
 
 pub loop-port-init : goal.loop-port-init
@@ -22,16 +22,16 @@ loop-port-preserved c =
     let test = is_column c.args.input (is_stallable c.args.core.now) in
     let stalls = ap (λ (b : Bool). is_column c.args.input b x) (sym c.is_stallable-stalls.ensures) in
     let was = c.loop-port.invariant in
-    elim c.if-is_column.branch [
-      | then-is_column+in-Some w ↦ (
+    elim c.if-carries.branch [
+      | then-carries+in-Some w ↦ (
           let late = w.saturating_sub-late.ensures ∙ ap (λ (n : ℕ). c.args.latest - n) (w.samples_late.ensures ∙ ap (λ (cycles : ℕ). samples_late cycles x) c.clocks_of-cycles.ensures.is) in
           let put = w.put.ensures _ (subst (λ (late : ℕ). IfOk w.column_for.result (λ column. column ≡ column_of late (x, w.in-Some.name.now))) late w.column_for.ensures) in
           gathered-as f test core c.args.names.now (i + 1) w.out-is (λ k. (w.left-is k).now)
-          (one-gathered f test core c.args.names.now i x below (sym is) c.loop-port.left.now was w.in-Some.name.now w.in-Some.others.now w.in-Some.ensures.cases.0 (stalls ∙ sym w.if-is_column.ensures) put))
-      | then-is_column+in_default w ↦ gathered-as f test core c.args.names.now (i + 1) w.out-is (λ k. (w.left-is k).now)
-          (unnamed-gathered f test core c.args.names.now i x below (sym is) c.loop-port.left.now was w.in_default.ensures.cases (stalls ∙ sym w.if-is_column.ensures))
-      | else-is_column w ↦ gathered-as f test core c.args.names.now (i + 1) w.out-is (λ k. (w.left-is k).now)
-          (other-gathered f test core c.args.names.now i x below (sym is) c.loop-port.left.now was (stalls ∙ sym w.if-is_column.ensures))
+          (one-gathered f test core c.args.names.now i x below (sym is) c.loop-port.left.now was w.in-Some.name.now w.in-Some.others.now w.in-Some.ensures.cases.0 (stalls ∙ sym w.if-carries.ensures) put))
+      | then-carries+in_default w ↦ gathered-as f test core c.args.names.now (i + 1) w.out-is (λ k. (w.left-is k).now)
+          (unnamed-gathered f test core c.args.names.now i x below (sym is) c.loop-port.left.now was w.in_default.ensures.cases (stalls ∙ sym w.if-carries.ensures))
+      | else-carries w ↦ gathered-as f test core c.args.names.now (i + 1) w.out-is (λ k. (w.left-is k).now)
+          (other-gathered f test core c.args.names.now i x below (sym is) c.loop-port.left.now was (stalls ∙ sym w.if-carries.ensures))
     ]
 
 pub returns : goal.returns
