@@ -1,14 +1,14 @@
 -- The least and the greatest delay of some samplers up to a place, one further.
-use Rattle.std.proofs.Common.{◌≡◌, ◌<◌, ◌≤◌, ◌+◌, ⊎_elim, ℕ, List, length, max, min, slice_get, slice_index_or, Some, ap, subst, ◌∙◌, arith}
+use Rattle.std.proofs.Common.{◌≡◌, ◌<◌, ◌≤◌, ◌+◌, ⊎_elim, ℕ, List, length, max, min, slice_get, slice_index_or, Some, subst, arith}
 use Rattle.std.proofs.lemmas.Bool.{cases_lt}
 use Rattle.std.proofs.lemmas.Option.{get_or_from_slice_get, slice_get-get_or}
 use Rattle.vl_ast.specs.Attributes.{most_latency}
 use Rattle.vl_replay.specs.declared.samplers.Sampler.{Sampler}
 use Rattle.vl_replay.specs.inner.Played.{AreNear}
 
-module _ (items lent : List Sampler) (i : ℕ) (d : Sampler) (same : lent ≡ items) where
+module _ (items : List Sampler) (i : ℕ) (d : Sampler) where
   abbrev here : Sampler
-  here = slice_index_or lent i d
+  here = slice_index_or items i d
 
   further : (P : Sampler → Type 0) → P here → ((place : ℕ) (sampler : Sampler) → slice_get items place ≡ Some sampler → place < i → P sampler)
       → (place : ℕ) (sampler : Sampler) → slice_get items place ≡ Some sampler → place < i + 1 → P sampler
@@ -17,7 +17,7 @@ module _ (items lent : List Sampler) (i : ℕ) (d : Sampler) (same : lent ≡ it
       (λ (most : i ≤ place).
       let e : place ≡ i = omega (arith, most, below) in
       let found = get_or_from_slice_get items i sampler d (subst (λ k. slice_get items k ≡ Some sampler) e at) in
-      subst P (ap (λ xs. slice_index_or xs i d) same ∙ found) now)
+      subst P found now)
       (cases_lt place i)
 
   pub least-further : (old new : ℕ) → new ≡ min here.delay old → ((place : ℕ) (sampler : Sampler) → slice_get items place ≡ Some sampler → place < i → old ≤ sampler.delay)
@@ -30,7 +30,7 @@ module _ (items lent : List Sampler) (i : ℕ) (d : Sampler) (same : lent ≡ it
   most-further old new is before =
       further (λ sampler. sampler.delay ≤ new) (omega (arith, is)) (λ place sampler at below. let most = before place sampler at below in omega (arith, is, most))
 
-  pub few-further : (old new : ℕ) → new ≡ max here.delay old → i < length lent → AreNear items → old ≤ most_latency → new ≤ most_latency
+  pub few-further : (old new : ℕ) → new ≡ max here.delay old → i < length items → AreNear items → old ≤ most_latency → new ≤ most_latency
   few-further old new is low near few =
-      let late = near.delay i here (subst (λ xs. slice_get xs i ≡ Some here) same (slice_get-get_or lent i d low)) in
+      let late = near.delay i here (slice_get-get_or items i d low) in
       omega (arith, is, late, few)

@@ -100,8 +100,9 @@ module _ (m : Module) (score : Score) (is : IsScoreOf m score) where
   pub samplers-step : (place : ℕ) (sampler : Sampler) → slice_get score.samplers.items place ≡ Some sampler → 0 < sampler.period
   samplers-step place sampler e = mapped-back (sampler_of (clocks_of m)) (λ (s : Sampler). 0 < s.period) (output_ports m) (λ port. let s = (step-some port).0 in omega (arith, s)) place sampler (ap (λ xs. slice_get xs place) (sym is.samplers) ∙ e)
 
-  pub samplers-near : AreNear score.samplers.items
-  samplers-near = record {
-    delay = λ place sampler e. mapped-back (sampler_of (clocks_of m)) (λ (s : Sampler). s.delay ≤ most_latency) (output_ports m)
-        (λ port. let l = late-few port in let d = div-le_self (lateness_of port) (clocks_of m) in omega (arith, l, d)) place sampler (ap (λ xs. slice_get xs place) (sym is.samplers) ∙ e);
-  }
+-- samplers of outputs are near, whatever the clocks of a sample
+pub samplers-near : (cycles : ℕ) (ports : List Port) (samplers : List Sampler) → samplers ≡ map (sampler_of cycles) ports → AreNear samplers
+samplers-near cycles ports samplers is = record {
+  delay = λ place sampler e. mapped-back (sampler_of cycles) (λ (s : Sampler). s.delay ≤ most_latency) ports
+      (λ port. let l = late-few port in let d = div-le_self (lateness_of port) cycles in omega (arith, l, d)) place sampler (ap (λ xs. slice_get xs place) (sym is) ∙ e);
+}

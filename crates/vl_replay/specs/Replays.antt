@@ -6,7 +6,7 @@ use Rattle.vl_ast.specs.declared.modules.Module.{Module}
 use Rattle.vl_ast.specs.Windows.{Sample}
 use Rattle.vl_eval.specs.Machine.{source_of}
 use Rattle.vl_replay.specs.declared.replay.Replay.{Replay}
-use Rattle.vl_replay.specs.inner.Played.{IsDelay, IsPlayed, IsWindow}
+use Rattle.vl_replay.specs.inner.Played.{IsPlayed}
 
 -- the module of its machine
 abbrev pub module_of : Replay → Module
@@ -21,7 +21,5 @@ stimulus_of replay = replay.score.stimulus
 pub record StandsBefore (replay : Replay) (t : Sample) : Type 0 where
   pub few : replay.score.stimulus.lines ≤ most_cells
   pub wide : length replay.bits.items ≡ length replay.score.drivers.items
-  pub delay : IsDelay replay.score replay.delay
-  pub window : IsWindow replay.score replay.delay replay.window
-  pub played : IsPlayed replay.score replay.window
-      ((t + replay.delay) * replay.score.cycles) replay.machine replay.cells.items
+  pub played : IsPlayed replay.score replay.score.window
+      ((t + replay.score.delay) * replay.score.cycles) replay.machine replay.cells.items

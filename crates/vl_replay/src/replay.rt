@@ -7,7 +7,7 @@ ghost use Rattle.vl_ast.specs.Windows.{Sample};
 ghost use Rattle.vl_eval.specs.Machine.{IsReady, row_of, source_of};
 ghost use Rattle.vl_replay.specs.Sampled.{Sampled, numbers_of};
 
-use crate::playing::{Score, delay_of, play_sample, score_of, window_of};
+use crate::playing::{Score, play_sample, score_of};
 use crate::resting::play_ahead;
 use crate::samplers::start_of;
 use fx_io::OutOfMemory;
@@ -26,10 +26,6 @@ pub struct Replay {
     bits: Vec<u128>,
     /// The numbers of the outputs: a ring of rows, in which a sample has the row of its remainder.
     cells: Vec<i128>,
-    /// The rows of the ring.
-    window: u64,
-    /// By how many samples the last number of a sample comes late.
-    delay: u64,
 }
 
 impl Replay {
@@ -60,15 +56,11 @@ impl Replay {
                 return Err(wanting);
             }
         };
-        let delay = delay_of(&score);
-        let window = window_of(&score, delay);
         let mut replay = Replay {
             machine,
             score,
             bits: Vec::new(alloc),
             cells: Vec::new(alloc),
-            window,
-            delay,
         };
         match replay.begin(alloc) {
             Ok(()) => Ok(replay),
@@ -86,8 +78,6 @@ impl Replay {
             score,
             bits,
             cells,
-            window: _,
-            delay: _,
         } = self;
         machine.discard();
         drop(score);
@@ -104,13 +94,13 @@ impl Replay {
     {
         self.bits.resize(self.score.drivers.len(), 0)?;
         self.cells
-            .resize(self.window as usize * self.score.samplers.len(), 0)?;
+            .resize(self.score.window as usize * self.score.samplers.len(), 0)?;
+        let delay = self.score.delay;
         play_ahead(
             alloc,
             &mut self.machine,
             &self.score,
-            self.window,
-            self.delay,
+            delay,
             &mut self.bits,
             &mut self.cells,
         )
@@ -124,11 +114,11 @@ impl Replay {
         ensures source { module_of self.new ≡ module_of self.old }
         ensures stimulus { stimulus_of self.new ≡ stimulus_of self.old }
     {
+        let played = sample + self.score.delay;
         play_sample(
             &mut self.machine,
             &self.score,
-            self.window,
-            sample + self.delay,
+            played,
             &mut self.bits,
             &mut self.cells,
         );
@@ -147,7 +137,7 @@ impl Replay {
         steps_run();
         one_run();
         let outputs = self.score.samplers.len();
-        let start = start_of(self.window, outputs, sample);
+        let start = start_of(self.score.window, outputs, sample);
         &self.cells[start..start + outputs]
     }
 }

@@ -132,24 +132,23 @@ pub fn play_ahead(
     alloc: Global,
     machine: &mut Machine,
     score: &Score,
-    window: u64,
     span: u64,
     bits: &mut [u128],
     cells: &mut [i128],
 ) -> Result<(), OutOfMemory>
-    requires begins { CanPlay machine.old score.now window bits.old cells.old }
+    requires begins { CanPlay machine.old score.now score.now.window bits.old cells.old }
     requires few { score.now.stimulus.lines ≤ most_cells }
     requires late { span ≤ most_latency }
     ensures played { IfOk result (λ done.
-        IsPlayed score.now window (span * score.now.cycles) machine.new cells.new) }
+        IsPlayed score.now score.now.window (span * score.now.cycles) machine.new cells.new) }
     ensures source { source_of machine.new ≡ source_of machine.old }
 {
     let quiet = quiet_from(score, span);
     if span <= quiet + FEW {
-        play(machine, score, window, span, bits, cells);
+        play(machine, score, span, bits, cells);
         return Ok(());
     }
-    play(machine, score, window, quiet, bits, cells);
+    play(machine, score, quiet, bits, cells);
     let mut kept = machine.snapshot(alloc)?;
     put_bits(score.drivers.as_slice(), &score.stimulus, quiet, bits);
     rest(machine, (span - quiet) * score.cycles, bits, &mut kept);

@@ -6,7 +6,7 @@ use Rattle.vl_ast.specs.Steps.{IsFirstRow}
 use Rattle.vl_eval.specs.Machine.{IsReady, row_of}
 use Rattle.vl_replay.specs.declared.replay.Replay.{Replay}
 use Rattle.vl_replay.specs.Replays.{module_of, stimulus_of}
-use Rattle.vl_replay.specs.inner.Played.{IsDelay, IsScoreOf, IsWindow}
+use Rattle.vl_replay.specs.inner.Played.{IsScoreOf}
 
 -- its machine is in row 0, and its score is that of the machine's module
 pub record CanBegin (replay : Replay) : Type 0 where
@@ -15,5 +15,3 @@ pub record CanBegin (replay : Replay) : Type 0 where
   pub outputs : length (output_ports (module_of replay)) < 2 ^ 32
   pub score : IsScoreOf (module_of replay) replay.score
   pub few : (stimulus_of replay).lines ≤ most_cells
-  pub delay : IsDelay replay.score replay.delay
-  pub window : IsWindow replay.score replay.delay replay.window

@@ -17,6 +17,20 @@ use Rattle.vl_replay.specs.Sampled.{hit_at, numbers_of}
 use Rattle.vl_replay.specs.inner.Driving.{drivers_from, inputs_of}
 use Rattle.vl_replay.specs.inner.Sampling.{cell_of, sampler_of}
 
+-- no number of so many samples is sampled more samples late; with no samples there are none
+pub record IsDelay (samplers : List Sampler) (samples delay : ℕ) : Type 0 where
+  pub few : delay ≤ most_latency
+  pub most : (place : ℕ) (sampler : Sampler) → slice_get samplers place ≡ Some sampler
+      → 0 < samples → sampler.delay ≤ delay
+
+-- a ring of so many rows holds the numbers of a sample until all of them are sampled: its row is
+-- another's only once that one's number is sampled, by each sampler's own delay
+pub record IsWindow (samplers : List Sampler) (samples delay window : ℕ) : Type 0 where
+  pub some : 0 < window
+  pub few : window ≤ most_latency + 1
+  pub wide : (place : ℕ) (sampler : Sampler) → slice_get samplers place ≡ Some sampler
+      → window < samples → delay < window + sampler.delay
+
 -- a score of a module that breaks no condition
 pub record IsScoreOf (m : Module) (score : Score) : Type 0 where
   pub sound : BreaksNone m
@@ -24,6 +38,8 @@ pub record IsScoreOf (m : Module) (score : Score) : Type 0 where
   pub cycles : score.cycles ≡ clocks_of m
   pub drivers : score.drivers.items ≡ drivers_from (is_stallable m) 0 (driven_ports m)
   pub samplers : score.samplers.items ≡ map (sampler_of (clocks_of m)) (output_ports m)
+  pub delay : IsDelay score.samplers.items score.stimulus.lines score.delay
+  pub window : IsWindow score.samplers.items score.stimulus.lines score.delay score.window
 
 -- in a ring of so many rows the cells whose clocks are among so many have the numbers of their
 -- hits, until another sample's number is put there
@@ -64,17 +80,3 @@ pub record IsPlayed (score : Score) (window clocks : ℕ) (machine : Machine)
 pub record AreNear (samplers : List Sampler) : Type 0 where
   pub delay : (place : ℕ) (sampler : Sampler) → slice_get samplers place ≡ Some sampler
       → sampler.delay ≤ most_latency
-
--- no number is sampled more samples late; with no samples there are none
-pub record IsDelay (score : Score) (delay : ℕ) : Type 0 where
-  pub few : delay ≤ most_latency
-  pub most : (place : ℕ) (sampler : Sampler) → slice_get score.samplers.items place ≡ Some sampler
-      → 0 < score.stimulus.lines → sampler.delay ≤ delay
-
--- a ring of so many rows holds the numbers of a sample until all of them are sampled: its row is
--- another's only once that one's number is sampled, by each sampler's own delay
-pub record IsWindow (score : Score) (delay window : ℕ) : Type 0 where
-  pub some : 0 < window
-  pub few : window ≤ most_latency + 1
-  pub wide : (place : ℕ) (sampler : Sampler) → slice_get score.samplers.items place ≡ Some sampler
-      → window < score.stimulus.lines → delay < window + sampler.delay

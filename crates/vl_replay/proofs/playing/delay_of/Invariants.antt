@@ -6,5 +6,5 @@ use Rattle.vl_replay.proofs.playing.delay_of.Given as goal
 abbrev pub invariant-loop-sampler : goal.invariant-loop-sampler
 invariant-loop-sampler l = record {
   few : l.delay ≤ most_latency;
-  most : (place : ℕ) (sampler : Sampler) → slice_get l.score.samplers.items place ≡ Some sampler → place < l.sampler-index → sampler.delay ≤ l.delay;
+  most : (place : ℕ) (sampler : Sampler) → slice_get l.samplers place ≡ Some sampler → place < l.sampler-index → sampler.delay ≤ l.delay;
 }

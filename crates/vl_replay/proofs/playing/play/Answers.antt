@@ -24,9 +24,9 @@ pub loop-sample-init : goal.loop-sample-init
 loop-sample-init c =
     let start : 0 ≡ 0 * c.args.score.now.cycles = omega arith in
     let are = subst (λ (xs : List Driver). AreBits reset_bits xs (length xs) c.put_reset.new.bits) c.as_slice.ensures.value c.put_reset.ensures in
-    let played = begun c.args.score.now c.args.window c.args.machine.now c.edge.new.self c.put_reset.new.bits c.args.cells.now c.requires.some c.requires.is c.edge.ensures.source c.edge.ensures.ready c.requires.row are c.edge.ensures.row c.requires.room in
+    let played = begun c.args.score.now c.args.score.now.window c.args.machine.now c.edge.new.self c.put_reset.new.bits c.args.cells.now c.requires.some c.requires.is c.edge.ensures.source c.edge.ensures.ready c.requires.row are c.edge.ensures.row c.requires.room in
     record {
-      played = subst (λ clocks. IsPlayed c.args.score.now c.args.window clocks c.edge.new.self c.args.cells.now) start played;
+      played = subst (λ clocks. IsPlayed c.args.score.now c.args.score.now.window clocks c.edge.new.self c.args.cells.now) start played;
       wide = c.put_reset.auto.bits ∙ c.requires.wide;
       source = c.edge.ensures.source;
     }
@@ -37,7 +37,7 @@ loop-sample-preserved c =
     let cycles = c.args.score.now.cycles in
     let next = sym (suc-mul sample cycles) ∙ ap (λ n. n * cycles) (suc-eq-add-one sample) in
     record {
-      played = subst (λ clocks. IsPlayed c.args.score.now c.args.window clocks c.play_sample.new.machine c.play_sample.new.cells) next c.play_sample.ensures.played;
+      played = subst (λ clocks. IsPlayed c.args.score.now c.args.score.now.window clocks c.play_sample.new.machine c.play_sample.new.cells) next c.play_sample.ensures.played;
       wide = c.play_sample.ensures.wide;
       source = c.play_sample.ensures.source ∙ c.loop-sample.invariant.source;
     }
@@ -58,6 +58,6 @@ returns c =
     let least : c.args.span ≤ sample = c.loop-sample-test.false in
     let all : sample ≡ c.args.span = omega (arith, most, least) in
     record {
-      played = subst (λ n. IsPlayed c.args.score.now c.args.window (n * c.args.score.now.cycles) c.loop-sample.machine c.loop-sample.cells) all c.loop-sample.invariant.played;
+      played = subst (λ n. IsPlayed c.args.score.now c.args.score.now.window (n * c.args.score.now.cycles) c.loop-sample.machine c.loop-sample.cells) all c.loop-sample.invariant.played;
       source = c.loop-sample.invariant.source;
     }

@@ -5,7 +5,7 @@ use Rattle.vl_replay.proofs.playing.play.Given as goal
 
 abbrev pub invariant-loop-sample : goal.invariant-loop-sample
 invariant-loop-sample l = record {
-  played : IsPlayed l.score l.window (l.sample * l.score.cycles) l.machine l.cells;
+  played : IsPlayed l.score l.score.window (l.sample * l.score.cycles) l.machine l.cells;
   wide : length l.bits ≡ length l.score.drivers.items;
   source : source_of l.machine ≡ source_of l.fn.machine;
 }

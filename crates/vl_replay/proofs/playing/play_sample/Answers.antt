@@ -16,7 +16,7 @@ loop-phase-init c =
     let before = c.args.sample * c.args.score.now.cycles in
     let start : before ≡ before + 0 = omega arith in
     record {
-      played = subst (λ (clocks : ℕ). IsPlayed c.args.score.now c.args.window clocks c.args.machine.now c.args.cells.now) start c.requires.played;
+      played = subst (λ (clocks : ℕ). IsPlayed c.args.score.now c.args.score.now.window clocks c.args.machine.now c.args.cells.now) start c.requires.played;
       source = refl;
     }
 
@@ -26,7 +26,7 @@ loop-phase-preserved c =
     let phase = c.loop-phase.phase in
     let next : before + phase + 1 ≡ before + (phase + 1) = omega arith in
     record {
-      played = subst (λ (clocks : ℕ). IsPlayed c.args.score.now c.args.window clocks c.step.new.machine c.step.new.cells) next c.step.ensures.played;
+      played = subst (λ (clocks : ℕ). IsPlayed c.args.score.now c.args.score.now.window clocks c.step.new.machine c.step.new.cells) next c.step.ensures.played;
       source = c.step.ensures.source ∙ c.loop-phase.invariant.source;
     }
 
@@ -47,7 +47,7 @@ returns c =
     let least : cycles ≤ phase = c.loop-phase-test.false in
     let all : phase ≡ cycles = omega (arith, most, least) in
     record {
-      played = subst (λ (n : ℕ). IsPlayed c.args.score.now c.args.window (c.args.sample * cycles + n) c.loop-phase.machine c.loop-phase.cells) all c.loop-phase.invariant.played;
+      played = subst (λ (n : ℕ). IsPlayed c.args.score.now c.args.score.now.window (c.args.sample * cycles + n) c.loop-phase.machine c.loop-phase.cells) all c.loop-phase.invariant.played;
       wide = c.put_bits.auto.bits ∙ c.requires.wide;
       source = c.loop-phase.invariant.source;
     }

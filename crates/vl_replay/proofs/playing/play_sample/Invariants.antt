@@ -5,6 +5,6 @@ use Rattle.vl_replay.proofs.playing.play_sample.Given as goal
 
 abbrev pub invariant-loop-phase : goal.invariant-loop-phase
 invariant-loop-phase l = record {
-  played : IsPlayed l.score l.window (l.sample * l.score.cycles + l.phase) l.machine l.cells;
+  played : IsPlayed l.score l.score.window (l.sample * l.score.cycles + l.phase) l.machine l.cells;
   source : source_of l.machine ≡ source_of l.fn.machine;
 }

@@ -28,13 +28,13 @@ put_numbers-requires c =
       outputs = many ∙ ap (λ (m : Module). length (output_ports m)) (sym c.edge.ensures.source);
       periods = λ place sampler e. samplers-step m score played.score_is place sampler (ap (λ (xs : List Sampler). slice_get xs place) (sym c.as_slice.ensures.value) ∙ e);
       some = played.some;
-      room = played.have.long ∙ ap (λ (n : ℕ). c.args.window * n) (sym many);
+      room = played.have.long ∙ ap (λ (n : ℕ). c.args.score.now.window * n) (sym many);
     }
 
 pub returns-clause-played : goal.returns-clause-played
 returns-clause-played c =
-    let put = subst (λ (xs : List Sampler). ArePut (number_at (source_of c.edge.new.self) (row_of c.edge.new.self)) xs c.count.result c.args.window c.args.sample c.args.phase (length xs) c.args.cells.now c.put_numbers.new.cells) c.as_slice.ensures.value c.put_numbers.ensures in
-    played-more c.args.score.now c.args.window c.args.sample c.args.phase c.args.machine.now c.edge.new.self c.args.bits.now c.args.cells.now c.put_numbers.new.cells c.requires.played c.requires.phase c.requires.bits
+    let put = subst (λ (xs : List Sampler). ArePut (number_at (source_of c.edge.new.self) (row_of c.edge.new.self)) xs c.count.result c.args.score.now.window c.args.sample c.args.phase (length xs) c.args.cells.now c.put_numbers.new.cells) c.as_slice.ensures.value c.put_numbers.ensures in
+    played-more c.args.score.now c.args.score.now.window c.args.sample c.args.phase c.args.machine.now c.edge.new.self c.args.bits.now c.args.cells.now c.put_numbers.new.cells c.requires.played c.requires.phase c.requires.bits
     c.edge.ensures.source c.edge.ensures.ready c.edge.ensures.row (rw c.count.ensures at put)
 
 pub edge-requires-clause-ready : goal.edge-requires-clause-ready

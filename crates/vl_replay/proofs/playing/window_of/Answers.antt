@@ -8,5 +8,5 @@ loop-sampler-preserved c =
     let less = c.min-earliest.ensures in
     record {
       most = (let most = old.most in omega (arith, most, less));
-      least = least-further c.args.score.now.samplers.items c.as_slice-sampler-items.result.now c.loop-sampler.sampler-index _ c.as_slice-sampler-items.ensures.value c.loop-sampler.earliest c.min-earliest.result less old.least;
+      least = least-further c.args.samplers.now c.loop-sampler.sampler-index _ c.loop-sampler.earliest c.min-earliest.result less old.least;
     }

@@ -5,5 +5,5 @@ use Rattle.vl_replay.proofs.playing.window_of.Given as goal
 abbrev pub invariant-loop-sampler : goal.invariant-loop-sampler
 invariant-loop-sampler l = record {
   most : l.earliest ≤ l.fn.delay;
-  least : (place : ℕ) (sampler : Sampler) → slice_get l.score.samplers.items place ≡ Some sampler → place < l.sampler-index → l.earliest ≤ sampler.delay;
+  least : (place : ℕ) (sampler : Sampler) → slice_get l.samplers place ≡ Some sampler → place < l.sampler-index → l.earliest ≤ sampler.delay;
 }

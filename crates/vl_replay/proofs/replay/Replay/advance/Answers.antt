@@ -13,13 +13,11 @@ returns-clause-stands c =
     let stands = c.requires.stands in
     let later = c.play_sample.ensures.played in
     let long : length c.play_sample.new.cells ≡ replay.cells.len =
-    later.have.long ∙ ap (λ (m : Module). replay.window * length (output_ports m)) c.play_sample.ensures.source ∙ sym stands.played.have.long ∙ sym replay.cells.ok.0 in
+    later.have.long ∙ ap (λ (m : Module). score.window * length (output_ports m)) c.play_sample.ensures.source ∙ sym stands.played.have.long ∙ sym replay.cells.ok.0 in
     let many : length c.play_sample.new.bits ≡ replay.bits.len = c.play_sample.ensures.wide ∙ sym stands.wide ∙ sym replay.bits.ok.0 in
     record {
       few = stands.few;
       wide = ap length (with_items_is replay.bits c.play_sample.new.bits many) ∙ c.play_sample.ensures.wide;
-      delay = stands.delay;
-      window = stands.window;
-      played = subst (λ (cells : List ℤ). IsPlayed score replay.window ((c.args.sample + 1 + replay.delay) * score.cycles) c.play_sample.new.machine cells) (sym (with_items_is replay.cells c.play_sample.new.cells long))
-          (subst (λ (clocks : ℕ). IsPlayed score replay.window clocks c.play_sample.new.machine c.play_sample.new.cells) (more-clocks c.args.sample replay.delay score.cycles) later);
+      played = subst (λ (cells : List ℤ). IsPlayed score score.window ((c.args.sample + 1 + score.delay) * score.cycles) c.play_sample.new.machine cells) (sym (with_items_is replay.cells c.play_sample.new.cells long))
+          (subst (λ (clocks : ℕ). IsPlayed score score.window clocks c.play_sample.new.machine c.play_sample.new.cells) (more-clocks c.args.sample score.delay score.cycles) later);
     }

@@ -20,7 +20,7 @@ overflow_mul-self c =
     let replay = c.args.self.now in
     let many = c.len-2.ensures ∙ replay.score.samplers.ok.0 ∙ samplers-many (source_of replay.machine) replay.score c.requires.score in
     let few = c.requires.outputs in
-    let le : replay.window * c.len-2.result ≤ 16777217 * c.len-2.result = mul-le-mul_right c.len-2.result c.requires.window.few in
+    let le : replay.score.window * c.len-2.result ≤ 16777217 * c.len-2.result = mul-le-mul_right c.len-2.result c.requires.score.window.few in
     omega (arith, le, many, few)
 
 pub play_ahead-requires : goal.play_ahead-requires
@@ -32,12 +32,12 @@ play_ahead-requires c =
         ready = c.requires.ready;
         is = c.requires.score;
         row = c.requires.row;
-        some = c.requires.window.some;
-        room = c.deref_mut-2.ensures.len ∙ c.in_ok-resize-2.ensures.len ∙ ap (λ (n : ℕ). replay.window * n) (c.len-2.ensures ∙ score.samplers.ok.0);
+        some = c.requires.score.window.some;
+        room = c.deref_mut-2.ensures.len ∙ c.in_ok-resize-2.ensures.len ∙ ap (λ (n : ℕ). replay.score.window * n) (c.len-2.ensures ∙ score.samplers.ok.0);
         wide = c.deref_mut.ensures.len ∙ c.in_ok-resize.ensures.len ∙ c.len.ensures ∙ score.drivers.ok.0;
       };
       few = c.requires.few;
-      late = c.requires.delay.few;
+      late = c.requires.score.delay.few;
     }
 
 pub returns-clause-stands : goal.returns-clause-stands
@@ -48,15 +48,13 @@ returns-clause-stands c =
     let cells = c.resize-2.new.self in
     let many : length c.play_ahead.new.bits ≡ bits.len = c.play_ahead.auto.bits ∙ c.deref_mut.ensures.len in
     let long : length c.play_ahead.new.cells ≡ cells.len = c.play_ahead.auto.cells ∙ c.deref_mut-2.ensures.len in
-    let first : replay.delay ≡ 0 + replay.delay = omega arith in
+    let first : score.delay ≡ 0 + score.delay = omega arith in
     on-ok c.play_ahead.result
-    (λ (played : IsPlayed score replay.window (replay.delay * score.cycles) c.play_ahead.new.machine c.play_ahead.new.cells). record {
+    (λ (played : IsPlayed score replay.score.window (score.delay * score.cycles) c.play_ahead.new.machine c.play_ahead.new.cells). record {
       few = c.requires.few;
       wide = ap length (with_items_is bits c.play_ahead.new.bits many) ∙ many ∙ c.in_ok-resize.ensures.len ∙ c.len.ensures ∙ score.drivers.ok.0;
-      delay = c.requires.delay;
-      window = c.requires.window;
-      played = subst (λ (items : List ℤ). IsPlayed score replay.window ((0 + replay.delay) * score.cycles) c.play_ahead.new.machine items) (sym (with_items_is cells c.play_ahead.new.cells long))
-          (subst (λ (n : ℕ). IsPlayed score replay.window (n * score.cycles) c.play_ahead.new.machine c.play_ahead.new.cells) first played);
+      played = subst (λ (items : List ℤ). IsPlayed score replay.score.window ((0 + score.delay) * score.cycles) c.play_ahead.new.machine items) (sym (with_items_is cells c.play_ahead.new.cells long))
+          (subst (λ (n : ℕ). IsPlayed score replay.score.window (n * score.cycles) c.play_ahead.new.machine c.play_ahead.new.cells) first played);
     })
     c.play_ahead.ensures.played
 

@@ -3,20 +3,13 @@ use Rattle.fx_tables.specs.declared.table.Rows.{Rows as Table}
 use Rattle.vl_ast.specs.declared.modules.Module.{Module}
 use Rattle.vl_ast.specs.Conditions.{BreaksNone}
 use Rattle.vl_ast.specs.Driven.{stimulus_ports}
-use Rattle.vl_eval.specs.Machine.{source_of}
 use Rattle.vl_replay.specs.inner.Played.{IsScoreOf}
-use Rattle.vl_replay.proofs.Scores.{samplers-near}
 use Rattle.vl_replay.proofs.replay.Replay.new.Goals as goal
 
 pub score_of-requires : goal.score_of-requires
 score_of-requires c = record {
   sound = subst (λ (m : Module). BreaksNone m) (sym c.module.ensures) c.requires.sound;
   columns = subst (λ (m : Module). c.args.stimulus.columns ≡ length (stimulus_ports m)) (sym c.module.ensures) c.requires.columns;
-}
-
-pub delay_of-delay-requires : goal.delay_of-delay-requires
-delay_of-delay-requires c = record {
-  late = samplers-near (source_of c.args.machine) c.in-Ok.score (subst (λ (m : Module). IsScoreOf m c.in-Ok.score) c.module.ensures c.in-Ok.ensures.score);
 }
 
 pub begin-requires : goal.begin-requires
@@ -28,6 +21,4 @@ begin-requires c =
       outputs = c.requires.outputs;
       score = subst (λ (m : Module). IsScoreOf m c.in-Ok.score) c.module.ensures c.in-Ok.ensures.score;
       few = let few = c.requires.few in omega (arith, few, lines);
-      delay = c.delay_of-delay.ensures;
-      window = c.window_of-window.ensures;
     }

@@ -7,16 +7,16 @@ use Rattle.vl_replay.proofs.Shown.{shown-is, shown-long}
 use Rattle.vl_replay.proofs.replay.Replay.row.Goals as goal
 
 -- what is lent is the sample's row of the ring
-row-of : (replay : Replay) (sample start outputs : ℕ) (cells : List ℤ) → outputs ≡ length replay.score.samplers.items → start ≡ sample % replay.window * outputs → cells ≡ replay.cells.items
-    → take (start + outputs - start) (drop start cells) ≡ take (length replay.score.samplers.items) (drop (sample % replay.window * length replay.score.samplers.items) replay.cells.items)
+row-of : (replay : Replay) (sample start outputs : ℕ) (cells : List ℤ) → outputs ≡ length replay.score.samplers.items → start ≡ sample % replay.score.window * outputs → cells ≡ replay.cells.items
+    → take (start + outputs - start) (drop start cells) ≡ take (length replay.score.samplers.items) (drop (sample % replay.score.window * length replay.score.samplers.items) replay.cells.items)
 row-of replay sample start outputs cells many begins is =
     let all : start + outputs - start ≡ outputs = omega arith in
-    λ i. take ((all ∙ many) i) (drop ((begins ∙ ap (λ k. sample % replay.window * k) many) i) (is i))
+    λ i. take ((all ∙ many) i) (drop ((begins ∙ ap (λ k. sample % replay.score.window * k) many) i) (is i))
 
 -- and stands in it
-row-within : (replay : Replay) (sample : ℕ) → StandsBefore replay sample → (cells : List ℤ) (start outputs : ℕ) → cells ≡ replay.cells.items → outputs ≡ length replay.score.samplers.items → start + outputs ≤ replay.window * outputs → start + outputs ≤ length cells
+row-within : (replay : Replay) (sample : ℕ) → StandsBefore replay sample → (cells : List ℤ) (start outputs : ℕ) → cells ≡ replay.cells.items → outputs ≡ length replay.score.samplers.items → start + outputs ≤ replay.score.window * outputs → start + outputs ≤ length cells
 row-within replay sample stands cells start outputs is many within =
-    let long = ap length is ∙ stands.played.have.long ∙ ap (λ (n : ℕ). replay.window * n) (sym (many ∙ samplers-many (source_of replay.machine) replay.score stands.played.score_is)) in
+    let long = ap length is ∙ stands.played.have.long ∙ ap (λ (n : ℕ). replay.score.window * n) (sym (many ∙ samplers-many (source_of replay.machine) replay.score stands.played.score_is)) in
     omega (arith, long, within)
 
 pub returns-clause-sampled : goal.returns-clause-sampled
@@ -25,7 +25,7 @@ returns-clause-sampled c = λ table is.
     let stands = c.requires.stands in
     let played = stands.played in
     row-of replay c.args.sample c.start_of-start.result c.len-outputs.result c.deref.result.now (c.len-outputs.ensures ∙ replay.score.samplers.ok.0) c.start_of-start.ensures.start c.deref.ensures.value
-    ∙ shown-is c.one_run.ensures.one c.steps_run.ensures (source_of replay.machine) replay.score replay.window replay.delay c.args.sample played.score_is stands.delay stands.window played.rows replay.cells.items
+    ∙ shown-is c.one_run.ensures.one c.steps_run.ensures (source_of replay.machine) replay.score replay.score.window replay.score.delay c.args.sample played.score_is played.score_is.delay played.score_is.window played.rows replay.cells.items
     c.requires.within played.steps played.have table is
 
 pub returns-clause-long : goal.returns-clause-long
@@ -34,11 +34,11 @@ returns-clause-long c =
     let stands = c.requires.stands in
     let played = stands.played in
     ap length (row-of replay c.args.sample c.start_of-start.result c.len-outputs.result c.deref.result.now (c.len-outputs.ensures ∙ replay.score.samplers.ok.0) c.start_of-start.ensures.start c.deref.ensures.value)
-    ∙ shown-long c.one_run.ensures.one c.steps_run.ensures (source_of replay.machine) replay.score replay.window replay.delay c.args.sample played.score_is stands.delay stands.window played.rows replay.cells.items
+    ∙ shown-long c.one_run.ensures.one c.steps_run.ensures (source_of replay.machine) replay.score replay.score.window replay.score.delay c.args.sample played.score_is played.score_is.delay played.score_is.window played.rows replay.cells.items
     c.requires.within played.steps played.have
 
 pub start_of-start-requires-clause-some : goal.start_of-start-requires-clause-some
-start_of-start-requires-clause-some c = c.requires.stands.window.some
+start_of-start-requires-clause-some c = c.requires.stands.played.some
 
 pub slice_bounds-result-count : goal.slice_bounds-result-count
 slice_bounds-result-count c = omega arith
