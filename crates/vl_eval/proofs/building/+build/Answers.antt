@@ -38,8 +38,7 @@ build_unary-mask_of-requires t c = c.requires.most
 pub build_unary-returns : goal.build_unary-returns
 build_unary-returns t c =
     let site = c.args.site.now in
-    behind c.build-slot.ensures c.push.ensures
-    (λ b p. built-unary c.requires.by_layer site.base site.scope.now site.slots.now c.args.op c.args.part.now c.args.ops.now.code c.build-slot.new.ops.code c.push.new.ops.code c.build-slot.result c.push.result c.args.context.length c.mask_of.result c.args.context.signed c.unary_context-inner.result c.requires.sound c.requires.longer c.requires.most c.mask_of.ensures c.unary_context-inner.ensures b (subst (λ o. Pushed site.base c.build-slot.new.ops.code c.push.new.ops.code c.push.result o) c.unary_op.ensures p))
+    behind c.build-slot.ensures c.push.ensures (λ b p. built-unary c.requires.by_layer site.base site.scope.now site.slots.now c.args.op c.args.part.now c.args.ops.now.code c.build-slot.new.ops.code c.push.new.ops.code c.build-slot.result c.push.result c.args.context.length c.mask_of.result c.args.context.signed c.unary_context-inner.result c.requires.sound c.requires.longer c.requires.most c.mask_of.ensures c.unary_context-inner.ensures b (subst (λ o. Pushed site.base c.build-slot.new.ops.code c.push.new.ops.code c.push.result o) c.unary_op.ensures p))
 
 pub build_as_signed-build_alone-own-requires : goal.build_as_signed-build_alone-own-requires
 build_as_signed-build_alone-own-requires t c =
@@ -111,8 +110,7 @@ build_binary-mask_of-requires t c = c.requires.most
 pub build_binary-returns : goal.build_binary-returns
 build_binary-returns t c =
     let site = c.args.site.now in
-    behind (both-fine c.build-first.ensures c.build-second.ensures) c.push.ensures
-    (λ b p. built-binary c.requires.by_layer site.base site.scope.now site.slots.now c.args.op c.args.left.now c.args.right.now c.args.ops.now.code c.build-first.new.ops.code c.build-second.new.ops.code c.push.new.ops.code c.build-first.result c.build-second.result c.push.result c.args.context.length c.mask_of.result c.half_in.result c.args.context.signed c.left_context-on_left.result c.left_context-on_right.result c.requires.sound c.requires.longer c.requires.most c.mask_of.ensures c.left_context-on_left.ensures c.left_context-on_right.ensures c.half_in.ensures b.0 b.1 (subst (λ o. Pushed site.base c.build-second.new.ops.code c.push.new.ops.code c.push.result o) c.binary_op.ensures p))
+    behind (both-fine c.build-first.ensures c.build-second.ensures) c.push.ensures (λ b p. built-binary c.requires.by_layer site.base site.scope.now site.slots.now c.args.op c.args.left.now c.args.right.now c.args.ops.now.code c.build-first.new.ops.code c.build-second.new.ops.code c.push.new.ops.code c.build-first.result c.build-second.result c.push.result c.args.context.length c.mask_of.result c.half_in.result c.args.context.signed c.left_context-on_left.result c.left_context-on_right.result c.requires.sound c.requires.longer c.requires.most c.mask_of.ensures c.left_context-on_left.ensures c.left_context-on_right.ensures c.half_in.ensures b.0 b.1 (subst (λ o. Pushed site.base c.build-second.new.ops.code c.push.new.ops.code c.push.result o) c.binary_op.ensures p))
 
 pub build_choice-build_alone-tested-requires : goal.build_choice-build_alone-tested-requires
 build_choice-build_alone-tested-requires t c =
@@ -135,8 +133,7 @@ pub build_choice-returns : goal.build_choice-returns
 build_choice-returns t c =
     let site = c.args.site.now in
     let own = c.build_alone-tested.ensures in
-    behind (both-fine own.built (both-fine c.build-first.ensures c.build-second.ensures)) c.push.ensures
-    (λ b p. built-choice c.requires.by_layer site.base site.scope.now site.slots.now c.args.test.now c.args.chosen.now c.args.other.now c.args.ops.now.code c.build_alone-tested.new.ops.code c.build-first.new.ops.code c.build-second.new.ops.code c.push.new.ops.code c.build_alone-tested.result.slot c.build-first.result c.build-second.result c.push.result c.args.context.length c.args.context.signed c.build_alone-tested.result.shape own.length own.sign b.0 b.1.0 b.1.1 p)
+    behind (both-fine own.built (both-fine c.build-first.ensures c.build-second.ensures)) c.push.ensures (λ b p. built-choice c.requires.by_layer site.base site.scope.now site.slots.now c.args.test.now c.args.chosen.now c.args.other.now c.args.ops.now.code c.build_alone-tested.new.ops.code c.build-first.new.ops.code c.build-second.new.ops.code c.push.new.ops.code c.build_alone-tested.result.slot c.build-first.result c.build-second.result c.push.result c.args.context.length c.args.context.signed c.build_alone-tested.result.shape own.length own.sign b.0 b.1.0 b.1.1 p)
 
 pub build_shift-build-slot-requires : goal.build_shift-build-slot-requires
 build_shift-build-slot-requires t c =
@@ -153,8 +150,7 @@ build_shift-shift_op-requires t c = c.requires.most
 pub build_shift-returns : goal.build_shift-returns
 build_shift-returns t c =
     let site = c.args.site.now in
-    behind c.build-slot.ensures c.push.ensures
-    (λ b p. built-shift c.requires.by_layer site.base site.scope.now site.slots.now c.args.op c.args.part.now c.args.amount.now c.args.ops.now.code c.build-slot.new.ops.code c.push.new.ops.code c.build-slot.result c.push.result c.args.context.length c.args.context.signed c.requires.sound c.requires.longer c.requires.most b (subst (λ o. Pushed site.base c.build-slot.new.ops.code c.push.new.ops.code c.push.result o) (c.shift_op.ensures ∙ ap (λ (places : ℕ). shift_op c.args.op c.build-slot.result places c.args.context.length c.args.context.signed) c.get.ensures) p))
+    behind c.build-slot.ensures c.push.ensures (λ b p. built-shift c.requires.by_layer site.base site.scope.now site.slots.now c.args.op c.args.part.now c.args.amount.now c.args.ops.now.code c.build-slot.new.ops.code c.push.new.ops.code c.build-slot.result c.push.result c.args.context.length c.args.context.signed c.requires.sound c.requires.longer c.requires.most b (subst (λ o. Pushed site.base c.build-slot.new.ops.code c.push.new.ops.code c.push.result o) (c.shift_op.ensures ∙ ap (λ (places : ℕ). shift_op c.args.op c.build-slot.result places c.args.context.length c.args.context.signed) c.get.ensures) p))
 
 pub build_copies-build_alone-own-requires : goal.build_copies-build_alone-own-requires
 build_copies-build_alone-own-requires t c =
