@@ -1,5 +1,4 @@
 -- An expression's value hangs on the bits of the names that it reads, and on no others. Crates above may cite this file.
--- Crates above may cite this file.
 use Rattle.std.proofs.Common.{◌≡◌, ℕ, max, Bool, ◌&&◌, List, [], ◌∷◌, ◌++◌, map, replicate, Contains, flat_map, refl, sym, ap, subst, ◌∙◌, arith}
 use Rattle.std.specs.Prelude.{fold, if◌then◌else◌, ◌==◌}
 use Rattle.std.proofs.lemmas.List.Elements.{Contains-append_left, Contains-append_right}
