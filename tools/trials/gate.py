@@ -122,6 +122,7 @@ class Wanting(unittest.TestCase):
             "!matches!(fault, F::OutOfMemory)",
             "match g() {\n    Err(SizeFault::OutOfMemory) => return Err(OutOfMemory),\n}",
             "match g() {\n    Err(OutOfMemory) => {\n        drop(a);\n        return Err(F::OutOfMemory);\n    }\n}",
+            "match g() {\n    Err(OutOfMemory) => {\n        a.discard();\n        h::discard(b);\n        Err(F::OutOfMemory)\n    }\n}",
             "}\nimpl From<OutOfMemory> for F {\n    fn from(_refused: OutOfMemory) -> F {\n        F::OutOfMemory\n    }",
         ):
             self.assertEqual(self.ends(line), 0, line)
