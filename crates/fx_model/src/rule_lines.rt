@@ -157,14 +157,8 @@ pub fn push_shown(line: &mut Vec<u8>, shown: &Shown, blocks: &[Block]) -> Result
         Shown::Nothing => Ok(()),
         Shown::Word(word) => push_value(line, b": ", Value::Escaped(word.bytes()), blocks),
         Shown::Periods { own, other } => {
-            push_both(
-                line,
-                b": periods ",
-                Value::Period(*own),
-                b" ",
-                Value::Period(*other),
-                blocks,
-            )
+            let (own, other) = (Value::Period(*own), Value::Period(*other));
+            push_both(line, b": periods ", own, b" ", other, blocks)
         }
         Shown::Cycle { blocks: numbers } => {
             push_value(line, b": cycle", Value::Cycle(numbers.as_slice()), blocks)
@@ -173,36 +167,17 @@ pub fn push_shown(line: &mut Vec<u8>, shown: &Shown, blocks: &[Block]) -> Result
             blocks: numbers,
             total,
         } => {
-            push_both(
-                line,
-                b": total ",
-                Value::Signed(*total),
-                b" cycle",
-                Value::Cycle(numbers.as_slice()),
-                blocks,
-            )
+            let (total, cycle) = (Value::Signed(*total), Value::Cycle(numbers.as_slice()));
+            push_both(line, b": total ", total, b" cycle", cycle, blocks)
         }
         Shown::Budget { period, need, have } => {
-            let period = u64::from(*period);
-            push_both(
-                line,
-                b": period ",
-                Value::Number(period),
-                b" need ",
-                Value::Number(*need),
-                blocks,
-            )?;
+            let (period, need) = (Value::Number(u64::from(*period)), Value::Number(*need));
+            push_both(line, b": period ", period, b" need ", need, blocks)?;
             push_value(line, b" have ", Value::Number(*have), blocks)
         }
         Shown::Size { storage, latency } => {
-            push_both(
-                line,
-                b": storage ",
-                Value::Number(*storage),
-                b" latency ",
-                Value::Number(*latency),
-                blocks,
-            )
+            let (storage, latency) = (Value::Number(*storage), Value::Number(*latency));
+            push_both(line, b": storage ", storage, b" latency ", latency, blocks)
         }
     }
 }
