@@ -74,8 +74,8 @@ struct Timing {
     order: Sizes,
 }
 
-/// The periods of a diagram that keeps the rules of dimensions and types, and the order of its blocks,
-/// or the first of the rules of rates and loops that it breaks.
+/// The periods of a diagram that keeps the rules of dimensions and types, and the order of its
+/// blocks, or the first of the rules of rates and loops that it breaks.
 fn timing_of(alloc: Global, diagram: &Diagram) -> Result<Timing, CheckFault>
     requires wired { IsWired diagram.now }
     requires dimensions { KeepsDimensions diagram.now }

@@ -19,8 +19,7 @@ pub struct Module {
 }
 
 impl Module {
-    /// Frees the module. In a crate above each type whose values go out of scope is proved to be freed
-    /// anew; behind this call none is.
+    /// Frees the module, so that crates above needn't prove how.
     pub fn discard(self) {
         drop(self);
     }

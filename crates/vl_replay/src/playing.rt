@@ -120,7 +120,8 @@ pub fn play_sample(
     bits: &mut [u128],
     cells: &mut [i128],
 )
-    requires played { IsPlayed score.now score.now.window (sample * score.now.cycles) machine.old cells.old }
+    requires played { IsPlayed score.now score.now.window (sample * score.now.cycles) machine.old
+        cells.old }
     requires wide { length bits.old ≡ length score.now.drivers.items }
     ensures played { IsPlayed score.now score.now.window (sample * score.now.cycles
         + score.now.cycles) machine.new cells.new }
@@ -136,7 +137,8 @@ pub fn play_sample(
 /// Passes the row with `reset` and the clocks of so many samples.
 pub fn play(machine: &mut Machine, score: &Score, span: u64, bits: &mut [u128], cells: &mut [i128])
     requires { CanPlay machine.old score.now score.now.window bits.old cells.old }
-    ensures played { IsPlayed score.now score.now.window (span * score.now.cycles) machine.new cells.new }
+    ensures played { IsPlayed score.now score.now.window (span * score.now.cycles) machine.new
+        cells.new }
     ensures source { source_of machine.new ≡ source_of machine.old }
 {
     put_reset(score.drivers.as_slice(), bits);
