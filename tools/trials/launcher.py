@@ -183,11 +183,14 @@ class Launcher(unittest.TestCase):
 
     def test_begins_where_most_waits_and_leaves_no_processor_idle(self):
         write(os.path.join(self.top, "crates.txt"), "large:\nsmall:\nother:\nmiddle: small\nfx_prog: large middle other std\n")
-        for name, lines in (("large", 900), ("small", 100), ("other", 200), ("middle", 300)):
+        for name, lines in (("small", 100), ("other", 200), ("middle", 300)):
             write(os.path.join(self.top, f"crates/{name}/src/lib.rt"), "a line\n" * lines)
-        # (small has middle behind it)
-        self.assertEqual([name for name, _ in self.prove_with_processors(1)], ["large", "small", "middle", "other", "fx_prog"])
-        self.pretend("line", "kit 2\n")
+        # small has middle behind it, and two crates take longer than one, unless that has much more text
+        for kit, lines, first in (("kit 2", 20_000, ["large", "small"]), ("kit 3", 900, ["small", "large"])):
+            self.pretend("line", kit + "\n")
+            write(os.path.join(self.top, "crates/large/src/lib.rt"), "a line\n" * lines)
+            self.assertEqual([name for name, _ in self.prove_with_processors(1)], [*first, "middle", "other", "fx_prog"])
+        self.pretend("line", "kit 4\n")
         self.pretend("meanwhile", "case $crate in large | other) sleep 3 ;; esac")
         self.assertEqual(dict(self.prove_with_processors(4)), {"large": "1", "small": "1", "other": "2", "middle": "1", "fx_prog": "4"})
 
