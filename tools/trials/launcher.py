@@ -51,8 +51,9 @@ echo "logic=proved functions=1$(cat "$PRETENDED/word") statements=trusted"
 # Makes a program of an object file.
 LINK = """#!/bin/sh
 while [ "$1" != -o ]; do shift; done
-[ -f "$3" ] || exit 1
+[ -f "$3" ] || { echo "no object file"; exit 1; }
 echo linked
+echo linked >&2
 printf '#!/bin/sh\\necho "$@"\\n' >"$2"
 chmod +x "$2"
 """
@@ -105,6 +106,7 @@ class Launcher(unittest.TestCase):
         self.pretend("proofs", "")
         done = self.run_with("prove")
         self.assertEqual((done.returncode, done.stdout, [name for name, _ in self.proofs()]), (0, "", [*crates]), done.stderr)
+        self.assertEqual([line for line in done.stderr.splitlines() if not line.startswith("tilecatnip: ")], [])
         return done.stderr
 
     def is_proved(self, **how):
@@ -216,7 +218,10 @@ class Launcher(unittest.TestCase):
         self.pretend("word", " bugs=1")
         self.assertIn("logic=proved functions=1 bugs=1", self.fails(["prove"], "not proved (1 of 3 crates"))
         self.pretend("word", "")
-        self.prove("low", "fx_prog")
+        self.pretend("meanwhile", "[ $crate != fx_prog ] || exit 0")
+        self.assertIn("\nno object file\n", self.fails(["prove"], "could not be linked"))
+        self.pretend("meanwhile", "")
+        self.prove("fx_prog")
         shutil.rmtree(os.path.join(self.top, "crates/fx_prog/out"))
         write(os.path.join(self.top, "crates/fx_prog/out"), "a file where a folder is wanted")
         self.assertEqual(len(self.fails(["prove"], "can't be built").splitlines()), 1)
