@@ -1,13 +1,13 @@
 -- A wave over all changes is a round. Crates above may cite this file.
 use Rattle.std.proofs.Common.{◌≡◌, ℕ, zero, suc, ◌+◌, ◌<◌, Bool, true, false, Some, inl, inr, List, [], ◌∷◌, ◌++◌, length, map, take, drop, eqb, replicate, All, refl, sym, ap, subst, ◌∙◌, arith, ◌≤◌}
-use Rattle.std.specs.Prelude.{set, slice_get}
+use Rattle.std.specs.Prelude.{◌≢◌, set, slice_get}
 use Rattle.std.proofs.lemmas.Bool.{true≢false, false≢true, eqb-true, eqb-false, eq-eqb, or_parts, or_cases, or_left, or_right, or_from, cases_Bool}
 use Rattle.std.proofs.Math.Seq.{take-append_seam}
 use Rattle.std.proofs.lemmas.List.{length-replicate, length-map}
 use Rattle.std.proofs.lemmas.Option.{none-some, same_Some, slice_get_within, get_or_from_slice_get}
 use Rattle.dg_waves.specs.declared.waves.Change.{Change}
 use Rattle.dg_waves.specs.Rounds.{numbers_from, round, after_rounds}
-use Rattle.dg_waves.specs.inner.Waves.{is_in, is_changed, written, Sought, MarkedWait, ReadersMarked, Marked, IsBetween}
+use Rattle.dg_waves.specs.inner.Waves.{is_in, is_changed, written, marked_count, Sought, MarkedWait, ReadersMarked, Marked, IsBetween}
 
 -- ---- lists by their places
 
@@ -79,6 +79,7 @@ pushed_at P (z ∷ xs) x all here (suc k) y at = pushed_at P xs x (λ j w e. all
 pub sought_kept : {A : Type 0} (next : List A → ℕ → A) (values : List A) (changes : List (Change A)) (block : ℕ) (left : List ℕ) → slice_get values block ≡ Some (next values block) → Sought next values changes (block ∷ left) → Sought next values changes left
 sought_kept next values changes block left same sought = record {
   takes = sought.takes;
+  alters = sought.alters;
   keeps = λ other inside unchanged rests.
       elim (cases_Bool (eqb block other)) [
         | inl e ↦ subst (λ (b : ℕ). slice_get values b ≡ Some (next values b)) (eqb-true block other e) same
@@ -87,9 +88,10 @@ sought_kept next values changes block left same sought = record {
 }
 
 -- nor one whose change was found
-pub sought_found : {A : Type 0} (next : List A → ℕ → A) (values : List A) (changes : List (Change A)) (change : Change A) (left : List ℕ) → change.value ≡ next values change.block → Sought next values changes (change.block ∷ left) → Sought next values (changes ++ change ∷ []) left
-sought_found next values changes change left is sought = record {
+pub sought_found : {A : Type 0} (next : List A → ℕ → A) (values : List A) (changes : List (Change A)) (change : Change A) (left : List ℕ) → change.value ≡ next values change.block → slice_get values change.block ≢ Some change.value → Sought next values changes (change.block ∷ left) → Sought next values (changes ++ change ∷ []) left
+sought_found next values changes change left is differs sought = record {
   takes = pushed_at (λ (c : Change _). c.value ≡ next values c.block) changes change sought.takes is;
+  alters = pushed_at (λ (c : Change _). slice_get values c.block ≢ Some c.value) changes change sought.alters differs;
   keeps = λ other inside unchanged rests.
       let parts = is_changed_push changes change other unchanged in
       sought.keeps other inside (parts.0) (or_from (eqb change.block other) (is_in other left) (parts.1) rests);
@@ -165,6 +167,26 @@ marked_same old marks blocks block left here marked = record {
   kept = marked.kept;
 }
 
+-- ---- how many are marked
+
+-- a block that isn't marked counts once it is
+pub counted_more : (marks : List Bool) (block : ℕ) → slice_get marks block ≡ Some false → marked_count (set marks block true) ≡ suc (marked_count marks)
+counted_more [] block is = absurd (none-some false is)
+counted_more (true ∷ marks) zero is = absurd (true≢false (same_Some true false is))
+counted_more (false ∷ marks) zero is = refl
+counted_more (true ∷ marks) (suc block) is = ap suc (counted_more marks block is)
+counted_more (false ∷ marks) (suc block) is = counted_more marks block is
+
+pub none_counted : (marks : List Bool) → MarkedWait marks [] → marked_count marks ≡ 0
+none_counted [] wait = refl
+none_counted (true ∷ marks) wait = absurd (false≢true (wait.waits 0 refl))
+none_counted (false ∷ marks) wait = none_counted marks (record { waits = λ block at. wait.waits (suc block) at })
+
+pub counted_within : (marks : List Bool) → marked_count marks ≤ length marks
+counted_within [] = omega arith
+counted_within (true ∷ marks) = omega (arith, counted_within marks)
+counted_within (false ∷ marks) = omega (arith, counted_within marks)
+
 -- ---- writing the changes
 
 pub readers_marked_more : {A : Type 0} (readers : ℕ → List ℕ) (old marks : List Bool) (changes : List (Change A)) (change : Change A) (left : List (Change A)) → Marked old marks (readers change.block) [] → ReadersMarked readers old changes (change ∷ left) → ReadersMarked readers marks changes left
@@ -213,6 +235,7 @@ pub settled_after : {A : Type 0} (next : List A → ℕ → A) (readers : ℕ �
     Sought next values changes [] → ReadersMarked readers marks changes [] → MarkedWait marks waiting → Sought next (written changes values) [] waiting
 settled_after next readers count changes values marks waiting size marks_size local are marked wait = record {
   takes = λ k change at. absurd (none-some change at);
+  alters = λ k change at. absurd (none-some change at);
   keeps = λ block inside none rests.
       let there : block < length values = omega (arith, length_written changes values) in
       let same : next values block ≡ next (written changes values) block =
@@ -241,6 +264,7 @@ between_first count IsValue next values waiting marks size fit there all none = 
   fit = fit;
   sought = record {
     takes = λ k change at. absurd (none-some change at);
+    alters = λ k change at. absurd (none-some change at);
     keeps = λ block inside unchanged rests. absurd (true≢false (sym (all block inside) ∙ rests));
   };
   wait = record { waits = λ block at. absurd (none_marked (length values) block (ap (λ (bs : List Bool). slice_get bs block) (sym none) ∙ at)) };

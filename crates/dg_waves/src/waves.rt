@@ -1,6 +1,6 @@
-ghost use Rattle.std.specs.Prelude.{◌≡◌, ℕ, ◌^◌, ◌<◌, ◌↔◌, true, List, [], All, length, slice_get, MatchOption, IfOk, OnOk};
+ghost use Rattle.std.specs.Prelude.{◌≡◌, ◌≢◌, ℕ, ◌^◌, ◌<◌, ◌≤◌, ◌↔◌, true, List, [], Some, All, length, slice_get, MatchOption, IfSome, IfOk, OnOk};
 ghost use Rattle.dg_waves.specs.Rounds.{round as round_of, after_rounds as after_rounds_of};
-ghost use Rattle.dg_waves.specs.inner.Waves.{is_in, written, Sought, MarkedWait, ReadersMarked, Marked, IsBetween};
+ghost use Rattle.dg_waves.specs.inner.Waves.{is_in, written, marked_count, Sought, MarkedWait, ReadersMarked, Marked, IsBetween};
 
 use std::alloc::{AllocError, Global};
 
@@ -58,9 +58,10 @@ fn other_value<R: Round>(round: &R, values: &[R::Value], block: u32) -> Option<R
     requires size { length values.now ≡ R.count round.now }
     requires there { block < R.count round.now }
     requires fit { All (R.IsValue round.now) values.now }
-    ensures { MatchOption result (slice_get values.now block
+    ensures next { MatchOption result (slice_get values.now block
         ≡ Some (R.next round.now values.now block))
         (λ value. value ≡ R.next round.now values.now block) }
+    ensures other { IfSome result (λ value. slice_get values.now block ≢ Some value) }
 {
     let value = round.next(values, block);
     if round.is_same(value, values[block as usize]) {
@@ -96,13 +97,15 @@ fn changes<R: Round>(
     Ok(found)
 }
 
-/// Lets blocks wait, each once.
+/// Lets blocks wait, each once: as many wait as are marked.
 fn let_wait(blocks: &[u32], waiting: &mut Vec<u32>, marks: &mut [bool]) -> Result<(), AllocError>
     requires blocks_there { All (λ block. block < length marks.old) blocks.now }
     requires there { All (λ block. block < length marks.old) waiting.old.items }
     requires wait { MarkedWait marks.old waiting.old.items }
+    requires once { length waiting.old.items ≡ marked_count marks.old }
     ensures there { OnOk result (All (λ block. block < length marks.old) waiting.new.items) }
     ensures wait { OnOk result (MarkedWait marks.new waiting.new.items) }
+    ensures once { OnOk result (length waiting.new.items ≡ marked_count marks.new) }
     ensures marked { OnOk result (Marked marks.old marks.new blocks.now []) }
 {
     for block in blocks {
@@ -128,9 +131,11 @@ fn write<R: Round>(
     requires changes_there { All (λ change. change.block < R.count round.now) changes.now }
     requires there { All (λ block. block < R.count round.now) waiting.old.items }
     requires wait { MarkedWait marks.old waiting.old.items }
+    requires once { length waiting.old.items ≡ marked_count marks.old }
     ensures written { OnOk result (values.new ≡ written changes.now values.old) }
     ensures there { OnOk result (All (λ block. block < R.count round.now) waiting.new.items) }
     ensures wait { OnOk result (MarkedWait marks.new waiting.new.items) }
+    ensures once { OnOk result (length waiting.new.items ≡ marked_count marks.new) }
     ensures marked { OnOk result (ReadersMarked (R.readers_of round.now) marks.new changes.now []) }
 {
     for change in changes {
@@ -141,7 +146,7 @@ fn write<R: Round>(
 }
 
 /// One wave: each block that waits takes what it takes in the next round, and the readers of those
-/// that changed wait then.
+/// that changed wait then, no more than there are blocks.
 fn wave<R: Round>(
     alloc: Global,
     round: &R,
@@ -154,6 +159,7 @@ fn wave<R: Round>(
     ensures round { OnOk result (values.new ≡ round_of (R.next round.now) values.old) }
     ensures between { OnOk result (IsBetween (R.count round.now) (R.IsValue round.now)
         (R.next round.now) values.new waiting.new.items marks.new) }
+    ensures few { OnOk result (length waiting.new.items ≤ R.count round.now) }
 {
     let found = changes(alloc, round, values, waiting.as_slice(), marks)?;
     waiting.clear();

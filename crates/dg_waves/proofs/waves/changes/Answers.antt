@@ -1,6 +1,7 @@
 use Rattle.std.proofs.Common.{◌≡◌, ℕ, ◌<◌, false, List, ◌∷◌, length, ◌+◌, get_or, set, subst, drop, arith, ◌∙◌}
-use Rattle.std.proofs.lemmas.Grind.{common_steps}
 use Rattle.std.proofs.lemmas.List.{drop_more, drop_all}
+use Rattle.std.proofs.lemmas.List.Elements.{All-push}
+use Rattle.dg_waves.specs.declared.waves.Change.{Change}
 use Rattle.dg_waves.specs.inner.Waves.{MarkedWait}
 use Rattle.dg_waves.proofs.Waved.{length_set, sought_kept, sought_found, unmarked}
 use Rattle.dg_waves.proofs.waves.changes.Goals as goal
@@ -20,13 +21,13 @@ loop-block-preserved g c =
           let items = w.in_ok-push.ensures.items in
           record {
             marks_size = length_set c.loop-block.marks block false ∙ c.loop-block.invariant.marks_size;
-            sought = rw (w.found-is, items) (sought_found _ _ _ (record { block = block; value = w.in-Some.value }) rest w.in-Some.ensures before);
-            there = rw w.found-is (grind (arith, common_steps, items, c.loop-block.invariant.there));
+            sought = rw (w.found-is, items) (sought_found _ _ _ (record { block = block; value = w.in-Some.value }) rest w.in-Some.ensures.next w.in-Some.ensures.other before);
+            there = rw (w.found-is, items) (All-push (λ (change : Change _). change.block < g.R.Round.count c.args.round.now) c.loop-block.found.items (record { block = block; value = w.in-Some.value }) c.loop-block.invariant.there (omega (arith, inside, c.loop-block.invariant.marks_size)));
             wait = wait;
           }
       | in_default w ↦ record {
         marks_size = length_set c.loop-block.marks block false ∙ c.loop-block.invariant.marks_size;
-        sought = rw w.found-is (sought_kept _ _ _ block rest w.in_default.ensures before);
+        sought = rw w.found-is (sought_kept _ _ _ block rest w.in_default.ensures.next before);
         there = rw w.found-is c.loop-block.invariant.there;
         wait = wait;
       }

@@ -19,12 +19,13 @@ loop-change-preserved g c =
       marks_size = omega arith;
       there = λ k d inside. omega (arith, c.in_ok-let_wait.ensures.there k d inside, c.loop-change.invariant.marks_size);
       wait = c.in_ok-let_wait.ensures.wait;
+      once = c.in_ok-let_wait.ensures.once;
       left = ap (λ (left : List (Change _)). written left c.loop-change.values) (sym more) ∙ c.loop-change.invariant.left;
       marked = readers_marked_more readers_of c.loop-change.marks c.let_wait.new.marks changes change rest marked (rw more at c.loop-change.invariant.marked);
     }
 
 pub loop-change-init : goal.loop-change-init
-loop-change-init g c = record { size = c.requires.size; marks_size = c.requires.marks_size; there = c.requires.there; wait = c.requires.wait; left = refl; marked = record { marked = λ block reader changes left. absurd (true≢false (sym changes ∙ left)) } }
+loop-change-init g c = record { size = c.requires.size; marks_size = c.requires.marks_size; there = c.requires.there; wait = c.requires.wait; once = c.requires.once; left = refl; marked = record { marked = λ block reader changes left. absurd (true≢false (sym changes ∙ left)) } }
 
 pub readers-requires : goal.readers-requires
 readers-requires g c = record { there = subst (λ (x : Change _). x.block < g.R.Round.count c.args.round.now) (sym c.change-item.is) (c.requires.changes_there c.loop-change.change-index c.change-item.result c.loop-change-test.true) }
