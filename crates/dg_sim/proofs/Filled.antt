@@ -1,5 +1,5 @@
 -- One more cell.
-use Rattle.std.proofs.Common.{◌≡◌, ℕ, ◌<◌, ◌+◌, ◌++◌, [], ◌∷◌, ◌⊎◌, inl, inr, Option, List, length, Some, slice_get, ap, sym, ◌∙◌, subst, subst₂, length-append}
+use Rattle.std.proofs.Common.{arith, ◌≡◌, ℕ, ◌<◌, ◌+◌, ◌++◌, [], ◌∷◌, ◌⊎◌, inl, inr, Option, List, length, Some, slice_get, ap, sym, ◌∙◌, subst, subst₂, length-append}
 use Rattle.std.proofs.lemmas.Option.{same_Some, slice_get_within}
 use Rattle.dg_model.specs.declared.diagram.Diagram.{Diagram}
 use Rattle.dg_model.specs.Signals.{Attributes}
@@ -51,6 +51,7 @@ module _ (diagram : Diagram) (attributes : Attributes) (old grown : Program) (k 
     filled_more = record {
       entries = λ j p at. filled.entries j p (ap (λ (xs : List Place). slice_get xs j) (sym made.grows.places) ∙ at);
       memories = λ m memory at. let is = made.memories filled.memories m memory at in (is.0, record { block_is = is.1.block_is; room = is.1.room; some = is.1.some; moves = is.1.moves; from = is.1.from });
+      few = omega (arith, made.grows.few, filled.few);
       paired = made.grows.paired filled.paired;
       size = ap length cells_are ∙ length-append grown.cells (record { period = period; rule = rule } ∷ []) ∙ ap (λ (xs : List Cell). length xs + 1) made.grows.cells ∙ ap (λ (n : ℕ). n + 1) filled.size;
       cells = λ j p cell at_place at_cell.
@@ -84,6 +85,7 @@ module _ (diagram : Diagram) (attributes : Attributes) (program : Program) (outp
         let is = filled.cells k place cell at_place at_cell in
         cell_is diagram attributes whole k place cell (is.block, is.shown) is.period (same_rule k place cell.rule (rule_is diagram attributes program k place cell is));
     memories = λ m memory at. let is = filled.memories m memory at in (is.0, record { block_is = is.1.block_is; room = is.1.room; some = is.1.some; moves = is.1.moves; from = is.1.from });
+    few = omega (arith, filled.few, filled.size);
     outputs = many;
     shows = λ place e here.
         let root = there_map (λ (e : RootElement). root_at e.number e.block e.element) (root_outputs diagram attributes) place e here in

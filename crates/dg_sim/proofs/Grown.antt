@@ -26,6 +26,7 @@ grows_same program = record {
   paired = λ same. same;
   signs = ([], sym (append-nil program.signs));
   memories = ([], sym (append-nil program.memories));
+  few = omega arith;
 }
 
 -- nothing is put for a block whose value never changes

@@ -1,5 +1,5 @@
 -- Rules that look back serve the equations of their blocks.
-use Rattle.std.proofs.Common.{◌≡◌, ℕ, suc, ◌<◌, ◌≤◌, ◌-◌, ◌++◌, ◌&&◌, Bool, true, false, ℤ, pos, List, [], ◌∷◌, length, Option, Some, None, slice_get, MatchOption, MatchBool, if◌then◌else◌, cond, filter, unwrap_or, sym, ◌∙◌, subst, ap, refl, arith, append-nil, ◌⊎◌, inl, inr}
+use Rattle.std.proofs.Common.{◌≡◌, ℕ, suc, ◌<◌, ◌≤◌, ◌-◌, ◌++◌, ◌&&◌, Bool, true, false, ℤ, pos, List, [], ◌∷◌, length, length-append, Option, Some, None, slice_get, MatchOption, MatchBool, if◌then◌else◌, cond, filter, unwrap_or, sym, ◌∙◌, subst, ap, refl, arith, append-nil, ◌⊎◌, inl, inr}
 use Rattle.std.proofs.lemmas.Option.{slice_get_within}
 use Rattle.fx_type.specs.declared.decimal.Decimal.{Decimal}
 use Rattle.dg_model.specs.declared.diagram.Diagram.{Diagram}
@@ -63,6 +63,7 @@ module _ (diagram : Diagram) (attributes : Attributes) (old new : Program) (plac
       paired = λ same. ap length types ∙ same ∙ sym (ap length args);
       signs = ([], signs ∙ sym (append-nil old.signs));
       memories = (memory ∷ [], memories);
+      few = omega (arith, ap length memories ∙ length-append old.memories (memory ∷ []));
     };
     memories = λ are n one at_n. go are n one (push_cases old.memories memory n one (ap (λ (xs : List Memory). slice_get xs n) (sym memories) ∙ at_n));
     memory = memory;

@@ -47,6 +47,7 @@ above_made diagram attributes old k place b block_is kind first width numbers ar
     paired = λ same. omega (arith, same, size, more_size, ap length args_is ∙ length-append old.args numbers, ap length types_is ∙ length-append old.types more);
     signs = ([], sym (append-nil old.signs));
     memories = ([], sym (append-nil old.memories));
+    few = omega arith;
   };
   memories = λ are_memories m memory at. let is = are_memories m memory at in (is.0, record { block_is = is.1.block_is; room = is.1.room; some = is.1.some; moves = is.1.moves; from = is.1.from });
   made = record {

@@ -50,6 +50,7 @@ module _ (diagram : Diagram) (attributes : Attributes) (old : Program) (k : ℕ)
             omega (arith, same, size, more, ap length args_is ∙ length-append old.args numbers, ap length types_is ∙ length-append old.types (types_into diagram attributes place.block b.inputs));
         signs = (negative, all_is);
         memories = ([], sym (append-nil old.memories));
+        few = omega arith;
       };
       memories = λ are_memories m memory at. let is = are_memories m memory at in (is.0, record { block_is = is.1.block_is; room = is.1.room; some = is.1.some; moves = is.1.moves; from = is.1.from });
       made = work_rule diagram attributes new k place b op work numbers is_op elementwise same

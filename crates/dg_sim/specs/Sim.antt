@@ -103,13 +103,14 @@ module _ (diagram : Diagram) (attributes : Attributes) where
         → look memory.from
         ≡ value_into diagram attributes table memory.place.block 1 memory.place.element t
 
-  -- the program simulates the diagram
+  -- the program simulates the diagram, and has no more memories than cells
   pub record IsProgram (program : Program) : Type 0 where
     pub size : length program.cells ≡ length program.places
     pub cells : (k : ℕ) (place : Place) (cell : Cell) → slice_get program.places k ≡ Some place
         → slice_get program.cells k ≡ Some cell → IsCell program k place cell
     pub memories : (m : ℕ) (memory : Memory) → slice_get program.memories m ≡ Some memory
         → (b : Block) × IsMemory program memory b
+    pub few : length program.memories ≤ length program.cells
     pub outputs : length program.outputs ≡ length (root_outputs diagram attributes)
     pub shows : (place : ℕ) (e : RootElement)
         → slice_get (root_outputs diagram attributes) place ≡ Some e

@@ -1,5 +1,5 @@
 -- What the steps that build a program keep (own).
-use Rattle.std.specs.Prelude.{◌≡◌, ℕ, suc, ◌<◌, ◌++◌, ℤ, Bool, List, [], length, Option, Some, slice_get}
+use Rattle.std.specs.Prelude.{◌≡◌, ℕ, suc, ◌<◌, ◌≤◌, ◌++◌, ℤ, Bool, List, [], length, Option, Some, slice_get}
 use Rattle.fx_type.specs.declared.kind.FxType.{FxType}
 use Rattle.dg_model.specs.declared.diagram.Diagram.{Diagram}
 use Rattle.dg_model.specs.declared.diagram.Block.{Block}
@@ -49,7 +49,7 @@ IsAlways diagram attributes place v =
     (stimulus : Stimulus) (table : Table) (t : ℕ)
     → Equation diagram attributes stimulus table place.block place.port place.element t v
 
--- a program with more parts behind the others
+-- a program with more parts behind the others, one memory at the most
 pub record Grows (old new : Program) : Type 0 where
   pub places : new.places ≡ old.places
   pub cells : new.cells ≡ old.cells
@@ -58,6 +58,7 @@ pub record Grows (old new : Program) : Type 0 where
   pub paired : length old.types ≡ length old.args → length new.types ≡ length new.args
   pub signs : (more : List Bool) × (new.signs ≡ old.signs ++ more)
   pub memories : (more : List Memory) × (new.memories ≡ old.memories ++ more)
+  pub few : length new.memories ≤ suc (length old.memories)
 
 -- these entries, of which each stands before k, are what the input ports of a block offer to an
 -- element
@@ -115,6 +116,7 @@ pub record IsFilled (diagram : Diagram) (attributes : Attributes) (program : Pro
     (k : ℕ) : Type 0 where
   pub entries : AreEntries diagram attributes program.places
   pub memories : AreMemories diagram attributes program
+  pub few : length program.memories ≤ k
   pub paired : length program.types ≡ length program.args
   pub size : length program.cells ≡ k
   pub cells : (j : ℕ) (place : Place) (cell : Cell) → slice_get program.places j ≡ Some place
