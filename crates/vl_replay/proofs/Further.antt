@@ -4,7 +4,7 @@ use Rattle.std.proofs.lemmas.Bool.{cases_lt}
 use Rattle.std.proofs.lemmas.Option.{get_or_from_slice_get, slice_get-get_or}
 use Rattle.vl_ast.specs.Attributes.{most_latency}
 use Rattle.vl_replay.specs.declared.samplers.Sampler.{Sampler}
-use Rattle.vl_replay.specs.inner.Played.{AreNear}
+use Rattle.vl_replay.specs.inner.Played.{AreNear, HasDelay}
 
 module _ (items : List Sampler) (i : ℕ) (d : Sampler) where
   abbrev here : Sampler
@@ -34,3 +34,18 @@ module _ (items : List Sampler) (i : ℕ) (d : Sampler) where
   few-further old new is low near few =
       let late = near.delay i here (slice_get-get_or items i d low) in
       omega (arith, is, late, few)
+
+  has-here : i < length items → (new : ℕ) → here.delay ≡ new → HasDelay items new
+  has-here low new is = record { place = i; sampler = here; there = slice_get-get_or items i d low; is = is }
+
+  pub met-most : (old new : ℕ) → new ≡ max here.delay old → i < length items → (0 < old → HasDelay items old) → 0 < new → HasDelay items new
+  met-most old new is low before some = ⊎_elim
+      (λ (less : old < here.delay). has-here low new (omega (arith, is, less)))
+      (λ (most : here.delay ≤ old). subst (λ delay. HasDelay items delay) (omega (arith, is, most)) (before (omega (arith, is, most, some))))
+      (cases_lt old here.delay)
+
+  pub met-least : (delay old new : ℕ) → new ≡ min here.delay old → i < length items → (old < delay → HasDelay items old) → new < delay → HasDelay items new
+  met-least delay old new is low before some = ⊎_elim
+      (λ (less : here.delay < old). has-here low new (omega (arith, is, less)))
+      (λ (most : old ≤ here.delay). subst (λ delay. HasDelay items delay) (omega (arith, is, most)) (before (omega (arith, is, most, some))))
+      (cases_lt here.delay old)

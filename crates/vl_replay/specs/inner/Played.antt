@@ -17,19 +17,31 @@ use Rattle.vl_replay.specs.Sampled.{hit_at, numbers_of}
 use Rattle.vl_replay.specs.inner.Driving.{drivers_from, inputs_of}
 use Rattle.vl_replay.specs.inner.Sampling.{cell_of, sampler_of}
 
--- no number of so many samples is sampled more samples late; with no samples there are none
+-- an output is sampled so many samples late
+pub record HasDelay (samplers : List Sampler) (delay : ℕ) : Type 0 where
+  pub place : ℕ
+  pub sampler : Sampler
+  pub there : slice_get samplers place ≡ Some sampler
+  pub is : sampler.delay ≡ delay
+
+-- no number of so many samples is sampled more samples late, and one is so late; with no samples
+-- there are none
 pub record IsDelay (samplers : List Sampler) (samples delay : ℕ) : Type 0 where
   pub few : delay ≤ most_latency
   pub most : (place : ℕ) (sampler : Sampler) → slice_get samplers place ≡ Some sampler
       → 0 < samples → sampler.delay ≤ delay
+  pub least : 0 < delay → (0 < samples) × HasDelay samplers delay
 
 -- a ring of so many rows holds the numbers of a sample until all of them are sampled: its row is
--- another's only once that one's number is sampled, by each sampler's own delay
+-- another's only once that one's number is sampled, by each sampler's own delay. It has no more
+-- rows than there are samples, and one more than the latest is later than some other
 pub record IsWindow (samplers : List Sampler) (samples delay window : ℕ) : Type 0 where
   pub some : 0 < window
   pub few : window ≤ most_latency + 1
   pub wide : (place : ℕ) (sampler : Sampler) → slice_get samplers place ≡ Some sampler
       → window < samples → delay < window + sampler.delay
+  pub least : 1 < window → (window ≤ samples)
+      × ((earliest : ℕ) × HasDelay samplers earliest × (window + earliest ≤ delay + 1))
 
 -- a score of a module that breaks no condition
 pub record IsScoreOf (m : Module) (score : Score) : Type 0 where

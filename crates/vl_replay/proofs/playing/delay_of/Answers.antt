@@ -1,4 +1,4 @@
-use Rattle.vl_replay.proofs.Further.{few-further, most-further}
+use Rattle.vl_replay.proofs.Further.{few-further, met-most, most-further}
 use Rattle.vl_replay.proofs.playing.delay_of.Goals as goal
 
 pub loop-sampler-preserved : goal.loop-sampler-preserved
@@ -9,4 +9,5 @@ loop-sampler-preserved c =
     record {
       few = few-further samplers i _ c.loop-sampler.delay c.max-delay.result c.max-delay.ensures c.loop-sampler-test.true c.requires.late old.few;
       most = most-further samplers i _ c.loop-sampler.delay c.max-delay.result c.max-delay.ensures old.most;
+      met = met-most samplers i _ c.loop-sampler.delay c.max-delay.result c.max-delay.ensures c.loop-sampler-test.true old.met;
     }

@@ -1,5 +1,5 @@
 use Rattle.std.proofs.Common.{arith}
-use Rattle.vl_replay.proofs.Further.{least-further}
+use Rattle.vl_replay.proofs.Further.{least-further, met-least}
 use Rattle.vl_replay.proofs.playing.window_of.Goals as goal
 
 pub loop-sampler-preserved : goal.loop-sampler-preserved
@@ -9,4 +9,5 @@ loop-sampler-preserved c =
     record {
       most = (let most = old.most in omega (arith, most, less));
       least = least-further c.args.samplers.now c.loop-sampler.sampler-index _ c.loop-sampler.earliest c.min-earliest.result less old.least;
+      met = met-least c.args.samplers.now c.loop-sampler.sampler-index _ c.args.delay c.loop-sampler.earliest c.min-earliest.result less c.loop-sampler-test.true old.met;
     }
