@@ -14,11 +14,12 @@ use Rattle.st_wrap.specs.Pace.{latest_in}
 use Rattle.st_wrap.specs.inner.Columns.{moving, plain}
 use Rattle.st_wrap.specs.inner.Names.{begin_name, end_name, due_name, fed_name, open_name, enable_name, phase_name, wait_name}
 
--- a counter has room for its greatest number
+-- a counter has room for its greatest number, and no bit more than that takes
 pub record HasRoom (counter : Counter) : Type 0 where
   pub some : 1 ≤ counter.width
   pub short : counter.width ≤ 64
   pub room : counter.most < 2 ^ counter.width
+  pub least : 1 < counter.width → 2 ^ (counter.width - 1) ≤ counter.most
 
 -- the counters count the clocks of a sample, and the samples that the latest output comes late
 pub record CountFor (core : Module) (counters : Counters) : Type 0 where
