@@ -46,6 +46,10 @@ abbrev pub HasRoom : Machine → Snapshot → Type 0
 HasRoom machine snapshot =
     length snapshot.values.items ≡ machine.plan.base + length machine.plan.arranged.ops
 
+-- it has the values that the machine has now (own)
+abbrev pub HasValues : Machine → Snapshot → Type 0
+HasValues machine snapshot = snapshot.values.items ≡ machine.values.items
+
 -- it has the values that the machine has in a row (own)
 pub record IsKept (machine : Machine) (snapshot : Snapshot) (row : Row) : Type 0 where
   pub room : HasRoom machine snapshot

@@ -91,7 +91,7 @@ fn number_in(bits: u128, width: u32, signed: bool) -> i128
 
 impl Machine {
     ghost use Rattle.vl_ast.specs.Runs.{Row};
-    ghost use Rattle.vl_eval.specs.Machine.{AreFit, HasRoom, IsKept, IsReady, row_of, source_of};
+    ghost use Rattle.vl_eval.specs.Machine.{AreFit, HasRoom, HasValues, IsKept, IsReady, row_of, source_of};
     ghost use Rattle.vl_eval.specs.declared.machine.Snapshot.{Snapshot};
 
     /// A machine in row 0 of its module, in which every register and input is 0. The time is linear in
@@ -181,8 +181,9 @@ impl Machine {
 
     /// Whether the machine has the values of a snapshot, and so is in its row.
     pub fn is_at(&self, snapshot: &Snapshot) -> bool
-        ensures { result ≡ true → (row : Row) → IsKept self.now snapshot.now row
+        ensures at { result ≡ true → (row : Row) → IsKept self.now snapshot.now row
             → row ≡ row_of self.now }
+        ensures same { HasValues self.now snapshot.now → result ≡ true }
     {
         self.values.as_slice() == snapshot.values.as_slice()
     }

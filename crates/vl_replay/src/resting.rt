@@ -82,6 +82,7 @@ fn come_back(machine: &mut Machine, clocks: u64, bits: &[u128], kept: &mut Snaps
     requires fit { AreFit (driven_ports (source_of machine.old)) bits.now }
     requires room { HasRoom machine.old kept.old }
     ensures left { result ≤ clocks }
+    ensures few { result ≤ clocks - result }
     ensures leads { Leads (source_of machine.old)
         (given (driven_ports (source_of machine.old)) bits.now) (row_of machine.old)
         (clocks - result) (row_of machine.new) }
