@@ -1,6 +1,7 @@
 -- Netlists that grow at their end, and what a later netlist keeps of one (own).
 use Rattle.std.specs.Prelude.{◌≡◌, ℕ, ◌+◌, ◌-◌, ◌*◌, ◌<◌, ◌≤◌, ◌⊎◌, ◌++◌, ◌∷◌, List, [], length}
 use Rattle.std.specs.Prelude.{All, Contains, slice_get, slice_set, None, Some, IsSome, ℤ, pos}
+use Rattle.std.specs.Prelude.{◌^◌, false, max}
 use Rattle.fx_num.specs.Word.{IsWord, InWord}
 use Rattle.hw_net.specs.declared.netlist.Frame.{Frame}
 use Rattle.hw_net.specs.declared.netlist.Net.{Net}
@@ -24,11 +25,14 @@ pub record Extends (before after : Circuit) : Type 0 where
 abbrev pub with_net : Circuit → Net → Circuit
 with_net netlist net = record netlist { nets = netlist.nets ++ net ∷ [] }
 
--- a Counter of a frame in a word that holds its numbers, where a base sample has so many clocks
+-- a Counter of a frame in the least unsigned word that holds its numbers, where a base sample has
+-- so many clocks
 pub record CountsIn (cycles : ℕ) (frame : Frame) (net : Net) : Type 0 where
   pub kind : net.kind ≡ Counter frame
   pub word : IsWord net.width net.signed
   pub room : InWord net.width net.signed (pos (frame.latency * cycles + frame.period * cycles - 1))
+  pub unsigned : net.signed ≡ false
+  pub least : 2 ^ (net.width - 1) ≤ max 1 (frame.latency * cycles + frame.period * cycles - 1)
 
 -- a Counter of the frame was put behind the others
 pub record AddsCounter (before after : Circuit) (frame : Frame) : Type 0 where

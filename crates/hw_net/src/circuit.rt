@@ -1,7 +1,7 @@
 //! A netlist that grows: its data, with an index of its Counters.
 ghost use Rattle.std.specs.Prelude.{◌≡◌, ◌↔◌, ℕ, List, ◌+◌, ◌*◌, ◌-◌, ◌<◌, ◌++◌, ◌∷◌, [], length};
 ghost use Rattle.std.specs.Prelude.{IfOk, OnOk, OnErr, Option};
-ghost use Rattle.std.specs.Prelude.{None, Some, IsTrue, MatchOption, false, pos};
+ghost use Rattle.std.specs.Prelude.{None, Some, IsTrue, MatchOption, false, pos, ◌≤◌, ◌^◌, max};
 ghost use Rattle.hw_net.specs.ByFrame.{number_at_frame};
 ghost use Rattle.hw_net.specs.Circuit.{Circuit};
 ghost use Rattle.hw_net.specs.Frames.{counter_of, counted_frame};
@@ -116,7 +116,7 @@ impl Netlist {
     }
 
     /// The number of the Counter of a frame. One is put behind the other nets where the frame has
-    /// none, in an unsigned word. Where that fails the netlist stays.
+    /// none, in the least unsigned word that holds its numbers. Where that fails the netlist stays.
     pub fn counter(&mut self, frame: Frame) -> Result<u32, OutOfMemory>
         requires cycles { 0 < self.old.cycles }
         requires period { 0 < frame.period }
@@ -220,13 +220,14 @@ fn append(nets: &mut Nets, counters: &mut FrameIndex, net: Net) -> Result<u32, O
     Ok(number)
 }
 
-/// The width of the unsigned word that holds what a Counter shows at clock 0.
+/// The least width of an unsigned word that holds what a Counter shows at clock 0.
 fn count_width(frame: Frame, cycles: u32) -> u8
     requires cycles { 0 < cycles }
     requires period { 0 < frame.period }
     ensures word { IsWord result false }
     ensures room { InWord result false (pos (frame.latency * cycles + frame.period * cycles - 1)) }
+    ensures least { 2 ^ (result - 1) ≤ max 1 (frame.latency * cycles + frame.period * cycles - 1) }
 {
     let clocks = (u128::from(frame.latency) + u128::from(frame.period)) * u128::from(cycles);
-    clocks.ilog2() as u8 + 1
+    (clocks - 1).max(1).ilog2() as u8 + 1
 }

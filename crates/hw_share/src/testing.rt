@@ -1,5 +1,5 @@
 //! A test for a clock of a frame, by the frame's Counter.
-ghost use Rattle.std.specs.Prelude.{◌≡◌, ◌-◌, ◌<◌, [], IfOk, OnOk, pos, false};
+ghost use Rattle.std.specs.Prelude.{◌≡◌, ◌-◌, ◌<◌, ◌≤◌, ◌^◌, max, [], IfOk, OnOk, pos, false};
 ghost use Rattle.fx_num.specs.Word.{IsWord, InWord};
 ghost use Rattle.hw_share.specs.inner.Parts.{Grows, IsChoosing};
 ghost use Rattle.hw_share.specs.inner.Choices.{IsSlotOf, IsTestAt};
@@ -9,13 +9,14 @@ use fx_io::OutOfMemory;
 use hw_net::{Frame, NetOp, Netlist, counter_is_telling};
 use std::alloc::Global;
 
-/// How many bits the numbers below this one have.
+/// How many bits the numbers below this one have, at least one.
 fn bits_below(length: u64) -> u8
     requires some { 0 < length }
     ensures word { IsWord result false }
     ensures room { InWord result false (pos (length - 1)) }
+    ensures least { 2 ^ (result - 1) ≤ max 1 (length - 1) }
 {
-    length.ilog2() as u8 + 1
+    (length - 1).max(1).ilog2() as u8 + 1
 }
 
 /// Puts in a net that is 1 in the clock of a slot of each frame, and else 0: whether as many clocks
