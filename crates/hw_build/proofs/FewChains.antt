@@ -8,7 +8,7 @@ use Rattle.dg_model.specs.declared.resolved.Resolved.{Resolved}
 use Rattle.dg_model.specs.Attributes.{attributes_of}
 use Rattle.dg_model.specs.Laws.{InputsAreListed}
 use Rattle.hw_lines.specs.declared.source.Use.{Use as Asked}
-use Rattle.hw_lines.specs.Chain.{reader_of, most_frames, different}
+use Rattle.hw_lines.specs.Chain.{most_frames, different, parted_frames}
 use Rattle.hw_net.specs.Circuit.{Circuit}
 use Rattle.hw_sched.specs.Chained.{Use, distinct, is_same_first, is_same_line, registers_of, registers_of_lines, uses_in_all}
 use Rattle.hw_sched.specs.Slots.{Timing as Times}
@@ -140,8 +140,8 @@ module _ {diagram : Diagram} {order : List ℕ} {plan : Resolved} {times : Times
       sym (ap (λ (f : Feed). f.frame.period) (line_feed reader x is there same)) ∙ ap (λ (f : Feed). f.frame.period) feed
       in
       let few = chain_registers (source_by one.feed) (shared reader) sources in
-      let registers : class_registers (Some one) ≡ most_frames one.feed.frame.period (map asked_of (shared reader)) + different (map (reader_of (source_by one.feed)) (map asked_of (shared reader))) =
-      ap (λ (xs : List Asked). most_frames one.feed.frame.period xs + different (map (reader_of (source_by one.feed)) xs)) own
+      let registers : class_registers (Some one) ≡ most_frames one.feed.frame.period (map asked_of (shared reader)) + different (parted_frames (source_by one.feed) (map asked_of (shared reader))) =
+      ap (λ (xs : List Asked). most_frames one.feed.frame.period xs + different (parted_frames (source_by one.feed) xs)) own
       in
       omega (arith, few, registers)
 

@@ -1,6 +1,6 @@
 -- A chain has no more registers than are counted for the uses that share it.
-use Rattle.std.proofs.Common.{◌≡◌, ℕ, zero, suc, ◌+◌, ◌/◌, ◌<◌, ◌≤◌, inl, inr, Bool, true, false, cond, List, [], ◌∷◌, ◌++◌, map, length, Some, ap, sym, ◌∙◌, subst, refl, arith}
-use Rattle.std.specs.Prelude.{◌≢◌, ◌||◌, ◌==◌, not, slice_get}
+use Rattle.std.proofs.Common.{◌≡◌, ℕ, zero, suc, ◌+◌, ◌/◌, ◌%◌, ◌<◌, ◌≤◌, inl, inr, Bool, true, false, cond, filter, List, [], ◌∷◌, ◌++◌, map, length, Some, ap, sym, ◌∙◌, subst, refl, arith}
+use Rattle.std.specs.Prelude.{◌≢◌, ◌||◌, ◌&&◌, ◌==◌, not, nat_le, slice_get}
 use Rattle.std.proofs.lemmas.Bool.{false≢true, and_parts, eqb-true, cases_Bool}
 use Rattle.std.proofs.lemmas.Option.{none-some, same_Some}
 use mathlib.Core.List.{map-map}
@@ -8,9 +8,9 @@ use Rattle.hw_net.specs.declared.netlist.Frame.{Frame}
 use Rattle.hw_net.specs.ByFrame.{is_same_frame}
 use Rattle.hw_lines.specs.declared.source.Source.{Source}
 use Rattle.hw_lines.specs.declared.source.Use.{Use as Asked}
-use Rattle.hw_lines.specs.Chain.{reader_of, is_among, different_after, different, most_frames}
+use Rattle.hw_lines.specs.Chain.{reader_of, is_among, different_after, different, most_frames, is_whole as is_whole_asked, parted, parted_frames}
 use Rattle.dg_model.specs.Widths.{greatest}
-use Rattle.hw_sched.specs.Chained.{Use, distinct, is_same_use, registers_of}
+use Rattle.hw_sched.specs.Chained.{Use, distinct, is_same_use, is_whole, registers_of}
 use Rattle.hw_build.proofs.Counting.{Stands, filter_stands, without, one_less, still_stands}
 use Rattle.hw_net.proofs.Index.{same-self}
 
@@ -147,17 +147,33 @@ most_is period (one ∷ uses) same =
     let rest = most_is period uses (λ k other at. same (suc k) other at) in
     omega (arith, here, rest)
 
+-- the uses that aren't later by whole periods
+abbrev others : List Use → List Use
+others uses = filter (λ (one : Use). not (is_whole one)) uses
+
+parted_are : (source : Source) (uses : List Use) → ((k : ℕ) (one : Use) → slice_get uses k ≡ Some one → one.source ≡ source.frame.period) → parted source (map asked_of uses) ≡ map asked_of (others uses)
+parted_are source [] same = refl
+parted_are source (one ∷ uses) same = go (is_whole one) here (parted_are source uses (λ k other at. same (suc k) other at))
+  where
+    here : is_whole_asked source (asked_of one) ≡ is_whole one
+    here = ap (λ (p : ℕ). (one.shift % p == 0) && nat_le one.period p) (sym (same 0 one refl))
+
+    go : (whole : Bool) → is_whole_asked source (asked_of one) ≡ whole → parted source (map asked_of uses) ≡ map asked_of (others uses)
+        → parted source (asked_of one ∷ map asked_of uses) ≡ map asked_of (cond (not whole) (one ∷ others uses) (others uses))
+    go true e rest = ap (λ (b : Bool). cond (not b) (asked_of one ∷ parted source (map asked_of uses)) (parted source (map asked_of uses))) e ∙ rest
+    go false e rest = ap (λ (b : Bool). cond (not b) (asked_of one ∷ parted source (map asked_of uses)) (parted source (map asked_of uses))) e ∙ ap (λ (xs : List Asked). asked_of one ∷ xs) rest
+
 -- the registers of a chain whose uses are these
-pub chain_registers : (source : Source) (uses : List Use) → ((k : ℕ) (one : Use) → slice_get uses k ≡ Some one → one.source ≡ source.frame.period) → most_frames source.frame.period (map asked_of uses) + different (map (reader_of source) (map asked_of uses)) ≤ registers_of uses
+pub chain_registers : (source : Source) (uses : List Use) → ((k : ℕ) (one : Use) → slice_get uses k ≡ Some one → one.source ≡ source.frame.period) → most_frames source.frame.period (map asked_of uses) + different (parted_frames source (map asked_of uses)) ≤ registers_of uses
 chain_registers source uses same =
     let most = most_is source.frame.period uses same in
-    let frames : map (reader_of source) (map asked_of uses) ≡ map (λ (one : Use). reader_of source (asked_of one)) uses = map-map (reader_of source) asked_of uses in
-    let count : different (map (reader_of source) (map asked_of uses)) ≡ different (map (λ (one : Use). reader_of source (asked_of one)) uses) = ap different frames in
+    let frames : parted_frames source (map asked_of uses) ≡ map (λ (one : Use). reader_of source (asked_of one)) (others uses) = ap (map (reader_of source)) (parted_are source uses same) ∙ map-map (reader_of source) asked_of (others uses) in
+    let count : different (parted_frames source (map asked_of uses)) ≡ different (map (λ (one : Use). reader_of source (asked_of one)) (others uses)) = ap different frames in
     let less = few_frames (λ (one : Use). reader_of source (asked_of one))
     (λ one other e.
     let parts = and_parts (one.shift == other.shift) (one.period == other.period) e in
     let shift : one.shift ≡ other.shift = eqb-true one.shift other.shift parts.0 in
     let period : one.period ≡ other.period = eqb-true one.period other.period parts.1 in
     ap (λ (s : ℕ). reader_of source (record { shift = s; period = one.period })) shift ∙ ap (λ (p : ℕ). reader_of source (record { shift = other.shift; period = p })) period)
-    uses in
+    (others uses) in
     omega (arith, most, count, less)

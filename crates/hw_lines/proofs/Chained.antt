@@ -1,7 +1,9 @@
 -- One use after another. Crates above may cite this file.
-use Rattle.std.proofs.Common.{◌≡◌, ℕ, zero, suc, ◌+◌, ◌*◌, ◌/◌, ◌<◌, ◌≤◌, ◌||◌, inl, inr, List, [], ◌∷◌, ◌++◌, take, drop, length, All, Contains, Option, None, Some, is_some, slice_get, slice_index_or, Bool, true, false, if◌then◌else◌, ap, sym, ◌∙◌, subst, arith, refl, length-append, mul-le-mul_right}
+use Rattle.std.proofs.Common.{◌≡◌, ℕ, zero, suc, ◌+◌, ◌*◌, ◌/◌, ◌<◌, ◌≤◌, ◌||◌, inl, inr, List, [], ◌∷◌, ◌++◌, take, drop, map, cond, length, All, Contains, Option, None, Some, is_some, slice_get, slice_index_or, Bool, true, false, if◌then◌else◌, ap, sym, ◌∙◌, subst, arith, refl, length-append, mul-le-mul_right}
 use Rattle.std.proofs.Math.Seq.{take-suc, drop-cons}
 use Rattle.std.proofs.lemmas.Option.{none-some, same_Some, slice_get_within, slice_get-get_or, get_or_from_slice_get}
+use Rattle.std.specs.Prelude.{not}
+use Rattle.std.proofs.lemmas.List.{take-map}
 use Rattle.hw_net.specs.declared.netlist.Frame.{Frame}
 use Rattle.hw_net.specs.Circuit.{Circuit}
 use Rattle.hw_net.specs.ByFrame.{is_same_frame, number_at_frame}
@@ -11,6 +13,7 @@ use Rattle.hw_net.proofs.Growing.{extends-self, split-last}
 use Rattle.hw_lines.specs.declared.source.Source.{Source}
 use Rattle.hw_lines.specs.declared.source.Use.{Use}
 use Rattle.hw_lines.specs.Chain.{IsSource, IsAnswer, AreAnswers, IsChained, IsCountedIn, reader_of, is_among, different_after, different, most_frames}
+use Rattle.hw_lines.specs.Chain.{is_whole, parted, parted_frames}
 use Rattle.hw_lines.specs.Register.{CanHold, Grows}
 use Rattle.hw_lines.specs.inner.Parts.{AreTaps}
 use Rattle.hw_lines.specs.inner.Ends.{IsEnd, Ends, IsEndFor, PutsEnd, IsDone, frames_of}
@@ -28,6 +31,72 @@ among-more frame (other ∷ frames) one = by (is_same_frame other frame) (among-
     by : (is : Bool) → is_among frame (frames ++ one ∷ []) ≡ (is_among frame frames || is_same_frame one frame) → (is || is_among frame (frames ++ one ∷ [])) ≡ ((is || is_among frame frames) || is_same_frame one frame)
     by true rest = refl
     by false rest = rest
+
+-- ---- uses that aren't whole
+
+module _ (source : Source) (one : Use) where
+  whole-here : (rest : List Use) → is_whole source one ≡ true → parted_frames source (one ∷ rest) ≡ parted_frames source rest
+  whole-here rest e = ap (λ (b : Bool). map (reader_of source) (cond (not b) (one ∷ parted source rest) (parted source rest))) e
+
+  parted-here : (rest : List Use) → is_whole source one ≡ false → parted_frames source (one ∷ rest) ≡ reader_of source one ∷ parted_frames source rest
+  parted-here rest e = ap (λ (b : Bool). map (reader_of source) (cond (not b) (one ∷ parted source rest) (parted source rest))) e
+
+  whole-last : (uses : List Use) → is_whole source one ≡ true → parted_frames source (uses ++ one ∷ []) ≡ parted_frames source uses
+  whole-last [] e = whole-here [] e
+  whole-last (x ∷ uses) e = by (is_whole source x) (whole-last uses e)
+    where
+      by : (whole : Bool) → parted_frames source (uses ++ one ∷ []) ≡ parted_frames source uses
+          → map (reader_of source) (cond (not whole) (x ∷ parted source (uses ++ one ∷ [])) (parted source (uses ++ one ∷ []))) ≡ map (reader_of source) (cond (not whole) (x ∷ parted source uses) (parted source uses))
+      by true rest = rest
+      by false rest = ap (λ (frames : List Frame). reader_of source x ∷ frames) rest
+
+  parted-last : (uses : List Use) → is_whole source one ≡ false → parted_frames source (uses ++ one ∷ []) ≡ parted_frames source uses ++ reader_of source one ∷ []
+  parted-last [] e = parted-here [] e
+  parted-last (x ∷ uses) e = by (is_whole source x) (parted-last uses e)
+    where
+      by : (whole : Bool) → parted_frames source (uses ++ one ∷ []) ≡ parted_frames source uses ++ reader_of source one ∷ []
+          → map (reader_of source) (cond (not whole) (x ∷ parted source (uses ++ one ∷ [])) (parted source (uses ++ one ∷ []))) ≡ map (reader_of source) (cond (not whole) (x ∷ parted source uses) (parted source uses)) ++ reader_of source one ∷ []
+      by true rest = rest
+      by false rest = ap (λ (frames : List Frame). reader_of source x ∷ frames) rest
+
+-- a frame that is among none of the uses is among none that aren't whole
+among-parted : (source : Source) (frame : Frame) (uses : List Use) → is_among frame (map (reader_of source) uses) ≡ false → is_among frame (parted_frames source uses) ≡ false
+among-parted source frame [] e = refl
+among-parted source frame (x ∷ uses) e = by (is_whole source x) (is_same_frame (reader_of source x) frame) refl e (among-parted source frame uses)
+  where
+    by : (whole same : Bool) → is_same_frame (reader_of source x) frame ≡ same → (same || is_among frame (map (reader_of source) uses)) ≡ false
+        → (is_among frame (map (reader_of source) uses) ≡ false → is_among frame (parted_frames source uses) ≡ false)
+        → is_among frame (map (reader_of source) (cond (not whole) (x ∷ parted source uses) (parted source uses))) ≡ false
+    by whole true s h rest = absurd (let f : true ≡ false = h in cc)
+    by true false s h rest = rest h
+    by false false s h rest = ap (λ (b : Bool). b || is_among frame (parted_frames source uses)) s ∙ rest h
+
+-- what one use more leaves to be counted
+module _ (source : Source) (uses rest : List Use) (one : Use) (now new bound : ℕ) where
+  abbrev Left : Type 0
+  Left = now + different_after (parted_frames source uses) (parted_frames source (one ∷ rest)) ≤ bound
+
+  abbrev Goal : Type 0
+  Goal = new + different_after (parted_frames source (uses ++ one ∷ [])) (parted_frames source rest) ≤ bound
+
+  after-known : Left → new ≡ now → Goal
+  after-known left same = by (is_whole source one) refl
+    where
+      by : (whole : Bool) → is_whole source one ≡ whole → Goal
+      by true e = let left : now + different_after (parted_frames source uses) (parted_frames source rest) ≤ bound = rw (whole-here source one rest e) at left in rw (whole-last source one uses e, same) left
+      by false e =
+          let left : now + ((if is_among (reader_of source one) (parted_frames source uses) then 0 else 1) + different_after (parted_frames source uses ++ reader_of source one ∷ []) (parted_frames source rest)) ≤ bound = rw (parted-here source one rest e) at left in
+          rw (parted-last source one uses e, same) (omega (arith, left))
+
+  after-new : Left → is_among (reader_of source one) (map (reader_of source) uses) ≡ false → new ≤ now + (if is_whole source one then 0 else 1) → Goal
+  after-new left among few = by (is_whole source one) refl few
+    where
+      by : (whole : Bool) → is_whole source one ≡ whole → new ≤ now + (if whole then 0 else 1) → Goal
+      by true e few = let left : now + different_after (parted_frames source uses) (parted_frames source rest) ≤ bound = rw (whole-here source one rest e) at left in rw (whole-last source one uses e) (omega (arith, left, few))
+      by false e few =
+          let left : now + ((if is_among (reader_of source one) (parted_frames source uses) then 0 else 1) + different_after (parted_frames source uses ++ reader_of source one ∷ []) (parted_frames source rest)) ≤ bound = rw (parted-here source one rest e) at left in
+          let left : now + (1 + different_after (parted_frames source uses ++ reader_of source one ∷ []) (parted_frames source rest)) ≤ bound = rw (among-parted source (reader_of source one) uses among) at left in
+          rw (parted-last source one uses e) (omega (arith, left, few))
 
 -- ---- the end of a use
 
@@ -73,7 +142,7 @@ taps-can-hold before now source taps is are k d within = tap-can-hold before now
 
 pub done-start : (before now : Circuit) (source : Source) (uses : List Use) (taps : List ℕ) → AreTaps before now source taps → Grows before now source.from ⊥ (λ (other : Frame). other ≡ source.frame)
     → register_count now.nets ≡ register_count before.nets + most_frames source.frame.period uses
-    → IsDone before now source uses (register_count before.nets + most_frames source.frame.period uses + different (frames_of source uses)) taps [] [] 0
+    → IsDone before now source uses (register_count before.nets + most_frames source.frame.period uses + different (parted_frames source uses)) taps [] [] 0
 done-start before now source uses taps are grown count = record {
   size = refl;
   are = λ k one number there answer. absurd (let e : None ≡ Some number = answer in cc);
@@ -105,11 +174,6 @@ module _ (before now new : Circuit) (source : Source) (uses : List Use) (bound :
       let e : i + 1 ≡ suc i = omega arith in
       ap (λ (k : ℕ). take k frames) e ∙ take-suc frames i (reader_of source one) inside ∙ ap (λ (f : Frame). take i frames ++ f ∷ []) (get_or_from_slice_get frames i (reader_of source one) (reader_of source one) frame-at)
 
-  drop-more : drop i frames ≡ reader_of source one ∷ drop (i + 1) frames
-  drop-more =
-      let e : suc i ≡ i + 1 = omega arith in
-      drop-cons frames i (reader_of source one) inside ∙ (λ j. get_or_from_slice_get frames i (reader_of source one) (reader_of source one) frame-at j ∷ drop (e j) frames)
-
   more-among : (frame : Frame) → is_among frame (take (i + 1) frames) ≡ (is_among frame (take i frames) || is_same_frame (reader_of source one) frame)
   more-among frame = ap (is_among frame) take-more ∙ among-more frame (take i frames) (reader_of source one)
 
@@ -126,22 +190,32 @@ module _ (before now new : Circuit) (source : Source) (uses : List Use) (bound :
   known-among : (known : Option ℕ) → number_at_frame entries (reader_of source one) ≡ known → is_among (reader_of source one) (take i frames) ≡ is_some known
   known-among known e = sym (done.among (reader_of source one)) ∙ ap is_some e
 
-  few-of : (known : Option ℕ) → number_at_frame entries (reader_of source one) ≡ known → register_count new.nets + different_after (take (i + 1) frames) (drop (i + 1) frames) ≤ bound
+  inside-uses : i < length uses
+  inside-uses = slice_get_within uses i one at
+
+  take-use : take (i + 1) uses ≡ take i uses ++ one ∷ []
+  take-use =
+      let e : i + 1 ≡ suc i = omega arith in
+      ap (λ (k : ℕ). take k uses) e ∙ take-suc uses i one inside-uses ∙ ap (λ (u : Use). take i uses ++ u ∷ []) (get_or_from_slice_get uses i one one at)
+
+  drop-use : drop i uses ≡ one ∷ drop (i + 1) uses
+  drop-use =
+      let e : suc i ≡ i + 1 = omega arith in
+      drop-cons uses i one inside-uses ∙ (λ j. get_or_from_slice_get uses i one one at j ∷ drop (e j) uses)
+
+  few-of : (known : Option ℕ) → number_at_frame entries (reader_of source one) ≡ known → register_count new.nets + different_after (parted_frames source (take (i + 1) uses)) (parted_frames source (drop (i + 1) uses)) ≤ bound
   few-of known e = by known e (known-among known e)
     where
-      before-it : register_count now.nets + ((if is_among (reader_of source one) (take i frames) then 0 else 1) + different_after (take i frames ++ reader_of source one ∷ []) (drop (i + 1) frames)) ≤ bound
-      before-it = rw drop-more at done.few
+      left : register_count now.nets + different_after (parted_frames source (take i uses)) (parted_frames source (one ∷ drop (i + 1) uses)) ≤ bound
+      left = rw drop-use at done.few
 
       by : (known : Option ℕ) → number_at_frame entries (reader_of source one) ≡ known → is_among (reader_of source one) (take i frames) ≡ is_some known
-          → register_count new.nets + different_after (take (i + 1) frames) (drop (i + 1) frames) ≤ bound
+          → register_count new.nets + different_after (parted_frames source (take (i + 1) uses)) (parted_frames source (drop (i + 1) uses)) ≤ bound
       by None e among =
-          let few = (end.made e).1.few in
-          let h = rw among at before-it in
-          rw take-more (omega (arith, few, h))
+          let none : is_among (reader_of source one) (map (reader_of source) (take i uses)) ≡ false = rw (take-map (reader_of source) i uses) at among in
+          rw take-use (after-new source (take i uses) (drop (i + 1) uses) one (register_count now.nets) (register_count new.nets) bound left none (end.made e).1.few)
       by (Some k) e among =
-          let same = ap (λ (x : Circuit). register_count x.nets) (end.stood k e).1 in
-          let h = rw among at before-it in
-          rw take-more (omega (arith, same, h))
+          rw take-use (after-known source (take i uses) (drop (i + 1) uses) one (register_count now.nets) (register_count new.nets) bound left (ap (λ (x : Circuit). register_count x.nets) (end.stood k e).1))
 
   grown-of : (known : Option ℕ) → number_at_frame entries (reader_of source one) ≡ known → Grows before new source.from (source.registered ≡ false) (IsCountedIn source uses)
   grown-of None e = (end.made e).1.grown before uses (among-uses uses i one at) done.taps_are done.grown
@@ -193,7 +267,7 @@ module _ (before now : Circuit) (source : Source) (uses : List Use) (bound : ℕ
   pub done-answers : AreAnswers before now source uses answers
   done-answers = record { count = done.size ∙ all; each = done.are }
 
-  pub done-chained : bound ≡ register_count before.nets + most_frames source.frame.period uses + different (frames_of source uses) → IsChained before now source uses
+  pub done-chained : bound ≡ register_count before.nets + most_frames source.frame.period uses + different (parted_frames source uses) → IsChained before now source uses
   done-chained is = record {
     appends = done.grown.appends;
     parts = done.grown.parts;

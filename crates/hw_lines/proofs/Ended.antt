@@ -4,9 +4,11 @@ use Rattle.std.proofs.Math.Nat.{mul-mod_left}
 use Rattle.std.proofs.lemmas.Nat.{div-add-mod', mod_below}
 use Rattle.std.proofs.lemmas.Option.{slice_get-get_or}
 use Rattle.std.proofs.lemmas.Result.{IfOk-weaker}
-use Rattle.std.specs.Prelude.{slice_index_or, ⊤}
+use Rattle.std.specs.Prelude.{slice_index_or, ⊤, nat_le, ◌==◌, if◌then◌else◌}
+use Rattle.std.proofs.lemmas.Bool.{and_parts, and_from, eqb-true, eq-eqb, leb-true, le-leb}
 use Rattle.hw_net.specs.declared.netlist.Frame.{Frame}
 use Rattle.hw_net.specs.Circuit.{Circuit}
+use Rattle.hw_net.specs.Frames.{register_count}
 use Rattle.hw_net.specs.NetRows.{Rows, span_of}
 use Rattle.hw_net.specs.Registers.{IsReg, IsBridge}
 use Rattle.hw_net.specs.Growing.{Extends}
@@ -14,7 +16,7 @@ use Rattle.hw_net.proofs.Growing.{extends-self, longer, in-rows-first, in-rows-l
 use Rattle.hw_lines.specs.declared.source.Source.{Source}
 use Rattle.hw_lines.specs.declared.source.Use.{Use}
 use Rattle.hw_lines.specs.Line.{ShowsLater}
-use Rattle.hw_lines.specs.Chain.{IsUse, IsAnswer, IsCountedIn, reader_of, line_to}
+use Rattle.hw_lines.specs.Chain.{IsUse, IsAnswer, IsCountedIn, reader_of, line_to, is_whole}
 use Rattle.hw_lines.specs.Taps.{IsTap, IsShifted, TapMeets, TapHolds, PhaseRegisterMeets, BridgeMeets}
 use Rattle.hw_lines.specs.Register.{Adds, IsHeld}
 use Rattle.hw_lines.specs.inner.Parts.{IsBridged, IsTapAt}
@@ -142,15 +144,19 @@ module _ (source : Source) (one : Use) (some : 0 < source.frame.period) (use_is 
         stands = inr (omega (arith, held.new.new, longer before now p));
       }
 
+one-more : (whole : Bool) → whole ≡ false → (new now : ℕ) → new ≡ now + 1 → new ≤ now + (if whole then 0 else 1)
+one-more true is new now more = absurd (true-false refl is)
+one-more false is new now more = omega (arith, more)
+
 -- what was put in for one end is of the parts of a chain
 part-ends : (now new : Circuit) (source : Source) (taps : List ℕ) (one : Use) (k tap : ℕ) (frame : Frame) (bridges given : Type 0) → slice_get taps k ≡ Some tap → (bridges → source.registered ≡ false) → ((uses : List Use) → Contains uses one → IsCountedIn source uses frame)
-    → Adds now new tap frame bridges given → Ends now new source taps one
-part-ends now new source taps one k tap frame bridges given there plain counted put = record {
+    → is_whole source one ≡ false → Adds now new tap frame bridges given → Ends now new source taps one
+part-ends now new source taps one k tap frame bridges given there plain counted parted put = record {
   extends = put.grown.appends.extends;
   grown = λ before uses among are grown.
       grows-trans before now new source.from tap bridges (source.registered ≡ false) (λ (other : Frame). other ≡ frame) (IsCountedIn source uses) plain (λ other same. subst (IsCountedIn source uses) (sym same) (counted uses among))
       (tap-named before now source k tap (are.each k tap there)) grown put.grown;
-  few = omega (arith, put.few);
+  few = one-more (is_whole source one) parted (register_count new.nets) (register_count now.nets) put.few;
 }
 
 on-if : {A E : Type 0} (P : A → Type 0) (Q : Type 0) (result : Result A E) → IfOk result P → ((x : A) → P x → Q) → OnOk result Q
@@ -183,35 +189,66 @@ module _ (now : Circuit) (source : Source) (taps : List ℕ) (one : Use) (can : 
     answer = λ before are p. plain-tap source one can.some can.use_is before now can.cycles (one.shift / source.frame.period) tap p (are.each (one.shift / source.frame.period) tap there) meets plain same (no-rest none);
   }
 
+  -- a whole use has no rest, and a reader of the source's period
+  whole-rest : is_whole source one ≡ true → rest ≡ 0
+  whole-rest is = eqb-true rest 0 (and_parts (rest == 0) (nat_le one.period source.frame.period) is).0
+
+  whole-period : source.registered ≡ false → is_whole source one ≡ true → one.period ≡ source.frame.period
+  whole-period plain is =
+      let low = part-below one.period source.frame.period (can.use_is.plain plain) can.use_is.some in
+      let high = leb-true one.period source.frame.period (and_parts (rest == 0) (nat_le one.period source.frame.period) is).1 in
+      omega (arith, low, high)
+
+  -- a registered use that isn't whole has a rest
+  pub parted-rest : source.registered ≡ true → is_whole source one ≡ false → 1 ≤ rest
+  parted-rest registered parted =
+      let low = part-below source.frame.period one.period (can.use_is.registered registered).0 can.some in
+      elim (cases_zero rest) [
+        | inl none ↦ absurd (true-false (and_from (rest == 0) (nat_le one.period source.frame.period) (eq-eqb rest 0 none) (le-leb one.period source.frame.period low)) parted)
+        | inr some ↦ some
+      ]
+    where
+      cases_zero : (n : ℕ) → (n ≡ 0) ⊎ (1 ≤ n)
+      cases_zero zero = inl refl
+      cases_zero (suc n) = inr (omega arith)
+
   pub registered-ends : TapHolds → source.registered ≡ true → rest ≡ 0 → IsEnd now now source taps one tap
   registered-ends holds registered none = record {
     answer = λ before are p. registered-tap source one can.some can.use_is before now can.cycles (one.shift / source.frame.period) tap p (are.each (one.shift / source.frame.period) tap there) holds registered (no-rest none);
   }
 
+  pub whole-ends : TapMeets → TapHolds → is_whole source one ≡ true → IsEnd now now source taps one tap
+  whole-ends meets holds is = by source.registered refl
+    where
+      by : (registered : Bool) → source.registered ≡ registered → IsEnd now now source taps one tap
+      by true e = registered-ends holds e (whole-rest is)
+      by false e = plain-ends meets e (whole-rest is) (whole-period e is)
+
   module _ {E : Type 0} (new : Circuit) (result : Result ℕ E) where
     abbrev IsBridgePut : ℕ → Type 0
     IsBridgePut number = Adds now new tap (reader_of source one) ⊤ (IsBridged now new tap (reader_of source one) (source.frame.period - rest) number)
 
-    pub bridge-ends : BridgeMeets → source.registered ≡ false → IfOk result IsBridgePut → IfOk result (λ number. IsEnd now new source taps one number) × OnOk result (Ends now new source taps one)
-    bridge-ends meets plain put =
+    pub bridge-ends : BridgeMeets → source.registered ≡ false → is_whole source one ≡ false → IfOk result IsBridgePut → IfOk result (λ number. IsEnd now new source taps one number) × OnOk result (Ends now new source taps one)
+    bridge-ends meets plain parted put =
         let below = mod_below one.shift source.frame.period can.some in (
           IfOk-weaker result IsBridgePut (λ number. IsEnd now new source taps one number) (λ number is. record {
             answer = λ before are p. bridge-end source one can.some can.use_is before now can.cycles (one.shift / source.frame.period) tap p (are.each (one.shift / source.frame.period) tap there) new rest number is.grown.appends.extends split meets plain below is.is;
           }) put,
           on-if IsBridgePut (Ends now new source taps one) result put
-              (λ number is. part-ends now new source taps one (one.shift / source.frame.period) tap (reader_of source one) ⊤ (IsBridged now new tap (reader_of source one) (source.frame.period - rest) number) there (λ _. plain) (λ uses among. inr (plain, (one, (among, refl)))) is),
+              (λ number is. part-ends now new source taps one (one.shift / source.frame.period) tap (reader_of source one) ⊤ (IsBridged now new tap (reader_of source one) (source.frame.period - rest) number) there (λ _. plain) (λ uses among. inr (plain, (one, (among, refl)))) parted is),
         )
 
     abbrev IsPhasePut : ℕ → ℕ → Type 0
     IsPhasePut slot number = Adds now new tap source.frame ⊥ (IsHeld now new tap source.frame slot source.first number)
 
-    pub phase-ends : PhaseRegisterMeets → source.registered ≡ true → 1 ≤ rest → (slot : ℕ) → slot ≡ rest * now.cycles - 1 → IfOk result (IsPhasePut slot) → IfOk result (λ number. IsEnd now new source taps one number) × OnOk result (Ends now new source taps one)
-    phase-ends meets registered some slot at put =
-        let below = mod_below one.shift source.frame.period can.some in (
+    pub phase-ends : PhaseRegisterMeets → source.registered ≡ true → is_whole source one ≡ false → (slot : ℕ) → slot ≡ rest * now.cycles - 1 → IfOk result (IsPhasePut slot) → IfOk result (λ number. IsEnd now new source taps one number) × OnOk result (Ends now new source taps one)
+    phase-ends meets registered parted slot at put =
+        let below = mod_below one.shift source.frame.period can.some in
+        let some = parted-rest registered parted in (
           IfOk-weaker result (IsPhasePut slot) (λ number. IsEnd now new source taps one number) (λ number is. record {
             answer = λ before are p. phase-end source one can.some can.use_is before now can.cycles (one.shift / source.frame.period) tap p (are.each (one.shift / source.frame.period) tap there) new rest number is.grown.appends.extends split meets registered
                 some (omega (arith, below)) slot at is.is;
           }) put,
           on-if (IsPhasePut slot) (Ends now new source taps one) result put
-              (λ number is. part-ends now new source taps one (one.shift / source.frame.period) tap source.frame ⊥ (IsHeld now new tap source.frame slot source.first number) there (λ none. absurd none) (λ uses among. inl refl) is),
+              (λ number is. part-ends now new source taps one (one.shift / source.frame.period) tap source.frame ⊥ (IsHeld now new tap source.frame slot source.first number) there (λ none. absurd none) (λ uses among. inl refl) parted is),
         )

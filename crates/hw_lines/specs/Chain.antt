@@ -1,5 +1,6 @@
 -- What a chain of registers owes for a source and its uses (own).
 use Rattle.std.specs.Prelude.{◌≡◌, ℕ, ◌+◌, ◌/◌, ◌%◌, ◌^◌, ◌<◌, ◌≤◌, ◌⊎◌, ◌||◌, max, ℤ}
+use Rattle.std.specs.Prelude.{◌==◌, ◌&&◌, not, nat_le, filter}
 use Rattle.std.specs.Prelude.{List, [], ◌∷◌, ◌++◌, map, length, Contains, slice_get, Some, Bool}
 use Rattle.std.specs.Prelude.{true, false, if◌then◌else◌, ⊤}
 use Rattle.fx_num.specs.Word.{IsWord, InWord}
@@ -107,11 +108,24 @@ abbrev pub most_frames : ℕ → List Use → ℕ
 most_frames period [] = 0
 most_frames period (one ∷ uses) = max (one.shift / period) (most_frames period uses)
 
+-- whether a use is seen in frames of the source's period, by whole periods later
+abbrev pub is_whole : Source → Use → Bool
+is_whole source one =
+    (one.shift % source.frame.period == 0) && nat_le one.period source.frame.period
+
+-- the uses that aren't seen so
+abbrev pub parted : Source → List Use → List Use
+parted source uses = filter (λ one. not (is_whole source one)) uses
+
+-- the frames in which these are seen
+abbrev pub parted_frames : Source → List Use → List Frame
+parted_frames source uses = map (reader_of source) (parted source uses)
+
 -- what a chain puts behind the nets: one register for each frame of the source up to the last that
--- is used, and at most one more for each different use
+-- is used, which show the uses of whole periods, and at most one more for each different other use
 pub record IsChained (before after : Circuit) (source : Source) (uses : List Use) : Type 0 where
   pub appends : Appends before after (source.from ∷ [])
   pub parts : (k : ℕ) (net : Net) → length before.nets ≤ k → slice_get after.nets k ≡ Some net
       → IsPart (source.registered ≡ false) (IsCountedIn source uses) net.kind
   pub few : register_count after.nets ≤ register_count before.nets
-      + most_frames source.frame.period uses + different (map (reader_of source) uses)
+      + most_frames source.frame.period uses + different (parted_frames source uses)

@@ -36,8 +36,8 @@ fn end_at(
 }
 
 /// The chain of a source: one register for each of its frames up to the last that is used, and
-/// behind these at most one more net for each different use. Uses that are seen in one frame share
-/// it.
+/// behind these at most one more net for each different use that isn't whole periods later. Uses
+/// that are seen in one frame share it.
 fn put_chain(
     alloc: Global,
     net: &mut Netlist,

@@ -33,6 +33,6 @@ fans_timed = record { lat = 0 ∷ 0 ∷ 8 ∷ 8 ∷ 8 ∷ 8 ∷ 8 ∷ 8 ∷ 8 �
 fans_lines : (one : Decimal) → lines_in_all (fans one) of_fans fans_plan fans_timed ≡ 45
 fans_lines one = refl
 
--- u shares 8 and has one each for two uses, the gain one and the sums four; 8 in the pipeline, and two frames
-fans_chained : (one : Decimal) → chained (fans one) of_fans fans_plan fans_timed ≡ 25
+-- u shares 8, which show both of its uses; 8 in the pipeline, and two frames
+fans_chained : (one : Decimal) → chained (fans one) of_fans fans_plan fans_timed ≡ 18
 fans_chained one = refl

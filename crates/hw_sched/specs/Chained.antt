@@ -1,5 +1,5 @@
 -- How many registers a module has at the most where the lines of one source share them (own).
-use Rattle.std.specs.Prelude.{ℕ, ◌+◌, ◌*◌, ◌/◌, ◌==◌, ◌&&◌, not, ℤ, Bool, true, false, if◌then◌else◌, List, [], ◌∷◌, length, map, filter, Option, Some, None, slice_get}
+use Rattle.std.specs.Prelude.{ℕ, ◌+◌, ◌*◌, ◌/◌, ◌%◌, ◌==◌, ◌&&◌, not, nat_le, ℤ, Bool, true, false, if◌then◌else◌, List, [], ◌∷◌, length, map, filter, Option, Some, None, slice_get}
 use Rattle.std.specs.List.{sum, flat_map}
 use Rattle.std.specs.Ordering.{int_eq}
 use Rattle.fx_type.specs.declared.decimal.Decimal.{Decimal}
@@ -112,12 +112,17 @@ is_same_line reader other =
 abbrev pub is_same_use : Use → Use → Bool
 is_same_use reader other = (reader.shift == other.shift) && (reader.period == other.period)
 
+-- whether a use is later by whole periods of its source, for a reader of no longer period: the
+-- registers of these periods show it
+abbrev pub is_whole : Use → Bool
+is_whole reader = (reader.shift % reader.source == 0) && nat_le reader.period reader.source
+
 -- the registers of the uses that share some: one for each period of the source by which the latest
--- is later, and one for each use
+-- is later, and one for each use that isn't later by whole periods
 abbrev pub registers_of : List Use → ℕ
 registers_of uses =
     greatest (map (λ reader. reader.shift / reader.source) uses)
-    + length (distinct is_same_use uses)
+    + length (distinct is_same_use (filter (λ reader. not (is_whole reader)) uses))
 
 abbrev pub registers_of_lines : List Use → ℕ
 registers_of_lines uses =

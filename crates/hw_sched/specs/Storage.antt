@@ -1,4 +1,4 @@
--- How many registers a module has at the most, and the rule of size (own).
+-- How much storage is counted of a module, and the rule of size (own).
 use Rattle.std.specs.Prelude.{◌≡◌, ℕ, ◌+◌, ◌-◌, ◌*◌, ◌/◌, ◌≤◌, ◌<◌, ◌⊎◌, Bool, true, false, if◌then◌else◌, [], length, map, Option, Some, None, slice_get}
 use Rattle.std.specs.List.{sum}
 use Rattle.dg_waves.specs.Rounds.{numbers_from}
@@ -101,7 +101,7 @@ greatest_latency diagram attributes plan timing =
     greatest (map (λ e. declared_latency diagram attributes plan timing e.block)
     (root_outputs diagram attributes))
 
--- the most registers of a module
+-- the most storage that the rule leaves a module
 abbrev pub most_storage : ℕ
 most_storage = 400000
 

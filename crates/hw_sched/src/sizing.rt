@@ -14,7 +14,7 @@ use hw_latency::Latencies;
 /// How large a module is (own).
 #[derive(Clone, Copy)]
 pub struct Sizing {
-    /// Its registers at the most, one for each element.
+    /// What it is to keep, each element of a line, a block or a shared operation by itself.
     pub storage: u64,
     /// The greatest latency that is declared of its root outputs, in clocks; 0 without outputs.
     pub latency: u64,
@@ -40,7 +40,7 @@ impl From<OutOfMemory> for SizeFault {
     }
 }
 
-/// The most registers of a module.
+/// The most storage that the rule of size leaves a module.
 const MOST_STORAGE: u64 = 400_000;
 
 /// The greatest latency of a module, in clocks.
@@ -67,9 +67,9 @@ fn is_within(sizing: Sizing) -> bool
 
 /// How large the module of a checked diagram is by a plan, from its latencies and the clock of its
 /// period at which the output of each block is ready, or the fault of the rule of size: a module has
-/// at most 400,000 registers and declares no latency above 16,777,216 clocks. It takes no memory; its
-/// time is linear in the edges and blocks, but for a search of the line into each block. A number of
-/// 2^64 or more is want of memory.
+/// at most 400,000 words of storage and declares no latency above 16,777,216 clocks. It takes no
+/// memory; its time is linear in the edges and blocks, but for a search of the line into each block.
+/// A number of 2^64 or more is want of memory.
 pub fn check_size(
     checked: &Checked,
     plan: &Resolved,

@@ -11,7 +11,7 @@ use Rattle.hw_net.specs.Growing.{Extends}
 use Rattle.hw_net.specs.Netlist.{HasWord}
 use Rattle.hw_lines.specs.declared.source.Source.{Source}
 use Rattle.hw_lines.specs.declared.source.Use.{Use}
-use Rattle.hw_lines.specs.Chain.{source_of, reader_of, IsCountedIn, most_frames, different, IsSource, IsUse, IsAnswer, AreAnswers, IsChained}
+use Rattle.hw_lines.specs.Chain.{source_of, reader_of, IsCountedIn, most_frames, different, parted_frames, IsSource, IsUse, IsAnswer, AreAnswers, IsChained}
 use Rattle.hw_build.specs.declared.wants.Feed.{Feed}
 use Rattle.hw_build.specs.declared.wants.Want.{Want}
 use Rattle.hw_build.specs.declared.wants.Class.{Class}
@@ -201,7 +201,7 @@ abbrev pub class_registers : Option Class → ℕ
 class_registers None = 0
 class_registers (Some one) =
     most_frames one.feed.frame.period one.uses.items
-    + different (map (reader_of (source_by one.feed)) one.uses.items)
+    + different (parted_frames (source_by one.feed) one.uses.items)
 
 abbrev pub registers_below : List Class → ℕ → ℕ
 registers_below classes zero = 0

@@ -10,6 +10,7 @@ use Rattle.hw_net.specs.Growing.{Extends}
 use Rattle.hw_lines.specs.declared.source.Source.{Source}
 use Rattle.hw_lines.specs.declared.source.Use.{Use}
 use Rattle.hw_lines.specs.Chain.{IsUse, IsAnswer, IsCountedIn, reader_of, is_among, different_after}
+use Rattle.hw_lines.specs.Chain.{is_whole, parted_frames}
 use Rattle.hw_lines.specs.Register.{CanHold, Grows}
 use Rattle.hw_lines.specs.inner.Parts.{AreTaps}
 
@@ -29,14 +30,16 @@ pub record IsEnd (now new : Circuit) (source : Source) (taps : List ℕ) (one : 
   pub answer : (before : Circuit) → AreTaps before now source taps → Extends before now
       → IsAnswer before new source (reader_of source one) number
 
--- what was put in for it is at most one register, and of the parts of a chain
+-- what was put in for it is at most one register, none where it is whole, and of the parts of a
+-- chain
 pub record Ends (now new : Circuit) (source : Source) (taps : List ℕ) (one : Use) : Type 0 where
   pub extends : Extends now new
   pub grown : (before : Circuit) (uses : List Use) → Contains uses one
       → AreTaps before now source taps
       → Grows before now source.from (source.registered ≡ false) (IsCountedIn source uses)
       → Grows before new source.from (source.registered ≡ false) (IsCountedIn source uses)
-  pub few : register_count new.nets ≤ register_count now.nets + 1
+  pub few : register_count new.nets ≤ register_count now.nets
+      + (if is_whole source one then 0 else 1)
 
 -- the number of each frame of an index is an answer for it
 pub record AreEnds (before after : Circuit) (source : Source)
@@ -74,6 +77,6 @@ pub record IsDone (before now : Circuit) (source : Source) (uses : List Use) (bo
   pub among : (frame : Frame) → is_some (number_at_frame entries frame)
       ≡ is_among frame (take i (frames_of source uses))
   pub grown : Grows before now source.from (source.registered ≡ false) (IsCountedIn source uses)
-  pub few : register_count now.nets + different_after (take i (frames_of source uses))
-      (drop i (frames_of source uses)) ≤ bound
+  pub few : register_count now.nets + different_after (parted_frames source (take i uses))
+      (parted_frames source (drop i uses)) ≤ bound
   pub taps_are : AreTaps before now source taps

@@ -5,7 +5,7 @@ use Rattle.std.proofs.lemmas.Nat.{mod_below}
 use Rattle.std.proofs.Math.Nat.{le-mul_of_pos_right}
 use Rattle.hw_lines.specs.Register.{CanHold}
 use Rattle.hw_lines.specs.inner.Ends.{IsEnd, Ends}
-use Rattle.hw_lines.proofs.Ended.{nothing-ends, plain-ends, registered-ends, bridge-ends, phase-ends}
+use Rattle.hw_lines.proofs.Ended.{nothing-ends, whole-ends, parted-rest, bridge-ends, phase-ends}
 use Rattle.hw_lines.proofs.ends.end_of.Goals as goal
 
 pub bounds-taps-one : goal.bounds-taps-one
@@ -40,7 +40,7 @@ overflow_mul-slot c =
 pub overflow_sub-slot : goal.overflow_sub-slot
 overflow_sub-slot c =
     let rest : ℕ = c.args.one.shift % c.args.source.frame.period in
-    let some = rw c.from-own.ensures at c.if-rest-eq0.false in
+    let some = parted-rest c.args.net.now c.args.source c.args.taps.now c.args.one c.requires c.if-source.true (rw c.is_whole.ensures at c.if-is_whole.false) in
     let more : 0 < rest * c.args.net.now.cycles = mul-pos (omega (arith, some)) c.requires.cycles in
     rw (c.from-own.ensures, c.cycles.ensures) (omega (arith, more))
 
@@ -68,11 +68,11 @@ register_at-requires-clause-period c = c.requires.some
 pub reader_of-reader-requires : goal.reader_of-reader-requires
 reader_of-reader-requires c = omega (arith, c.requires.early, c.requires.use_is.near)
 
-pub returns-then-rest-eq0-clause-end : goal.returns-then-rest-eq0-clause-end
-returns-then-rest-eq0-clause-end c = rw c.from-own.ensures (registered-ends c.args.net.now c.args.source c.args.taps.now c.args.one c.requires c.tap_holds.ensures c.if-source.true (rw c.from-own.ensures at c.if-rest-eq0.true))
+pub returns-then-is_whole-clause-end : goal.returns-then-is_whole-clause-end
+returns-then-is_whole-clause-end c = rw c.from-own.ensures (whole-ends c.args.net.now c.args.source c.args.taps.now c.args.one c.requires c.tap_meets.ensures c.tap_holds.ensures (rw c.is_whole.ensures at c.if-is_whole.true))
 
-pub returns-then-rest-eq0-clause-ends : goal.returns-then-rest-eq0-clause-ends
-returns-then-rest-eq0-clause-ends c = nothing-ends c.args.net.now c.args.source c.args.taps.now c.args.one c.requires
+pub returns-then-is_whole-clause-ends : goal.returns-then-is_whole-clause-ends
+returns-then-is_whole-clause-ends c = nothing-ends c.args.net.now c.args.source c.args.taps.now c.args.one c.requires
 
 pub register_at-requires-clause-from : goal.register_at-requires-clause-from
 register_at-requires-clause-from c =
@@ -86,9 +86,8 @@ registered_end c =
     let f : FitsSigned w128 c.args.source.first = search rules in
     let first = to_z-of_z w128 c.args.source.first f in
     let r : ℕ = c.args.one.shift % c.args.source.frame.period in
-    let some = rw c.from-own.ensures at c.if-rest-eq0.false in
     let at_slot : r * c.cycles.result - 1 ≡ r * c.args.net.now.cycles - 1 = ap (λ (x : ℕ). r * x - 1) c.cycles.ensures in
-    phase-ends c.args.net.now c.args.source c.args.taps.now c.args.one c.requires c.register_at.new.net c.register_at.result c.phase_register_meets.ensures c.if-source.true (omega (arith, some)) (r * c.cycles.result - 1) at_slot
+    phase-ends c.args.net.now c.args.source c.args.taps.now c.args.one c.requires c.register_at.new.net c.register_at.result c.phase_register_meets.ensures c.if-source.true (rw c.is_whole.ensures at c.if-is_whole.false) (r * c.cycles.result - 1) at_slot
     (rw (c.from-own.ensures, first) at c.register_at.ensures)
 
 pub returns-then-source-clause-end : goal.returns-then-source-clause-end
@@ -97,16 +96,9 @@ returns-then-source-clause-end c = (registered_end c).0
 pub returns-then-source-clause-ends : goal.returns-then-source-clause-ends
 returns-then-source-clause-ends c = (registered_end c).1
 
-pub returns-then-one-source-clause-end : goal.returns-then-one-source-clause-end
-returns-then-one-source-clause-end c =
-    rw c.from-own.ensures (plain-ends c.args.net.now c.args.source c.args.taps.now c.args.one c.requires c.tap_meets.ensures c.if-source.false (rw c.from-own.ensures at c.if-rest-eq0-2.true) c.if-one-source.true)
-
-pub returns-then-one-source-clause-ends : goal.returns-then-one-source-clause-ends
-returns-then-one-source-clause-ends c = nothing-ends c.args.net.now c.args.source c.args.taps.now c.args.one c.requires
-
 bridged_end : (c : goal.After-bridge_at) → IfOk c.bridge_at.result (λ number. IsEnd c.args.net.now c.bridge_at.new.net c.args.source c.args.taps.now c.args.one number) × OnOk c.bridge_at.result (Ends c.args.net.now c.bridge_at.new.net c.args.source c.args.taps.now c.args.one)
 bridged_end c =
-    bridge-ends c.args.net.now c.args.source c.args.taps.now c.args.one c.requires c.bridge_at.new.net c.bridge_at.result c.bridge_meets.ensures c.if-source.false (rw (c.from-own.ensures, c.reader_of-reader.ensures) at c.bridge_at.ensures)
+    bridge-ends c.args.net.now c.args.source c.args.taps.now c.args.one c.requires c.bridge_at.new.net c.bridge_at.result c.bridge_meets.ensures c.if-source.false (rw c.is_whole.ensures at c.if-is_whole.false) (rw (c.from-own.ensures, c.reader_of-reader.ensures) at c.bridge_at.ensures)
 
 pub returns-clause-end : goal.returns-clause-end
 returns-clause-end c = (bridged_end c).0

@@ -3,8 +3,7 @@ use Rattle.std.proofs.lemmas.Option.{slice_get-get_or}
 use Rattle.hw_net.specs.Frames.{register_count}
 use Rattle.hw_lines.specs.declared.source.Source.{Source}
 use Rattle.hw_lines.specs.declared.source.Use.{Use}
-use Rattle.hw_lines.specs.Chain.{most_frames, different}
-use Rattle.hw_lines.specs.inner.Ends.{frames_of}
+use Rattle.hw_lines.specs.Chain.{most_frames, different, parted_frames}
 use Rattle.hw_lines.proofs.Chained.{room, most-of, taps-can-hold, done-start, done-more, done-answers, done-chained}
 use Rattle.hw_lines.proofs.lines.put_chain.Goals as goal
 
@@ -36,7 +35,7 @@ loop-one-preserved c =
     let i : ℕ = c.loop-one.one-index in
     let one : Use = slice_index_or uses i (record { shift = 0; period = 0 }) in
     let at : slice_get uses i ≡ Some one = slice_get-get_or uses i (record { shift = 0; period = 0 }) c.loop-one-test.true in
-    let bound : ℕ = register_count c.args.net.now.nets + most_frames source.frame.period uses + different (frames_of source uses) in
+    let bound : ℕ = register_count c.args.net.now.nets + most_frames source.frame.period uses + different (parted_frames source uses) in
     let put = c.in_ok-end_at.ensures in
     rw put.answers_are
     (done-more c.args.net.now c.loop-one.net c.end_at.new.net source uses bound c.as_slice-taps.result.now c.loop-one.ends c.end_at.new.ends c.loop-one.answers i put.number one c.loop-one.invariant at put.end put.put)
