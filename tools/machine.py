@@ -21,5 +21,6 @@ def free():
     limit = number_in("/sys/fs/cgroup/memory.max", r"(\d+)")
     held = number_in("/sys/fs/cgroup/memory.current", r"(\d+)")
     if limit is not None and held is not None:
-        found.append(limit - held)
+        # of what it holds, files that weren't read of late are let go where room is wanted
+        found.append(limit - held + (number_in("/sys/fs/cgroup/memory.stat", r"inactive_file (\d+)") or 0))
     return min(found)

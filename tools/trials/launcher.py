@@ -1,5 +1,6 @@
 """The launcher, in a made repository with a toolchain that only pretends to prove."""
 
+import glob
 import os
 import re
 import shutil
@@ -199,6 +200,16 @@ class Launcher(unittest.TestCase):
     def test_takes_up_again_what_was_killed(self):
         self.pretend("meanwhile", '[ -e "$PRETENDED/killed" ] || { : >"$PRETENDED/killed"; kill -9 $$; }')
         self.assertEqual(self.prove_with_processors(2), [("low", "2"), ("low", "1"), ("fx_prog", "1")])
+        self.is_proved()
+
+    def test_proves_anew_what_no_verdict_was_looked_at_of(self):
+        self.prove("low", "fx_prog")
+        out = os.path.join(self.top, "crates/fx_prog/out")
+        os.remove(os.path.join(out, "inputs"))
+        [verdict] = glob.glob(os.path.join(out, "proved/low-*/verdict"))
+        self.assertIn("logic=proved", read(verdict))
+        os.remove(verdict)
+        self.prove("low")
         self.is_proved()
 
     def test_notices_an_edit_during_the_proof(self):
