@@ -312,6 +312,13 @@ class Launcher(unittest.TestCase):
             done = subprocess.run(words, env=self.environment(), capture_output=True, text=True, timeout=60)
             self.assertEqual((done.returncode, done.stdout), (0, "tried simulate\na modela model"))
 
+    def test_unproved_answers_read_a_file_called_as_the_empty_plan(self):
+        folder = os.path.dirname(self.model)
+        write(os.path.join(folder, "-"), " of its own")
+        for words, read_too in ((("simulate", "-", "-"), 2), (("generate", "-", "-"), 1)):
+            done = self.run_with(*words, folder=folder)
+            self.assertEqual((done.returncode, done.stdout), (0, f"tried {words[0]}\n" + read_too * " of its own"), done.stderr)
+
     def test_goes_through_links(self):
         folder = tempfile.TemporaryDirectory()
         self.addCleanup(folder.cleanup)
