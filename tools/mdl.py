@@ -75,6 +75,10 @@ def read_file(path):
     return text, read(text)
 
 
+def is_number(text):
+    return re.fullmatch("[0-9]{1,9}", text) is not None
+
+
 def step_of(block):
     """A block's name as a step of a path."""
     return block.get("Name").replace("/", "//")

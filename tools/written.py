@@ -2,7 +2,6 @@
 
 import os
 import re
-import subprocess
 from collections import namedtuple
 
 MODULE = "fx_model"
@@ -15,7 +14,7 @@ Case = namedtuple("Case", "text cycles controls ports rows")
 
 
 class Failed(Exception):
-    """A tool that ended with a fault, or a text that is not understood."""
+    """A tool that ended with a fault, a file that is missing, or a text that is not understood."""
 
 
 def attributes(text):
@@ -37,7 +36,10 @@ def header(text):
     controls = [port for port in ports if is_bit(port, True, "clk_enable")]
     if controls:
         controls += [port for port in ports if is_bit(port, False, "ce_out")]
-    return attributes(head.group(1))["fx_cycles"], controls, [port for port in ports if port not in controls]
+    cycles, rest = attributes(head.group(1)).get("fx_cycles"), [port for port in ports if port not in controls]
+    if not cycles or any(not port.period or not port.is_input and port.latency is None for port in rest):
+        raise Failed("its header lacks an attribute")
+    return cycles, controls, rest
 
 
 def is_bit(port, is_input, name):
@@ -58,18 +60,25 @@ def outputs_of(case):
 
 
 def rows_of(path):
-    with open(path) as file:
+    if not os.path.isfile(path):
+        raise Failed(f"no {os.path.basename(path)} stands beside it")
+    with open(path, encoding="ascii", errors="replace") as file:
         return [line.split() for line in file]
+
+
+def whole(field):
+    """The number of a field."""
+    if not re.fullmatch("-?[0-9]{1,64}", field):
+        raise Failed(f"{field} stands in place of a number")
+    return int(field)
 
 
 def case_of(path):
     """The text at a path, with the stimulus that stands beside it. A module with valid and ready is renamed."""
-    with open(path) as file:
+    with open(path, encoding="ascii", errors="replace") as file:
         text = file.read().replace(f"module {STREAM} (", f"module {MODULE} (", 1)
     cycles, controls, ports = header(text)
     stimulus = beside(path, ".stim")
-    if not os.path.isfile(stimulus):
-        raise Failed(f"no {os.path.basename(stimulus)} stands beside it")
     case = Case(text, cycles, controls, ports, rows_of(stimulus))
     if any(len(row) != len(inputs_of(case)) for row in case.rows):
         raise Failed(f"{os.path.basename(stimulus)} has a line without a field for each of {len(inputs_of(case))} inputs")
@@ -96,9 +105,10 @@ def instance(case, module=MODULE):
 
 def bits(port, number):
     """A number in the port's width, by two's complement."""
-    if not re.fullmatch(r"-?\d+", number):
-        raise Failed(f"{port.name} has {number} in place of a number at a hit")
-    return int(number) % 2**port.width
+    try:
+        return whole(number) % 2**port.width
+    except Failed as fault:
+        raise Failed(f"{port.name}: {fault}") from None
 
 
 def last_clock(case):
@@ -125,10 +135,3 @@ def outputs_at(case, clock):
         if within == 0 and 0 <= sample < len(case.rows) and sample % port.period == 0:
             found.append((port, sample, place))
     return found
-
-
-def run(words, folder):
-    done = subprocess.run(words, cwd=folder, capture_output=True, text=True)
-    if done.returncode != 0:
-        raise Failed(f"{words[0]} failed:\n{done.stdout}{done.stderr}")
-    return done.stdout

@@ -22,7 +22,7 @@ class Crossing(unittest.TestCase):
         room = tempfile.TemporaryDirectory()
         self.addCleanup(room.cleanup)
         self.top, self.path = room.name, os.path.join(room.name, "bin")
-        for name in ("benches.py", "cross_check", "cross_values", "written.py"):
+        for name in ("benches.py", "cross_check", "cross_values", "others.py", "written.py"):
             write(os.path.join(self.top, "tools", name), "")
             shutil.copy(os.path.join(TOOLS, name), os.path.join(self.top, "tools", name))
         for name in ("examples/unit_delay.v", "examples/unit_delay.stim", "examples/unit_delay.response", self.VALUES):
