@@ -4,10 +4,12 @@ import re
 from html import escape
 
 from layout import lay_out
-from mdl import systems_of
+from mdl import is_number, systems_of
 
 SIGN = {"==": "=", "~=": "≠", "<": "<", "<=": "≤", ">=": "≥", ">": ">"}
 SMALL = {"Inport": (30, 14), "Outport": (30, 14), "Ground": (20, 20), "Terminator": (20, 20), "Sum": (30, 40), "Mux": (6, 60), "Demux": (6, 60), "EnablePort": (24, 20)}
+# The most ports of a side that are drawn.
+MOST = 1024
 SUPERSCRIPT = str.maketrans("0123456789-", "⁰¹²³⁴⁵⁶⁷⁸⁹⁻")
 STYLE = """<style>
 text { font-family: Helvetica, Arial, sans-serif; font-size: 11px; fill: #222; text-anchor: middle }
@@ -46,11 +48,11 @@ class Box:
 
     def signs(self):
         said = re.sub(r"[|\s]", "", self.get("Inputs", "++"))
-        return list(said) if re.fullmatch(r"[+-]+", said) else ["+"] * int(said or 2) if said.isdigit() else ["+", "+"]
+        return list(said) if re.fullmatch(r"[+-]+", said) else ["+"] * min(int(said), MOST) if is_number(said) else ["+", "+"]
 
     def several(self, name, otherwise):
         said = self.get(name, str(otherwise))
-        return int(said) if said.isdigit() else max(len(numbers(said)), 1)
+        return min(int(said), MOST) if is_number(said) else max(len(numbers(said)), 1)
 
     def inner(self, kind):
         """The names of a subsystem's ports, in the order of their numbers."""
@@ -78,7 +80,7 @@ class Box:
     def port(self, number, is_output):
         """Where a port is; a port that is not a number stands on top."""
         left, top, right, bottom = self.place
-        if not str(number).isdigit():
+        if not is_number(str(number)):
             return (left + right) / 2, top
         count = max(self.outputs if is_output else self.inputs, int(number), 1)
         y = top + (bottom - top) * (2 * int(number) - 1) / (2 * count)
@@ -230,10 +232,10 @@ def draw_way(section, here, boxes):
     parts = []
     if target is not None:
         port = section.get("DstPort", "1")
-        points += way_to(stands, target.port(port, False), not port.isdigit())
+        points += way_to(stands, target.port(port, False), not is_number(port))
         end = points[-1]
         back = 6 if target.is_left else -6
-        head = f"{end[0] - 3:g} {end[1] - 6:g}L{end[0]:g} {end[1]:g}L{end[0] + 3:g} {end[1] - 6:g}" if not port.isdigit() else f"{end[0] + back:g} {end[1] - 3:g}L{end[0]:g} {end[1]:g}L{end[0] + back:g} {end[1] + 3:g}"
+        head = f"{end[0] - 3:g} {end[1] - 6:g}L{end[0]:g} {end[1]:g}L{end[0] + 3:g} {end[1] - 6:g}" if not is_number(port) else f"{end[0] + back:g} {end[1] - 3:g}L{end[0]:g} {end[1]:g}L{end[0] + back:g} {end[1] + 3:g}"
         parts.append(f'<path d="M{head}Z" class="dot"/>')
     if len(points) > 1:
         parts.append('<path d="M' + "L".join(f"{x:g} {y:g}" for x, y in points) + '" class="line"/>')

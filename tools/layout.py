@@ -1,7 +1,7 @@
 """Places for the blocks of a system that has none: columns from left to right by the longest way from a
 source, loops closed from right to left, and lines with the corners that these places ask for."""
 
-from mdl import Section
+from mdl import Section, is_number
 
 ACROSS, DOWN = 60, 36
 
@@ -86,7 +86,7 @@ def place(columns, steps):
             across, high = box.size()
             box.place = [x, 0, x + across, high]
             wide = max(wide, across)
-            wanted = [source.port(number, True)[1] - box.port(port, False)[1] for source, number, to, port in steps if to is box and port.isdigit()]
+            wanted = [source.port(number, True)[1] - box.port(port, False)[1] for source, number, to, port in steps if to is box and is_number(port)]
             tops[box] = sum(wanted) / len(wanted) if wanted else 40
         y = 0
         for box in sorted(here, key=tops.get):
@@ -109,7 +109,7 @@ def way_through(here, bends, to, port):
     """The steps from a place through the bends to the height of a port, each turn before its column."""
     (x, y), steps = here, []
     for place in [bend.port("1", False) for bend in bends] + [to.port(port, False)]:
-        down = place[1] - y - (0 if port.isdigit() or place != to.port(port, False) else 14)
+        down = place[1] - y - (0 if is_number(port) or place != to.port(port, False) else 14)
         steps += [(0, down), (place[0] - x, 0)]
         x, y = place[0], y + down
         if place != to.port(port, False):

@@ -53,7 +53,7 @@ def bars(wave, end, scale, top):
 
 def timing(waves, marks, end):
     """The waves up to a time, with a line and a word at each mark; a mark and the next are one unit apart."""
-    unit = (marks[1][0] - marks[0][0]) if len(marks) > 1 else end
+    unit = (marks[1][0] - marks[0][0]) if len(marks) > 1 else max(end, 1)
     scale = lambda time: LEFT + UNIT * time / unit
     wide, high = scale(end) + 12, 30 + GAP * len(waves)
     parts = [f'<svg xmlns="http://www.w3.org/2000/svg" width="{wide:.0f}" height="{high}">', STYLE, '<rect width="100%" height="100%" fill="#fff"/>']

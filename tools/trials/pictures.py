@@ -162,7 +162,8 @@ class Lint(unittest.TestCase):
 
     def test_no_model_of_the_examples_is_read_otherwise(self):
         for model in glob.glob(os.path.join(TOP, "examples/**/*.mdl"), recursive=True):
-            self.assertEqual((tool("lint", model).stdout, tool("lint", model).returncode), ("", 0))
+            done = tool("lint", model)
+            self.assertEqual((done.stdout, done.returncode), ("", 0), model)
 
     def test_FORMATS_lists_each(self):
         sys.path.insert(0, TOOLS)
