@@ -6,6 +6,7 @@ import re
 import shlex
 import shutil
 import subprocess
+import sys
 import tempfile
 import unittest
 
@@ -21,6 +22,12 @@ def commands_of(text):
     """Each command of a block that shows a session, with what it shows."""
     found = re.findall(r"^\$ (.*)\n((?:(?!\$ ).*\n)*)", text, re.M)
     return [(command, shown) for command, shown in found]
+
+
+def places_of(text):
+    """The places of a page that a link can name: its headings and what it names itself."""
+    heads = re.findall(r"^#+ (.*)$", text, re.M)
+    return [re.sub(r"[^\w -]", "", head.lower()).replace(" ", "-") for head in heads] + re.findall(r'<a id="([^"]+)">', text)
 
 
 def program():
@@ -50,14 +57,18 @@ class Page(unittest.TestCase):
     def test_names_files_that_stand(self):
         for page in ["README.md", "CHANGELOG.md"] + glob.glob(os.path.join(TOP, "docs/*.md")) + glob.glob(os.path.join(TOP, "examples/**/README.md"), recursive=True):
             path = os.path.join(TOP, page)
-            for link in re.findall(r"\]\(([^)#:\s]+)\)", re.sub(r"^```.*?^```$", "", read(path), flags=re.M | re.S)):
-                self.assertTrue(os.path.exists(os.path.join(os.path.dirname(path), link)), f"{page}: {link}")
+            for link, place in re.findall(r"\]\(([^)#:\s]*)(?:#([^)\s]+))?\)", re.sub(r"^```.*?^```$", "", read(path), flags=re.M | re.S)):
+                there = os.path.join(os.path.dirname(path), link) if link else path
+                self.assertTrue(os.path.exists(there), f"{page}: {link}")
+                self.assertTrue(not place or place in places_of(read(there)), f"{page}: {link}#{place}")
 
     @unittest.skipUnless(shutil.which("iverilog"), "Icarus Verilog is not installed")
     def test_testbench_prints_what_is_shown(self):
         bench = next(text for language, text in self.blocks if language == "verilog")
         _, command, shown = next(text for _, text in self.blocks if "iverilog" in text).split("\n", 2)
         with tempfile.TemporaryDirectory() as room:
+            # as at the top of the repository, where `bench` is a folder
+            os.mkdir(os.path.join(room, "bench"))
             write(os.path.join(room, "bench.v"), bench)
             write(os.path.join(room, "fx_model.v"), self.example("unit_delay.v"))
             done = subprocess.run(["sh", "-c", command.lstrip("$ ")], cwd=room, capture_output=True, text=True)
@@ -79,6 +90,15 @@ class Shown(unittest.TestCase):
                 self.assertEqual(self.print_of(command).stdout, shown, command)
                 tried += 1
         self.assertGreater(tried, 3)
+
+    def test_picture_of_plans(self):
+        [session] = [text for _, text in blocks_of("examples/README.md") if "tools/plot_explore" in text]
+        (explored, _), (drawn, _) = commands_of(session)
+        with tempfile.TemporaryDirectory() as room:
+            plans = os.path.join(room, "plans")
+            write(plans, self.print_of(explored.removesuffix(" >plans")).stdout)
+            done = subprocess.run([sys.executable, os.path.join(TOP, "tools/plot_explore"), plans], capture_output=True, text=True)
+        self.assertEqual(done.stdout, read(os.path.join(TOP, "examples", drawn.rpartition(" >")[2])), done.stderr)
 
     def test_rules(self):
         """Each refusal that is shown, and that the model with the second lines for the first is accepted."""
