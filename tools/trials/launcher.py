@@ -212,6 +212,12 @@ class Launcher(unittest.TestCase):
         self.prove("low")
         self.is_proved()
 
+    def test_says_that_a_crate_was_killed(self):
+        self.pretend("meanwhile", "kill -9 $$")
+        os.environ["RT_JOBS"] = "1"
+        self.addCleanup(os.environ.pop, "RT_JOBS")
+        self.assertIn("== low\nended by SIGKILL\nlow NOT proved\n", self.fails(["prove"], "not proved (0 of 2 crates"))
+
     def test_notices_an_edit_during_the_proof(self):
         self.pretend("meanwhile", f"echo edited >'{self.source}'")
         self.prove("low", "fx_prog")
