@@ -220,7 +220,8 @@ class Gate(unittest.TestCase):
     def gate(self, status, last, statuses, shell=()):
         """What the gate ends with, where `rt ci` ends with a status and a last line, and the checks with theirs."""
         with tempfile.TemporaryDirectory() as room:
-            rt = f"#!/bin/sh\necho jobs $RT_JOBS\necho '{last}'\nexit {status}\n"
+            made = "mkdir -p crates/fx_prog/out && cp /bin/true crates/fx_prog/out/fx_prog"
+            rt = f"#!/bin/sh\n[ $1 = ci ] || {{ echo kit 1; exit; }}\n{made}\necho jobs $RT_JOBS\necho '{last}'\nexit {status}\n"
             for name, text in [("bin/rt", rt), ("top/tools/jobs", "#!/bin/sh\necho 3\n")] + [(f"top/{name}", f"#!/bin/sh\n{text_of(code)}\n") for name, code in statuses.items()]:
                 write(os.path.join(room, name), text)
                 os.chmod(os.path.join(room, name), 0o755)
@@ -231,6 +232,8 @@ class Gate(unittest.TestCase):
             env.pop("RT_JOBS", None)
             done = subprocess.run([*shell, os.path.join(room, "top/.ci/run")], cwd="/", env=env, capture_output=True, text=True, timeout=60)
             self.assertEqual(done.stdout.splitlines()[0], "jobs 3")
+            asked = subprocess.run([os.path.join(room, "top/tilecatnip"), "--program"], env=env, capture_output=True)
+            self.is_proved = asked.returncode == 0
             return done.returncode, done.stdout.splitlines()[-1], [line for line in done.stdout.splitlines() if "skipped" in line]
 
     def test_a_shell_may_be_given_it(self):
@@ -242,6 +245,7 @@ class Gate(unittest.TestCase):
     def test_its_last_line_and_status_tell_of_all_checks(self):
         good = dict.fromkeys(self.CHECKS, 0)
         self.assertEqual(self.gate(0, "12 passed, 0 failed", good), (0, "12 passed, 0 failed", []))
+        self.assertTrue(self.is_proved)
         lacking = {**good, "tools/cross_check": 77, "tools/cross_nets": 77}
         told = [f"{name}: skipped, for want of a tool" for name in ("tools/cross_check", "tools/cross_nets")]
         self.assertEqual(self.gate(0, "12 passed, 0 failed", lacking), (0, "12 passed, 0 failed", told))
@@ -249,6 +253,7 @@ class Gate(unittest.TestCase):
         told = ["skipped: a tool", "tools/cross_check: skipped: a tool"]
         self.assertEqual(self.gate(0, "12 passed, 0 failed", in_part), (0, "12 passed, 0 failed", told))
         self.assertEqual(self.gate(1, "11 passed, 1 failed", good), (1, "11 passed, 1 failed", []))
+        self.assertFalse(self.is_proved)
         self.assertEqual(self.gate(0, "no closing line", good)[0], 1)
         for name in self.CHECKS:
             self.assertEqual(self.gate(0, "12 passed, 0 failed", {**good, name: 1}), (1, "12 passed, 1 failed", []))

@@ -197,6 +197,16 @@ class Launcher(unittest.TestCase):
         self.pretend("meanwhile", "case $crate in large | other) sleep 3 ;; esac")
         self.assertEqual(dict(self.prove_with_processors(4)), {"large": "1", "small": "1", "other": "2", "middle": "1", "fx_prog": "4"})
 
+    def test_another_program_in_its_place_is_not_proved(self):
+        self.prove("low", "fx_prog")
+        with open(os.path.join(self.top, "crates/fx_prog/out/fx_prog"), "a", encoding="utf-8") as file:
+            file.write("echo more\n")
+        self.fails(["--proved", "sample", "1"], "no proved program")
+        self.is_unproved()
+        # it is linked anew, of what was proved
+        self.prove()
+        self.is_proved()
+
     def test_takes_up_again_what_was_killed(self):
         self.pretend("meanwhile", '[ -e "$PRETENDED/killed" ] || { : >"$PRETENDED/killed"; kill -9 $$; }')
         self.assertEqual(self.prove_with_processors(2), [("low", "2"), ("low", "1"), ("fx_prog", "1")])
