@@ -107,6 +107,12 @@ class Pictures(unittest.TestCase):
                 self.assertIn(told, said)
                 self.assertEqual(bool(told), bool(said), said)
 
+    def test_pictures_are_UTF_8_whatever_the_locale(self):
+        page = os.path.join(TOP, "examples/designs/nco")
+        words = [sys.executable, os.path.join(TOOLS, "draw"), os.path.join(page, "model.mdl")]
+        done = subprocess.run(words, env={"PYTHONIOENCODING": "ascii"}, capture_output=True)
+        self.assertEqual(done.stdout.decode(), read(os.path.join(page, "diagram.svg")), done.stderr)
+
     def test_waves_show_stimulus_and_response(self):
         done = tool("waves", os.path.join(TOP, "examples/unit_delay.v"))
         self.assertIn("$scope module stimulus $end\n$var wire 8 s0 u [7:0] $end\n$upscope $end\n$scope module response $end\n$var wire 8 s1 y", done.stdout)
