@@ -1,9 +1,13 @@
 """What the benchmarks share: processor time of commands, measured in turn on the same file."""
 
 import os
+import subprocess
 import sys
 
+TOP = os.path.dirname(os.path.dirname(os.path.abspath(__file__)))
 RUNS = 11
+# How many runs there are where one takes seconds.
+FEW = 3
 # `wc -w` is a quarter faster here than in the locale C; the ratios are to the faster one.
 LOCALE = "C.UTF-8"
 
@@ -29,6 +33,30 @@ def least_times(commands):
     return [min(times) for times in zip(*rounds)]
 
 
+def least(commands):
+    """The least time of all these commands, one after the other, over a few runs."""
+    return min(sum(processor_time(words, 0) for words in commands) for _ in range(FEW))
+
+
+def printed(words):
+    return subprocess.run(words, check=True, capture_output=True, text=True).stdout
+
+
+def proved_program():
+    """The path of the proved program; where there is none the launcher says so, and the benchmark ends."""
+    done = subprocess.run([os.path.join(TOP, "tilecatnip"), "--program"], stdout=subprocess.PIPE, text=True)
+    if done.returncode:
+        sys.exit(done.returncode)
+    return done.stdout.strip()
+
+
+def verilator_commands(folder, sources):
+    """The commands that compile the module `bench` by Verilator, from nothing, and the one that runs it."""
+    made = os.path.join(folder, "made")
+    flags = ["--binary", "--timing", "--language", "1364-2005", "-Wno-fatal", "-O3", "--top-module", "bench", "--Mdir", made]
+    return [["rm", "-rf", made], ["verilator", *flags, *sources]], [os.path.join(made, "Vbench")]
+
+
 def report(what, size, time, ruler, ruler_time):
     """Prints one line: the speed, and the ratio to the ruler on the same file in the same run."""
     speed = size / time / 1e6
@@ -38,6 +66,6 @@ def report(what, size, time, ruler, ruler_time):
     )
 
 
-def report_machine():
+def report_machine(runs=RUNS):
     """Prints how busy the machine is, on which the ratios depend a little and the speeds much."""
-    print(f"least of {RUNS} runs each; load {os.getloadavg()[0]:.1f} on {os.cpu_count()} processors")
+    print(f"least of {runs} runs each; load {os.getloadavg()[0]:.1f} on {os.cpu_count()} processors")
