@@ -30,6 +30,11 @@ def places_of(text):
     return [re.sub(r"[^\w -]", "", head.lower()).replace(" ", "-") for head in heads] + re.findall(r'<a id="([^"]+)">', text)
 
 
+def listed():
+    """The crates of crates.txt."""
+    return re.findall(r"^(\w+):", read(os.path.join(TOP, "crates.txt")), re.M)
+
+
 def program():
     """The proved program, or the one that the environment names, or none."""
     given = os.environ.get("TILECATNIP")
@@ -149,8 +154,7 @@ class Proved(unittest.TestCase):
     def test_names_stand(self):
         with open(os.path.join(TOP, "docs/PROVED.md")) as file:
             sections = {part.partition(":")[0]: part for part in re.split(r"^## ", file.read(), flags=re.M)[1:]}
-        with open(os.path.join(TOP, "crates.txt")) as file:
-            crates = [line.partition(":")[0].split()[0] for line in file if re.match(r"\w", line)]
+        crates = listed()
         self.assertEqual([crate for crate in crates if crate not in sections], [])
         for crate in crates:
             source = ""
@@ -161,3 +165,20 @@ class Proved(unittest.TestCase):
             for functions, clauses in re.findall(r"^\| (.*?) \| (.*?) \| ", rows, re.M):
                 names = [name.rpartition("::")[2] for cell in (functions, clauses) for name in re.findall(r"`([^`]+)`", cell)]
                 self.assertEqual([name for name in names if not re.search(rf"\b{name}\b", source)], [], crate)
+
+
+class Doors(unittest.TestCase):
+    """The table of crates in docs/ARCHITECTURE.md names each crate, and what its source or its definitions have."""
+
+    def test_names_stand(self):
+        rows = re.findall(r"^\| (`.*?) \| .*? \| (.*?) \|$", read(os.path.join(TOP, "docs/ARCHITECTURE.md")), re.M)
+        told = set()
+        for crates, door in ((re.findall(r"`(\w+)`", cell), names) for cell, names in rows):
+            paths = [path for crate in crates for part in ("src/**/*.rt", "specs/**/*.antt") for path in glob.glob(os.path.join(TOP, "crates", crate, part), recursive=True)]
+            if not paths:
+                continue
+            told |= {*crates}
+            source = "".join(map(read, paths))
+            for name in (it.rpartition("::")[2] for it in re.findall(r"`([\w:]+)`", door)):
+                self.assertRegex(source, rf"(?m)\b(fn|struct|enum|trait|type|record) {name}\b|^ *((abbrev|unfoldable) )?(pub )?{name} :", f"{crates}")
+        self.assertEqual(told, {*listed()})
