@@ -1,7 +1,8 @@
-ghost use Rattle.std.specs.Prelude.{◌≡◌, ◌<◌, ◌≤◌, length, take, None, IfOk, IsOk, OnErr};
+ghost use Rattle.std.specs.Prelude.{◌≡◌, ◌<◌, ◌≤◌, length, take, None, IfOk, IfSome, IsOk, OnErr};
 ghost use Rattle.std.specs.Io.KnownBytes.{WriteAppends};
-ghost use Rattle.fx_devices.specs.inner.Fetching.{IsOwed};
-ghost use Rattle.fx_io.specs.Cause.{Rose};
+ghost use Rattle.std.specs.IoError.{error_kind};
+ghost use Rattle.fx_devices.specs.inner.Fetching.{IsAnswerTo, IsOwed};
+ghost use Rattle.fx_io.specs.Cause.{Rose, counted};
 ghost use Rattle.fx_devices.specs.declared.adapters.Rest.TheVariants.{Dropped};
 ghost use Rattle.fx_io.specs.Sink.{also_took, untold};
 
@@ -66,7 +67,22 @@ fn fetched<R: Files>(
 ) -> Result<Text, FetchFault>
     ensures { IsOwed limit faults.old faults.new overlong.old overlong.new result }
 {
-    match read_file(files, alloc, name, limit) {
+    let read = read_file(files, alloc, name, limit);
+    answer_to(alloc, read, limit, faults, overlong)
+}
+
+/// What is fetched of a file of which so much was read: want of memory is no fault of the file.
+fn answer_to(
+    alloc: Global,
+    read: io::Result<Vec<u8>>,
+    limit: u64,
+    faults: &mut u64,
+    overlong: &mut u64,
+) -> Result<Text, FetchFault>
+    ensures owed { IsOwed limit faults.old faults.new overlong.old overlong.new result }
+    ensures is { IsAnswerTo (λ fault. error_kind fault ≡ ErrorKind.OutOfMemory) limit read result }
+{
+    match read {
         Ok(bytes) if bytes.len() as u64 <= limit => match Text::from_vec(alloc, bytes) {
             Ok(text) => Ok(text),
             Err(OutOfMemory) => Err(FetchFault::OutOfMemory),
@@ -86,8 +102,18 @@ fn fetched<R: Files>(
 /// The first `limit` + 1 bytes of a file, or all of them where it has fewer.
 fn read_file<R: Files>(files: &R, alloc: Global, name: &str, limit: u64) -> io::Result<Vec<u8>> {
     let file = fs::open(files, name)?;
+    front_of(alloc, file, limit)
+}
+
+/// The first `limit` + 1 bytes that a reader gives, or all of them where it gives fewer.
+fn front_of<R: Read + Drop>(alloc: Global, reader: R, limit: u64) -> io::Result<Vec<u8>>
+    ensures { IfOk result (λ bytes. IfSome (R.remaining reader)
+        (λ left. bytes.items ≡ take (counted limit) left)) }
+{
     let mut bytes = Vec::new(alloc);
-    file.take(limit.saturating_add(1)).read_to_end(&mut bytes)?;
+    reader
+        .take(limit.saturating_add(1))
+        .read_to_end(&mut bytes)?;
     Ok(bytes)
 }
 

@@ -1,5 +1,5 @@
-use fx_devices::{FileShelf, StreamSink};
-use fx_io::{FetchFault, PutFault, Shelf, Sink, put_all};
+use fx_devices::{FileShelf, Rest, StreamSink};
+use fx_io::{Failed, FetchFault, PutFault, Shelf, Sink, put_all};
 use std::io::{self, ErrorKind, Write};
 use std::test::Fail;
 
@@ -74,6 +74,53 @@ fn streams_may_take_a_part_or_nothing(rt: HostRuntime) -> Result<(), Fail> {
         });
         assert_eq!(rt; put_all(&mut sink, b"abc"), wanted);
         assert_eq!(rt; sink.writer.taken.as_slice(), taken.as_bytes());
+    }
+    Ok(())
+}
+
+/// A writer that fails at its first write, and takes all that is written later.
+#[derive(Drop)]
+struct Faltering<W: Write + Drop> {
+    to: W,
+    fails: bool,
+}
+
+impl<W: Write + Drop> Write for Faltering<W> {
+    fn write(&mut self, bytes: &[u8]) -> io::Result<usize> {
+        if self.fails {
+            self.fails = false;
+            return Err(ErrorKind::BrokenPipe.into());
+        }
+        self.to.write(bytes)
+    }
+
+    fn flush(&mut self) -> io::Result<()> {
+        self.to.flush()
+    }
+}
+
+#[test]
+fn what_a_fault_leaves_is_written_no_more(rt: HostRuntime) -> Result<(), Fail> {
+    let more = std::vec![in rt.alloc(); b'd'; 8192]?;
+    let rows = [
+        (b"".as_slice(), Ok(()), Rest::Written, Err(Failed)),
+        (
+            more.as_slice(),
+            Err(PutFault::Failed),
+            Rest::Dropped,
+            Ok(()),
+        ),
+    ];
+    for (more, put, rest, closed) in rows {
+        let to = Faltering {
+            to: std::fs::create(&rt, "left")?,
+            fails: true,
+        };
+        let mut sink = StreamSink::with_buffer(rt.alloc(), to)?;
+        assert_eq!(rt; put_all(&mut sink, b"abc"), Ok(()));
+        assert_eq!(rt; put_all(&mut sink, more), put);
+        assert_eq!(rt; sink.close(rest), closed);
+        assert_eq!(rt; std::fs::read_to_string(&rt, "left")?.as_str(), "");
     }
     Ok(())
 }

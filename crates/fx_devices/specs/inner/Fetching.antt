@@ -1,5 +1,6 @@
 -- What a fetch gave, and what it counted.
-use Rattle.std.specs.Prelude.{◌≡◌, ◌<◌, ◌≤◌, ℕ, List, Result, Ok, Err, None, length, IfOk, IsErrOf, OnOk}
+use Rattle.std.specs.Prelude.{◌≡◌, ⊤, ◌+◌, ◌<◌, ◌≤◌, ℕ, List, Result, Ok, Err, None, Vec, length, IfOk, IsErrOf, OnOk}
+use Rattle.std.specs.Global.{Global}
 use Rattle.fx_io.specs.Cause.{Rose}
 use Rattle.fx_io.specs.Shelf.{Fetched, IsOverlong}
 use Rattle.fx_io.specs.declared.shelf.FetchFault.{FetchFault}
@@ -28,3 +29,17 @@ pub record IsOwed (limit faults later overlong longer : ℕ) (result : Result (L
   pub none_too_long : OnOk result (longer ≡ overlong)
   pub faults_later : faults ≤ later
   pub overlong_later : overlong ≤ longer
+
+-- what is fetched of a file of which so much was read, or which had a fault: all that was read,
+-- where that isn't too long, and a failure but where memory was wanting
+abbrev pub IsAnswerTo : {E : Type 0} → (E → Type 0) → ℕ → Result (Vec ℕ Global) E
+    → Result (List ℕ) FetchFault → Type 0
+IsAnswerTo IsWanting limit (Ok read) (Ok bytes) = bytes ≡ read.items
+IsAnswerTo IsWanting limit (Ok read) (Err Failed) = ⊥
+IsAnswerTo IsWanting limit (Ok read) (Err (TooLong reported)) =
+    (limit < length read.items) × (reported ≡ limit + 1)
+IsAnswerTo IsWanting limit (Ok read) (Err OutOfMemory) = ⊤
+IsAnswerTo IsWanting limit (Err fault) (Ok bytes) = ⊥
+IsAnswerTo IsWanting limit (Err fault) (Err Failed) = IsWanting fault → ⊥
+IsAnswerTo IsWanting limit (Err fault) (Err (TooLong reported)) = ⊥
+IsAnswerTo IsWanting limit (Err fault) (Err OutOfMemory) = IsWanting fault
