@@ -1,5 +1,5 @@
-ghost use Rattle.std.specs.Prelude.{◌≡◌, [], IfOk};
-ghost use Rattle.fx_replayed.specs.Benched.{IsTold};
+ghost use Rattle.std.specs.Prelude.{◌≡◌, [], IfOk, OnErr, OnOk};
+ghost use Rattle.fx_replayed.specs.Benched.{IsTold, told_by};
 ghost use Rattle.fx_replayed.specs.inner.Benching.{IsReplayedAs};
 
 use crate::response::{ReplayFault, response_of, response_text};
@@ -33,12 +33,11 @@ impl Bench for TrueBench {
 
     /// Replays the module of a Verilog text. Where there is none, or the stimulus has a bad line for
     /// it, it tells no bytes from then on, as it does where memory is wanting.
-    fn replay(
-        &mut self,
-        alloc: Global,
-        verilog: &[u8],
-        stimulus: &[u8],
-    ) -> Result<(), OutOfMemory> {
+    fn replay(&mut self, alloc: Global, verilog: &[u8], stimulus: &[u8]) -> Result<(), OutOfMemory>
+        ensures told { OnOk result (IsTold verilog.now stimulus.now (told_by self.new)) }
+
+        ensures wanting { OnErr result (told_by self.new ≡ []) }
+    {
         self.told = Text::new();
         self.told = told_text(alloc, verilog, stimulus)?;
         Ok(())

@@ -1,5 +1,5 @@
 //! A simulation of a checked diagram over a stimulus, and the lines of its response.
-ghost use Rattle.std.specs.Prelude.{◌≡◌, ◌<◌, ◌≤◌, ◌^◌, All, IfErr, IfOk, OnErr, OnOk, length};
+ghost use Rattle.std.specs.Prelude.{◌≡◌, ◌<◌, ◌≤◌, ◌^◌, ◌↔◌, All, IfErr, IfOk, IsTrue, OnErr, OnOk, length};
 ghost use Rattle.fx_io.specs.Cause.{Rose};
 ghost use Rattle.fx_tables.specs.RowText.{periods_of};
 ghost use Rattle.fx_tables.specs.Stimulus.{FitsColumns};
@@ -11,7 +11,7 @@ ghost use Rattle.fx_simulated.specs.inner.Making.{HasColumns, HaveRows, IsReadyF
 use dg_model::{Checked, root_elements_are_listed};
 use dg_response::{Responding, RootColumns, columns, some_response};
 use fx_io::{OutOfMemory, PutFault, Sink, Text, put_all};
-use fx_tables::{RowText, Rows, TableFault, read_rows};
+use fx_tables::{Column, RowText, Rows, TableFault, read_rows};
 use hw_sched::periods_are_above;
 use std::alloc::Global;
 
@@ -152,14 +152,19 @@ pub fn simulation_in(
     }
 }
 
+/// Whether columns can be numbered by 32 bits.
+fn is_few(columns: &[Column]) -> bool
+    ensures { IsTrue result ↔ length columns.now < 2 ^ 32 }
+{
+    columns.len() < MOST_COLUMNS
+}
+
 /// That columns are few enough to be numbered by 32 bits.
 fn fit(columns: &RootColumns) -> Result<(), OutOfMemory>
     ensures inputs { OnOk result (length columns.now.inputs < 2 ^ 32) }
     ensures outputs { OnOk result (length columns.now.outputs < 2 ^ 32) }
 {
-    let inputs = columns.inputs.as_slice().len();
-    let outputs = columns.outputs.as_slice().len();
-    if inputs < MOST_COLUMNS && outputs < MOST_COLUMNS {
+    if is_few(columns.inputs.as_slice()) && is_few(columns.outputs.as_slice()) {
         return Ok(());
     }
     // word: columns are numbered in 32 bits
