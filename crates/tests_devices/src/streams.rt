@@ -1,5 +1,5 @@
-use fx_devices::{FileShelf, Rest, StreamSink};
-use fx_io::{Failed, FetchFault, PutFault, Shelf, Sink, put_all};
+use fx_devices::{FileShelf, StreamSink, closed};
+use fx_io::{FetchFault, PutFault, Shelf, Sink, put_all};
 use std::io::{self, ErrorKind, Write};
 use std::test::Fail;
 
@@ -103,23 +103,24 @@ impl<W: Write + Drop> Write for Faltering<W> {
 fn what_a_fault_leaves_is_written_no_more(rt: HostRuntime) -> Result<(), Fail> {
     let more = std::vec![in rt.alloc(); b'd'; 8192]?;
     let rows = [
-        (b"".as_slice(), Ok(()), Rest::Written, Err(Failed)),
-        (
-            more.as_slice(),
-            Err(PutFault::Failed),
-            Rest::Dropped,
-            Ok(()),
-        ),
+        (b"".as_slice(), Ok(()), 0, "cannot write\n"),
+        (more.as_slice(), Err(PutFault::Failed), 4, ""),
     ];
-    for (more, put, rest, closed) in rows {
+    for (more, put, status, line) in rows {
         let to = Faltering {
             to: std::fs::create(&rt, "left")?,
             fails: true,
         };
         let mut sink = StreamSink::with_buffer(rt.alloc(), to)?;
+        let mut err = StreamSink::new(Narrow {
+            taken: Vec::new(rt.alloc()),
+            piece: 5,
+            room: 99,
+        });
         assert_eq!(rt; put_all(&mut sink, b"abc"), Ok(()));
         assert_eq!(rt; put_all(&mut sink, more), put);
-        assert_eq!(rt; sink.close(rest), closed);
+        assert_eq!(rt; closed(sink, status, &mut err), 4);
+        assert_eq!(rt; err.writer.taken.as_slice(), line.as_bytes());
         assert_eq!(rt; std::fs::read_to_string(&rt, "left")?.as_str(), "");
     }
     Ok(())
