@@ -1,9 +1,6 @@
 -- What the transfers out of a module with valid and ready show of a diagram.
-use Rattle.std.proofs.Common.{◌≡◌, ℕ, zero, suc, ◌+◌, ◌-◌, ◌*◌, ◌/◌, ◌%◌, ◌<◌, ◌≤◌, ◌==◌, nat_le, Bool, true, false, not, ◌&&◌, ◌||◌, if◌then◌else◌, List, [], ◌∷◌, ◌++◌, map, filter, find, length, drop, Contains, bytes_eq, codes, Option, Some, None, refl, sym, ap, subst, ◌∙◌, arith, length-append, length-drop}
-use Rattle.std.specs.Prelude.{slice_get, is_none, option_map, unwrap_or}
-use Rattle.std.specs.List.{list_any}
-use Rattle.std.proofs.lemmas.List.{append-nil, length-map}
-use Rattle.std.proofs.lemmas.List.Elements.{Contains-append_right, filter-append}
+use Rattle.std.proofs.Common.{◌≡◌, ℕ, ◌+◌, ◌-◌, ◌*◌, ◌/◌, ◌%◌, ◌<◌, ◌≤◌, ◌==◌, true, not, ◌||◌, List, length, drop, Contains, codes, Option, Some, sym, ap, subst, ◌∙◌, arith}
+use Rattle.std.specs.Prelude.{slice_get, unwrap_or}
 use Rattle.std.proofs.lemmas.Nat.{div-mul-add, mod_below}
 use Rattle.dg_model.specs.declared.diagram.Diagram.{Diagram}
 use Rattle.dg_model.specs.declared.resolved.Resolved.{Resolved}
@@ -11,19 +8,16 @@ use Rattle.dg_model.specs.Attributes.{attributes_of}
 use Rattle.dg_model.specs.RootElements.{RootElement, column_of_stimulus, number_for, root_inputs, root_outputs}
 use Rattle.dg_model.specs.Signals.{Attributes, Stimulus, Table}
 use Rattle.dg_model.specs.Solves.{Solves}
-use Rattle.dg_model.specs.Wires.{width_into}
 use Rattle.fx_type.specs.FxType.{width_of}
 use Rattle.vl_ast.proofs.Unstalled.{counted-all}
-use Rattle.std.proofs.lemmas.Bool.{or_parts}
-use Rattle.fx_io.proofs.Tests.{unequal}
 use Rattle.st_wrap.proofs.Columned.{got-in}
-use Rattle.fx_io.proofs.Places.{map_there, get_some, there_within, there_map}
-use Rattle.fx_generated.proofs.Placing.{element, first-part, found-at, given-free, keep-all, keep-none, kept, named-at, named-in, named-size, none-found, not-mapped, or-true, to-named, zip-at}
+use Rattle.fx_io.proofs.Places.{get_some, there_within, there_map}
+use Rattle.fx_generated.proofs.Placing.{element, found-at, named-at, to-named, zip-at}
+use Rattle.fx_generated.proofs.Ported.{stalls, outputs-are, in-name, out-name, cycles-are, output-numbers, wanted-size, inputs-many, outputs-many, output-of, input-at}
 use Rattle.hw_arcs.specs.Latencies.{latency_at}
 use Rattle.hw_module.specs.Carries.{Carries, IsDrivenRun}
 use Rattle.hw_module.specs.Interface.{NamedElement, input_data, input_elements, output_data, output_elements, step_of}
-use Rattle.hw_names.specs.Names.{own_names, wanted_names, wanted_of}
-use Rattle.hw_names.proofs.Taking.{given_size}
+use Rattle.hw_names.specs.Names.{wanted_names}
 use Rattle.hw_sched.specs.Ready.{declared_latency, ready_of}
 use Rattle.hw_sched.specs.Slots.{Timing}
 use Rattle.st_wrap.specs.Carried.{CarriesTransfers, FollowsCore, IsCarried, IsFollowed, shown_at, taken_by}
@@ -31,20 +25,16 @@ use Rattle.st_wrap.specs.Header.{named_outputs}
 use Rattle.st_wrap.specs.Pace.{samples_late}
 use Rattle.st_wrap.specs.Transfers.{IsTransfer, in_side, out_side, transfers}
 use Rattle.fx_generated.specs.Streamed.{Answers, IsTaken}
-use Rattle.vl_ast.specs.declared.modules.Attr.{Attr}
 use Rattle.vl_ast.specs.declared.modules.Module.{Module}
 use Rattle.vl_ast.specs.declared.modules.Port.{Port}
-use Rattle.vl_ast.specs.Attributes.{attribute, clocks_of, cycles_of, lateness_of, latency_of, period_of, value_between}
-use Rattle.vl_ast.specs.Conditions.{lacks_attribute}
-use Rattle.vl_ast.specs.Control.{is_bit_input, is_control_output, is_number_input, is_number_output, is_stallable}
+use Rattle.vl_ast.specs.Attributes.{clocks_of, lateness_of, period_of, value_between}
 use Rattle.vl_ast.specs.Driven.{Driven, output_ports, stimulus_ports}
-use Rattle.vl_ast.specs.Header.{attribute_of, bit_input, bit_output, input_port, output_port}
+use Rattle.vl_ast.specs.Header.{attribute_of, input_port, output_port}
 use Rattle.vl_ast.specs.Runs.{Rows}
 use Rattle.vl_ast.specs.Value.{bits_of}
 use Rattle.vl_ast.specs.Windows.{Each, IsClock, Window, counts_at, row_at}
-use Rattle.vl_ast.proofs.Places.{map-in, none-in, tail-in}
 
--- ---- the core's ports
+-- ---- what the core shows
 
 module _ {core : Module} {diagram : Diagram} {plan : Resolved} {timing : Timing} (c : Carries core diagram plan timing) where
   abbrev A : Attributes
@@ -62,101 +52,8 @@ module _ {core : Module} {diagram : Diagram} {plan : Resolved} {timing : Timing}
   abbrev out_port : NamedElement → Port
   out_port e = output_port (output_data diagram plan timing e)
 
-  pub stalls : is_stallable core ≡ true
-  stalls = ap (list_any (is_bit_input (codes "clk_enable"))) c.header.ports
-
-  not-own : (n own : List ℕ) → Contains own_names own → Contains c.names n → bytes_eq n own ≡ false
-  not-own n own o h = unequal n own (λ e. given-free own_names (wanted_names diagram) c.names c.are_names.given n h (subst (λ x. Contains own_names x) (sym e) o))
-
-  own-clk : Contains own_names (codes "clk")
-  own-clk = (0, omega arith, refl)
-
-  own-reset : Contains own_names (codes "reset")
-  own-reset = (1, omega arith, refl)
-
-  own-enable : Contains own_names (codes "clk_enable")
-  own-enable = (2, omega arith, refl)
-
-  own-out : Contains own_names (codes "ce_out")
-  own-out = (3, omega arith, refl)
-
-  in-name : (e : NamedElement) → Contains ins e → Contains c.names e.name × Contains (root_inputs diagram A) e.root
-  in-name e h = named-in c.names (root_inputs diagram A) e h
-
-  dropped : (count : ℕ) (names : List (List ℕ)) (n : List ℕ) → Contains (drop count names) n → Contains names n
-  dropped zero names n h = h
-  dropped (suc count) [] n h = absurd (none-in n h)
-  dropped (suc count) (x ∷ names) n h = tail-in x n names (dropped count names n h)
-
-  out-name : (e : NamedElement) → Contains outs e → Contains c.names e.name × Contains (root_outputs diagram A) e.root
-  out-name e h =
-      let r = named-in (drop (length (root_inputs diagram A)) c.names) (root_outputs diagram A) e h in
-      (dropped (length (root_inputs diagram A)) c.names e.name r.0, r.1)
-
-  in-number : (e : NamedElement) → Contains ins e → is_number_input true (in_port e) ≡ true
-  in-number e h =
-      let n = (in-name e h).0 in
-      let a = not-own e.name (codes "clk_enable") own-enable n in
-      let b = not-own e.name (codes "clk") own-clk n in
-      let d = not-own e.name (codes "reset") own-reset n in
-      (λ i. not (a i || (b i || d i)))
-
-  off-output : (e : NamedElement) → Contains outs e → is_control_output true (out_port e) ≡ false
-  off-output e h =
-      let a = not-own e.name (codes "ce_out") own-out (out-name e h).0 in
-      ap (λ (b : Bool). ((true && b) && not (out_port e).signed) && (out_port e).width == 1) a
-
-  out-number : (e : NamedElement) → Contains outs e → is_number_output true (out_port e) ≡ true
-  out-number e h = ap (λ b. not (b || false)) (off-output e h)
-
-  abbrev front : List Port
-  front = bit_input (codes "clk") ∷ bit_input (codes "reset") ∷ bit_input (codes "clk_enable") ∷ []
-
-  stimulus-are : stimulus_ports core ≡ map in_port ins
-  stimulus-are =
-      (λ i. filter (is_number_input (stalls i)) (c.header.ports i))
-      ∙ filter-append (is_number_input true) (map in_port ins) (bit_output (codes "ce_out") ∷ map out_port outs)
-      ∙ (let a = keep-all (is_number_input true) in_port ins in-number in
-      let b = keep-none (is_number_input true) out_port outs (λ e h. refl) in
-      (λ i. a i ++ b i))
-      ∙ append-nil (map in_port ins)
-
-  outputs-are : output_ports core ≡ map out_port outs
-  outputs-are =
-      (λ i. filter (is_number_output (stalls i)) (c.header.ports i))
-      ∙ filter-append (is_number_output true) (map in_port ins) (bit_output (codes "ce_out") ∷ map out_port outs)
-      ∙ (let a = keep-none (is_number_output true) in_port ins (λ e h. or-true _) in
-      let b = keep-all (is_number_output true) out_port outs out-number in
-      (λ i. a i ++ b i))
-
-  -- ---- its numbers
-
-  attributed : (is_none (cycles_of core) ≡ false) × (option_map (λ (port : Port). port.name) (find (lacks_attribute (is_stallable core)) core.ports) ≡ None)
-  attributed = first-part (is_none (cycles_of core)) core.name (option_map (λ (port : Port). port.name) (find (lacks_attribute (is_stallable core)) core.ports)) c.sound.attributed
-
-  cycles-are : clocks_of core ≡ plan.cycles
-  cycles-are =
-      let e : cycles_of core ≡ (if nat_le 1 plan.cycles && nat_le plan.cycles 1024 then Some plan.cycles else None) = ap (λ (attrs : List Attr). attribute attrs (codes "fx_cycles") 1 1024) c.header.attrs in
-      ap (λ (o : Option ℕ). unwrap_or o 1) e ∙ kept 1 plan.cycles (nat_le 1 plan.cycles && nat_le plan.cycles 1024) (sym (ap is_none e) ∙ attributed.0)
-
-  lacks-none : (port : Port) → Contains core.ports port → lacks_attribute true port ≡ false
-  lacks-none port h = ap (λ s. lacks_attribute s port) (sym stalls) ∙ none-found (lacks_attribute (is_stallable core)) core.ports (not-mapped (find (lacks_attribute (is_stallable core)) core.ports) attributed.1) port h
-
-  out-there : (e : NamedElement) → Contains outs e → Contains core.ports (out_port e)
-  out-there e h = subst (λ ports. Contains ports (out_port e)) (sym c.header.ports)
-      (Contains-append_right front (map in_port ins ++ bit_output (codes "ce_out") ∷ map out_port outs) (out_port e)
-      (Contains-append_right (map in_port ins) (bit_output (codes "ce_out") ∷ map out_port outs) (out_port e)
-      (tail-in (bit_output (codes "ce_out")) (out_port e) (map out_port outs) (map-in out_port outs e h))))
-
   abbrev declared : NamedElement → ℕ
   declared e = declared_latency diagram A plan timing e.root.block
-
-  latency-is : (e : NamedElement) → Contains outs e → lateness_of (out_port e) ≡ declared e
-  latency-is e h =
-      let lacks : (not (is_control_output true (out_port e)) && (is_none (period_of (out_port e)) || is_none (latency_of (out_port e)))) ≡ false = lacks-none (out_port e) (out-there e h) in
-      let both = or_parts (is_none (period_of (out_port e))) (is_none (latency_of (out_port e)))
-      (sym (ap (λ b. not b && (is_none (period_of (out_port e)) || is_none (latency_of (out_port e)))) (off-output e h)) ∙ lacks) in
-      kept 0 (declared e) (nat_le 0 (declared e) && nat_le (declared e) 16777216) both.1
 
   -- ---- every port has a number in every sample, and no output is later within a sample than its clocks
 
@@ -165,34 +62,22 @@ module _ {core : Module} {diagram : Diagram} {plan : Resolved} {timing : Timing}
       (names : List (List ℕ)) (many : length names ≡ length (wanted_names diagram)) where
     late-is : (e : NamedElement) → Contains outs e → samples_late (clocks_of core) (out_port e) ≡ latency_at timing.lat e.root.block
     late-is e h =
-        let l = latency-is e h in
-        (λ i. l i / cycles-are i)
-        ∙ div-mul-add (latency_at timing.lat e.root.block) plan.cycles (ready_of diagram A plan timing e.root.block) (ready e.root (out-name e h).1)
+        let l : lateness_of (out_port e) ≡ declared e = ap (λ (o : Option ℕ). unwrap_or o 0) (output-numbers c e h).1 in
+        (λ i. l i / cycles-are c i)
+        ∙ div-mul-add (latency_at timing.lat e.root.block) plan.cycles (ready_of diagram A plan timing e.root.block) (ready e.root (out-name c e h).1)
 
     in-period : (e : NamedElement) → Contains ins e → period_of (in_port e) ≡ Some 1
-    in-period e h = ap (λ (o : Option ℕ). value_between 1 4096 (Some (attribute_of (codes "fx_period") (unwrap_or o 1)))) (in_steady e.root (in-name e h).1)
+    in-period e h = ap (λ (o : Option ℕ). value_between 1 4096 (Some (attribute_of (codes "fx_period") (unwrap_or o 1)))) (in_steady e.root (in-name c e h).1)
 
     out-step : (e : NamedElement) → Contains outs e → step_of e.root ≡ 1
-    out-step e h = ap (λ (o : Option ℕ). unwrap_or o 1) (out_steady e.root (out-name e h).1)
-
-    wanted-size : length (wanted_names diagram) ≡ length (root_inputs diagram A) + length (root_outputs diagram A)
-    wanted-size =
-        let wi : RootElement → List ℕ = wanted_of diagram (λ block. A.width_at block 1) in
-        let wo : RootElement → List ℕ = wanted_of diagram (λ block. width_into diagram A block 1) in
-        length-append (map wi (root_inputs diagram A)) (map wo (root_outputs diagram A))
-        ∙ (let a = length-map (root_inputs diagram A) wi in let b = length-map (root_outputs diagram A) wo in (λ i. a i + b i))
-
-    core-many : length c.names ≡ length (wanted_names diagram)
-    core-many = given_size own_names (wanted_names diagram) c.names c.are_names.given
+    out-step e h = ap (λ (o : Option ℕ). unwrap_or o 1) (out_steady e.root (out-name c e h).1)
 
     -- get_some is a name for each column
     pub columns-many : length names ≡ length (stimulus_ports core) + length (output_ports core)
     columns-many =
-        let size = wanted-size in
-        let ins-many = ap (λ (ports : List Port). length ports) stimulus-are ∙ length-map ins in_port ∙ named-size c.names (root_inputs diagram A) (omega (arith, size, core-many)) in
-        let rest = length-drop (length (root_inputs diagram A)) c.names in
-        let outs-many = ap (λ (ports : List Port). length ports) outputs-are ∙ length-map outs out_port
-        ∙ named-size (drop (length (root_inputs diagram A)) c.names) (root_outputs diagram A) (omega (arith, size, core-many, rest)) in
+        let size = wanted-size c in
+        let ins-many = inputs-many c in
+        let outs-many = outputs-many c in
         omega (arith, size, many, ins-many, outs-many)
 
     module _ (window : Window) (rows : Rows) (f : IsFollowed core names window rows) where
@@ -205,7 +90,7 @@ module _ {core : Module} {diagram : Diagram} {plan : Resolved} {timing : Timing}
       }
         where
           counts : (place : ℕ) → row_at f.core_window place < f.core_window.rows → counts_at core f.core_window f.core_inputs place ≡ true
-          counts place below = let on = f.steady.enabled place below in let s = stalls in (λ i. not (s i) || on i == 1)
+          counts place below = let on = f.steady.enabled place below in let s = stalls c in (λ i. not (s i) || on i == 1)
 
       clock-is : (clock place : ℕ) → IsClock core f.core_window f.core_inputs clock place → place ≡ clock
       clock-is clock place is = sym (ticks place is.within).number ∙ is.number
@@ -224,11 +109,11 @@ module _ {core : Module} {diagram : Diagram} {plan : Resolved} {timing : Timing}
         driven = record {
           reset = f.steady.reset;
           shows = λ cycles cycles_is index port at period period_is t less hit clock p low high tick.
-              let e = map_there in_port ins index port (sym (ap (λ (ports : List Port). slice_get ports index) stimulus-are) ∙ at) in
-              let root = (named-at c.names (root_inputs diagram A) index e.0 e.1).1 in
+              let e = input-at c index port at in
+              let root = e.3 in
               let one : period ≡ 1 = (let s : Some period ≡ Some 1 = sym period_is ∙ ap period_of (sym e.2) ∙ in-period e.0 (got-in ins index e.0 e.1) in cc s) in
               let clocks : clocks_of core ≡ cycles = ap (λ (o : Option ℕ). unwrap_or o 1) cycles_is in
-              let enough : index < length names = (let x = there_within (root_inputs diagram A) index e.0.root root in let y = wanted-size in omega (arith, x, y, many)) in
+              let enough : index < length names = (let x = there_within (root_inputs diagram A) index e.0.root root in let y = wanted-size c in omega (arith, x, y, many)) in
               let n = get_some names index enough in
               let q = in-at t less in
               let here = clock-is clock p tick in
@@ -249,14 +134,14 @@ module _ {core : Module} {diagram : Diagram} {plan : Resolved} {timing : Timing}
             let lat : ℕ = latency_at timing.lat e.root.block in
             let n : ℕ = shown_at core number (out_port e) in
             let late = late-is e h in
-            let cycles = cycles-are in
+            let cycles = cycles-are c in
             let some : number < taken_by window rows place = (let t = f.taken number place is in omega (arith, t)) in
-            let less = ready e.root (out-name e h).1 in
+            let less = ready e.root (out-name c e h).1 in
             let n-is : n ≡ (number + lat + 1) * plan.cycles - 1 = (λ i. (number + late i + 1) * cycles i - 1) in
             let split : (number + lat + 1) * plan.cycles ≡ number * plan.cycles + lat * plan.cycles + plan.cycles = omega arith in
             let step = out-step e h in
             let hit : number % step_of e.root ≡ 0 = ap (λ s. number % s) step ∙ (let r = mod_below number 1 (omega arith) in omega (arith, r)) in
-            let inside : row_at f.core_window n < f.core_window.rows = f.reached number place is index (out_port e) (ap (λ (ports : List Port). slice_get ports index) outputs-are ∙ there_map out_port outs index e at) in
+            let inside : row_at f.core_window n < f.core_window.rows = f.reached number place is index (out_port e) (ap (λ (ports : List Port). slice_get ports index) (outputs-are c) ∙ there_map out_port outs index e at) in
             let from : number * plan.cycles + declared e ≤ n = omega (arith, n-is, split, less) in
             let until : n < (number + lat + step_of e.root) * plan.cycles = subst (λ s. n < (number + lat + s) * plan.cycles) (sym step) (omega (arith, n-is, split, less)) in
             c.bits (taken_by window rows place) f.core_window stimulus table f.core_rows run index e at number some hit n n from until (ticks n inside)
@@ -264,30 +149,14 @@ module _ {core : Module} {diagram : Diagram} {plan : Resolved} {timing : Timing}
             run : IsDrivenRun core diagram (taken_by window rows place) f.core_window stimulus table f.core_rows
             run = record { start = f.core_start; inputs = f.core_inputs; in_range = taken.in_range; solves = solves; driven = driven; runs = f.steady.runs }
 
-        -- the core's output of a name
-        out-of : (e : NamedElement) (index : ℕ) → slice_get (output_elements names diagram) index ≡ Some e → (o : NamedElement) × (slice_get outs index ≡ Some o) × (o.root ≡ e.root)
-        out-of e index at =
-            let own = named-at (drop (length (root_inputs diagram A)) names) (root_outputs diagram A) index e at in
-            let low = there_within (root_outputs diagram A) index e.root own.1 in
-            let size = wanted-size in
-            let rest = length-drop (length (root_inputs diagram A)) c.names in
-            let n = get_some (drop (length (root_inputs diagram A)) c.names) index (omega (arith, low, size, core-many, rest)) in
-            (element n.0 e.root, to-named (drop (length (root_inputs diagram A)) c.names) (root_outputs diagram A) index n.0 e.root n.1 own.1, refl)
-
-        -- how many inputs the core has
-        ins-size : length (stimulus_ports core) ≡ length (root_inputs diagram A)
-        ins-size =
-            ap (λ (ports : List Port). length ports) stimulus-are ∙ length-map ins in_port
-            ∙ named-size c.names (root_inputs diagram A) (let size = wanted-size in omega (arith, size, core-many))
-
         pub shown : (m : Module) → IsCarried core names window rows f.core_window f.core_rows
             → Each (output_elements names diagram) (λ index e. rows (row_at window place) e.name ≡ bits_of (width_of e.root.type) (table e.root.block 1 e.root.element number))
         shown m carried = λ index e at.
-            let o = out-of e index at in
             let own = named-at (drop (length (root_inputs diagram A)) names) (root_outputs diagram A) index e at in
-            let port : slice_get (output_ports core) index ≡ Some (out_port o.0) = ap (λ (ports : List Port). slice_get ports index) outputs-are ∙ there_map out_port outs index o.0 o.1 in
+            let o = output-of c index e.root own.1 in
+            let port : slice_get (output_ports core) index ≡ Some (out_port o.0) = ap (λ (ports : List Port). slice_get ports index) (outputs-are c) ∙ there_map out_port outs index o.0 o.1 in
             let pair : slice_get (named_outputs core names) index ≡ Some (out_port o.0, e.name) =
-            zip-at (output_ports core) (drop (length (stimulus_ports core)) names) index (out_port o.0) e.name port (ap (λ k. slice_get (drop k names) index) ins-size ∙ own.0) in
+            zip-at (output_ports core) (drop (length (stimulus_ports core)) names) index (out_port o.0) e.name port (ap (λ k. slice_get (drop k names) index) (inputs-many c) ∙ own.0) in
             carried.at number place is index (out_port o.0, e.name) pair (f.reached number place is index (out_port o.0) port)
             ∙ shows-at o.0 index o.1
             ∙ ap (λ (r : RootElement). bits_of (width_of r.type) (table r.block 1 r.element number)) o.2

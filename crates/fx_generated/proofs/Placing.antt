@@ -106,9 +106,9 @@ given-free taken (want ∷ wanted) (name ∷ names) g n c h = ⊎_elim
 
 -- ---- numbers of attributes
 
-pub kept : (other v : ℕ) (b : Bool) → is_none (if b then Some v else None) ≡ false → unwrap_or (if b then Some v else None) other ≡ v
-kept other v true h = refl
-kept other v false h = absurd (cc h)
+pub kept : (v : ℕ) (b : Bool) → is_none (if b then Some v else None) ≡ false → (if b then Some v else None) ≡ Some v
+kept v true h = refl
+kept v false h = absurd (cc h)
 
 pub first-part : (b : Bool) (n : List ℕ) (rest : Option (List ℕ)) → (if b then Some n else rest) ≡ None → (b ≡ false) × (rest ≡ None)
 first-part true n rest e = absurd (cc e)

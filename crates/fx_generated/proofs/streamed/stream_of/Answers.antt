@@ -1,6 +1,6 @@
 use Rattle.std.proofs.Common.{subst, sym}
 use Rattle.std.proofs.lemmas.Result.{IfOk-weaker}
-use Rattle.fx_generated.proofs.Answering.{stalls}
+use Rattle.fx_generated.proofs.Ported.{stalls}
 use Rattle.fx_generated.proofs.Streams.{Laws, column-names, is-core, stream-all}
 use Rattle.fx_generated.proofs.streamed.stream_of.Goals as goal
 use Rattle.hw_names.specs.Names.{AreStreamNames}
