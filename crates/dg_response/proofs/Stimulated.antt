@@ -1,4 +1,4 @@
--- Rows of numbers in range are a stimulus.
+-- Rows of numbers in range are a stimulus. Crates above may cite this file.
 use Rattle.std.proofs.Common.{◌≡◌, ◌<◌, ◌≤◌, ◌≤ℤ◌, ◌+◌, ◌*◌, ◌%◌, ◌==◌, ℕ, Bool, true, false, ◌&&◌, length, Option, None, Some, ℤ, int_le, refl, sym, ap, subst, ◌∙◌, arith}
 use Rattle.std.specs.Option.{unwrap_or}
 use Rattle.std.proofs.lemmas.List.{length-map}
