@@ -1,6 +1,6 @@
 mod LineStates
 mod PlanLines
-mod PlanOf
+pub mod PlanOf
 mod OneRule
 mod TwoCycles
 mod OneCycle

@@ -1,4 +1,4 @@
--- A plan in range whose paths are found is one of the diagram.
+-- A plan in range whose paths are found is one of the diagram. Crates above may cite this file.
 use Rattle.std.proofs.Common.{◌≡◌, ℕ, zero, suc, ◌<◌, Bool, true, false, List, [], ◌∷◌, length, map, bytes_eq, refl, sym, ap, subst, ◌∙◌, arith}
 use Rattle.std.specs.Prelude.{◌≤◌, All, Some, slice_get, slice_index}
 use Rattle.std.specs.List.{AllByRecursion}

@@ -1,4 +1,5 @@
 pub mod Numbers
 pub mod Orders
+pub mod Planned
 pub mod Ready
 pub mod Walks

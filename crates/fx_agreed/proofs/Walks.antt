@@ -8,9 +8,9 @@ use Rattle.std.proofs.lemmas.List.{length-take-le}
 use Rattle.std.proofs.lemmas.List.Folds.{Any-from_list_any}
 use Rattle.std.proofs.lemmas.Map.Made.{IsDistinct-from_AllPairs}
 use Rattle.std.proofs.lemmas.Map.Steps.{length-le_from_distinct_below}
-use Rattle.std.proofs.lemmas.Option.{none-some, same_Some, slice_get_within, slice_get-get_or, get_or_from_slice_get}
+use Rattle.std.proofs.lemmas.Option.{none-some, same_Some, slice_get_within, slice_get-get_or}
 use Rattle.dg_model.specs.declared.diagram.Diagram.{Diagram}
-use Rattle.dg_model.specs.Loop.{IsInstantCycle, IsInstantPath, KeepsLoop, LeadsNow}
+use Rattle.dg_model.specs.Loop.{IsInstantPath, KeepsLoop, LeadsNow}
 use Rattle.dg_model.specs.Signals.{Attributes}
 use Rattle.fx_io.proofs.Places.{get_take, push_cases}
 

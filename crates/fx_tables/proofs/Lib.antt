@@ -8,6 +8,7 @@ pub mod PlanForms
 pub mod PlanText
 pub mod RangeLemmas
 pub mod PlanLemmas
+pub mod Ranged
 pub mod StimulusLemmas
 pub mod CellsLemmas
 pub mod ResponseLemmas
