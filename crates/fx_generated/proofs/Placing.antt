@@ -1,6 +1,6 @@
 -- Lists by their places, counts up to a place, names that are given, and numbers that attributes have.
 use Rattle.std.proofs.Common.{◌≡◌, ℕ, zero, suc, ◌<◌, ◌≤◌, ⊎_elim, Bool, true, false, not, ◌||◌, if◌then◌else◌, List, [], ◌∷◌, map, filter, find, length, Contains, Option, Some, None, refl, sym, ap, subst, ◌∙◌, arith}
-use Rattle.std.specs.Prelude.{slice_get, is_none, option_map, unwrap_or}
+use Rattle.std.specs.Prelude.{slice_get, is_none, option_map}
 use Rattle.std.specs.List.{zip}
 use Rattle.std.proofs.lemmas.Bool.{cases_Bool, cases_eq, cond-false, cond-true}
 use Rattle.dg_model.specs.RootElements.{RootElement}
