@@ -96,7 +96,7 @@ module _ {core : Module} {diagram : Diagram} {plan : Resolved} {timing : Timing}
   abbrev front : List Port
   front = bit_input (codes "clk") ∷ bit_input (codes "reset") ∷ bit_input (codes "clk_enable") ∷ []
 
-  pub stimulus-are : stimulus_ports core ≡ map in_port ins
+  stimulus-are : stimulus_ports core ≡ map in_port ins
   stimulus-are =
       (λ i. filter (is_number_input (stalls i)) (c.header.ports i))
       ∙ filter-append (is_number_input true) (map in_port ins) (bit_output (codes "ce_out") ∷ map out_port outs)
@@ -169,7 +169,7 @@ module _ {core : Module} {diagram : Diagram} {plan : Resolved} {timing : Timing}
       length-append (map wi (root_inputs diagram A)) (map wo (root_outputs diagram A))
       ∙ (let a = length-map (root_inputs diagram A) wi in let b = length-map (root_outputs diagram A) wo in (λ i. a i + b i))
 
-  pub core-many : length c.names ≡ length (wanted_names diagram)
+  core-many : length c.names ≡ length (wanted_names diagram)
   core-many = given_size own_names (wanted_names diagram) c.names c.are_names.given
 
   pub inputs-many : length (stimulus_ports core) ≡ length (root_inputs diagram A)
