@@ -1,3 +1,11 @@
-//! What the commands say of one another: the module of a design shows in a replay what its diagram
-//! shows in a simulation.
+//! What the program's commands say of one another, for all texts.
+//!
+//! `simulate` works out the equations of a model's diagram, and `replay` runs the module that a Verilog
+//! text spells. Of the text that `generate` writes of that model and any plan the two say the same,
+//! byte for byte (`replays_are_responses`), and of the same stimuli (`replays_are_as_simulations`); so
+//! what a sample compares agrees (`samples_agree`).
 #![tactic(auto)]
+
+mod laws;
+
+pub use laws::{replays_are_as_simulations, replays_are_responses, samples_agree};

@@ -1,4 +1,4 @@
--- The numbers of a stimulus without a fault fit their columns.
+-- The numbers of a stimulus without a fault fit their columns. Crates above may cite this file.
 use Rattle.std.proofs.Common.{◌≡◌, ℕ, zero, suc, ◌+◌, ◌*◌, ◌<◌, ◌≤◌, Bool, true, false, not, None, Some, Option, List, [], ◌∷◌, ◌++◌, length, map, eqb, refl, sym, ap, subst, ◌∙◌, arith, rules}
 use Rattle.std.specs.Prelude.{ℤ, pos, slice_get, if◌then◌else◌}
 use Rattle.std.specs.List.{flat_map}

@@ -16,6 +16,7 @@ use Rattle.fx_sample.specs.ModelText.{sample_model}
 use Rattle.fx_sample.specs.Stimulus.{sample_plan, sample_stimulus}
 use Rattle.fx_designed.specs.Design.{IsDesignOf}
 use Rattle.fx_top.specs.Summarized.{IsMade, IsSampleResponse, IsSummaryOf, latency_of_output}
+use Rattle.fx_generated.specs.Generated.{SpellsAlone}
 use Rattle.fx_generated.specs.Generating.{IsWrittenOf}
 use Rattle.fx_top.specs.inner.Sampling.{IsOwed}
 use Rattle.hw_module.specs.Design.{IsModuleOf}
@@ -83,6 +84,7 @@ module _ (diagram : Diagram) where
     design = design;
     own = written.made;
     owed = written.so;
+    alone = subst (λ (bytes : List ℕ). SpellsAlone bytes written.made) written.spelled written.alone;
     may = subst (λ (bytes : List ℕ). MayTell bytes (sample_stimulus number) told) written.spelled may;
     response = response;
     simulated = simulated;

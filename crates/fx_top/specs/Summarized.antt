@@ -5,6 +5,7 @@ use Rattle.dg_model.specs.declared.resolved.Resolved.{Resolved}
 use Rattle.dg_model.specs.Attributes.{attributes_of}
 use Rattle.dg_model.specs.RootElements.{RootElement, root_outputs}
 use Rattle.fx_designed.specs.Design.{IsDesignOf, TellsPlanRule}
+use Rattle.fx_generated.specs.Generated.{SpellsAlone}
 use Rattle.fx_model.specs.RuleLine.{TellsRule}
 use Rattle.fx_sample.specs.declared.summing.Made.{Made}
 use Rattle.fx_sample.specs.ModelText.{sample_model}
@@ -40,8 +41,8 @@ IsSampleResponse count response =
     IsSimulationOf (sample_model count) (sample_stimulus count) response
     ⊎ ((CanBeSimulated (sample_model count) (sample_stimulus count) → ⊥) × (response ≡ []))
 
--- the text is the summary of a sample whose bench tells these bytes, as it may of the module that
--- owes the sample's design nothing
+-- the text is the summary of a sample whose bench tells these bytes, as it may of a module that owes
+-- the sample's design nothing and that its written text spells alone
 pub record IsSummaryOf (MayTell : List ℕ → List ℕ → List ℕ → Type 0) (count : ℕ)
     (told text : List ℕ) : Type 0 where
   pub diagram : Diagram
@@ -50,6 +51,7 @@ pub record IsSummaryOf (MayTell : List ℕ → List ℕ → List ℕ → Type 0)
   pub design : IsDesignOf (sample_model count) sample_plan diagram plan timing
   pub own : Module
   pub owed : IsModuleOf own diagram plan timing
+  pub alone : SpellsAlone (spelling own) own
   pub may : MayTell (spelling own) (sample_stimulus count) told
   pub response : List ℕ
   pub simulated : IsSampleResponse count response
