@@ -1,7 +1,7 @@
 -- What is emitted breaks no condition on expressions, reads the nets that it is made of, and multiplies
 -- nowhere but at a Multiply or a Unit.
-use Rattle.std.proofs.Common.{◌≡◌, inl, inr, ℕ, ◌+◌, ◌-◌, ◌*◌, ◌^◌, ◌<◌, ◌≤◌, ◌==◌, nat_le, nat_lt, max, Bool, true, false, ◌&&◌, if◌then◌else◌, List, [], ◌∷◌, ◌++◌, Contains, ap, sym, ◌∙◌, subst, refl, arith, pow_pos}
-use Rattle.std.proofs.lemmas.Bool.{cond_both, eqb-true, eqb-false, leb-true, leb-false, ltb-true, le-leb, lt-ltb, and_from}
+use Rattle.std.proofs.Common.{◌≡◌, inl, inr, ℕ, ◌+◌, ◌-◌, ◌*◌, ◌^◌, ◌<◌, ◌≤◌, ◌==◌, nat_le, nat_lt, max, min, Bool, true, false, ◌&&◌, if◌then◌else◌, List, [], ◌∷◌, ◌++◌, Contains, ap, sym, ◌∙◌, subst, refl, arith, pow_pos}
+use Rattle.std.proofs.lemmas.Bool.{and_parts, cond_both, eqb-true, eqb-false, leb-true, leb-false, ltb-true, le-leb, lt-ltb, and_from}
 use Rattle.std.proofs.lemmas.List.Elements.{Contains-append_cases}
 use Rattle.fx_num.specs.Word.{IsWord}
 use Rattle.vl_ast.specs.declared.expressions.UnOp.{UnOp}
@@ -26,7 +26,7 @@ use Rattle.vl_ast.specs.Value.{bits_of}
 use Rattle.hw_net.specs.declared.netlist.NetOp.{NetOp}
 use Rattle.hw_net.specs.declared.netlist.NetOp.TheVariants as operation
 use Rattle.hw_net.specs.Operation.{arity}
-use Rattle.vl_emit.specs.inner.Operators.{by_sign, compared, signed_width, widened, common_width, test_of, in_width, slice_at, expression_of}
+use Rattle.vl_emit.specs.inner.Operators.{by_sign, compared, signed_width, widened, common_width, factor, product, product_signed, test_of, in_width, slice_at, expression_of}
 use Rattle.vl_emit.specs.inner.Spoken.{IsWithin}
 use Rattle.vl_ast.proofs.Stimulated.{bits-fit}
 use Rattle.vl_emit.specs.inner.Clean.{IsClean}
@@ -159,34 +159,33 @@ module _ (nets : List ℕ → Net) (allowed : List ℕ → Type 0) where
   none-at Alone context signed x y h = h (own_length nets x) (is_signed nets x)
 
   -- in the context of a binary operator only its own multiplication
-  pub binary-products : (w : ℕ) (op : BinOp) (x y : Expr) (context : ℕ) (signed : Bool) → Clean w x → Clean w y
+  pub binary-products : (w v : ℕ) (op : BinOp) (x y : Expr) (context : ℕ) (signed : Bool) → Clean w x → Clean v y
       → multiplications_in nets context signed (Binary op x y) ≡ product_of op (record { left = x; right = y; width = context; signed = signed }) ++ []
-  binary-products w op x y context signed p q =
+  binary-products w v op x y context signed p q =
       ap (multiplications_in nets context signed) (sym (rolls-Binary op x y)) ∙ products-roll (Expr-F.Binary op x y) context signed
       ∙ (let a = none-at (binary_place op) context signed x y p.products in
       let b = none-at (binary_place op) context signed y x q.products in
       (λ i. a i ++ (product_of op (record { left = x; right = y; width = context; signed = signed }) ++ b i)))
 
-  pub binary-reads : (w : ℕ) (op : BinOp) (x y : Expr) (name : List ℕ) → Clean w x → Clean w y → Contains (names_read (Binary op x y)) name → allowed name
-  binary-reads w op x y name p q c =
+  pub binary-reads : (w v : ℕ) (op : BinOp) (x y : Expr) (name : List ℕ) → Clean w x → Clean v y → Contains (names_read (Binary op x y)) name → allowed name
+  binary-reads w v op x y name p q c =
       let e = ap names_read (sym (rolls-Binary op x y)) ∙ names-roll (Expr-F.Binary op x y) in
       elim (Contains-append_cases (names_read x) (names_read y) name (subst (λ (ns : List (List ℕ)). Contains ns name) e c)) [
         | inl d ↦ p.reads name d
         | inr d ↦ q.reads name d
       ]
 
-  pub binary-sound : (w : ℕ) (op : BinOp) (x y : Expr) → w ≤ 128 → Clean w x → Clean w y → sound (Binary op x y) ≡ true
-  binary-sound w op x y h p q =
+  pub binary-sound : (w v : ℕ) (op : BinOp) (x y : Expr) → w ≤ 128 → v ≤ 128 → Clean w x → Clean v y → sound (Binary op x y) ≡ true
+  binary-sound w v op x y h k p q =
       ap sound (sym (rolls-Binary op x y)) ∙ sound-roll (Expr-F.Binary op x y)
-      ∙ and_from (is_narrow nets (x, sound x)) (is_narrow nets (y, sound y)) (narrow w x h p) (narrow w y h q)
+      ∙ and_from (is_narrow nets (x, sound x)) (is_narrow nets (y, sound y)) (narrow w x h p) (narrow v y k q)
 
   pub binary-clean : (w : ℕ) (op : BinOp) (x y : Expr) → w ≤ 128 → ((m : Multiplication) → product_of op m ≡ []) → Clean w x → Clean w y → Clean (length_at (binary_place op) w) (Binary op x y)
   binary-clean w op x y h none p q = record {
     length = length-Binary nets op x y ∙ ap (length_at (binary_place op)) (omega (arith, p.length, q.length));
-    sound = ap sound (sym (rolls-Binary op x y)) ∙ sound-roll (Expr-F.Binary op x y)
-        ∙ and_from (is_narrow nets (x, sound x)) (is_narrow nets (y, sound y)) (narrow w x h p) (narrow w y h q);
-    reads = λ name c. binary-reads w op x y name p q c;
-    products = λ context signed. binary-products w op x y context signed p q ∙ ap (λ (l : List Multiplication). l ++ []) (none (record { left = x; right = y; width = context; signed = signed }));
+    sound = binary-sound w w op x y h h p q;
+    reads = λ name c. binary-reads w w op x y name p q c;
+    products = λ context signed. binary-products w w op x y context signed p q ∙ ap (λ (l : List Multiplication). l ++ []) (none (record { left = x; right = y; width = context; signed = signed }));
   }
 
   pub choose-clean : (w v : ℕ) (test x y : Expr) → w ≤ 128 → v ≤ 128 → Clean v test → Clean w x → Clean w y → Clean w (Choose test x y)
@@ -298,6 +297,55 @@ module _ (nets : List ℕ → Net) (allowed : List ℕ → Type 0) where
       (λ is. let one = eqb-true wire.width 1 is in subst (λ (i : ℕ). Clean i (Name wire.name)) one (net-clean wire r))
       (λ is. binary-clean wire.width binary.NotEqual (Name wire.name) (zeros wire.width) k (λ m. refl) (net-clean wire r) (no-bits wire.width h k))
 
+  -- an expression of at most so many bits
+  pub record IsCleanWithin (most : ℕ) (e : Expr) : Type 0 where
+    pub bits : ℕ
+    pub within : bits ≤ most
+    pub clean : Clean bits e
+
+  pub factor-clean : (signed : Bool) (w : ℕ) (wire : Wire) → 1 ≤ w → w ≤ 128 → Readable wire → IsCleanWithin w (factor signed w wire)
+  factor-clean true w wire h k r =
+      let v : ℕ = min (signed_width wire) w in
+      let e : Expr = at_width (min (signed_width wire) w) wire in
+      let room = signed-most wire.width wire.signed r.word in
+      cond_both (wire.signed && nat_le wire.width w) (Name wire.name) (AsSigned e) (IsCleanWithin w)
+      (λ is. record { bits = wire.width; within = leb-true wire.width w (and_parts wire.signed (nat_le wire.width w) is).1; clean = net-clean wire r })
+      (λ is. record { bits = v; within = omega arith; clean = as_signed-clean v e (omega (arith, k)) (at-clean v wire (omega (arith, h, room.0)) (omega (arith, k)) r) })
+  factor-clean false w wire h k r =
+      let some = word-some wire.width wire.signed r.word in
+      cond_both wire.signed w (min wire.width w) (λ (v : ℕ). IsCleanWithin w (at_width v wire))
+      (λ is. record { bits = w; within = omega arith; clean = at-clean w wire h k r })
+      (λ is. record { bits = min wire.width w; within = omega arith; clean = at-clean (min wire.width w) wire (omega (arith, h, some)) (omega (arith, k)) r })
+
+  module _ (w : ℕ) (x y : Wire) (some : 1 ≤ w) (most : w ≤ 128) (r : Readable x) (s : Readable y) where
+    left-factor : IsCleanWithin w (factor (product_signed x y) w x)
+    left-factor = factor-clean (product_signed x y) w x some most r
+
+    right-factor : IsCleanWithin w (factor (product_signed x y) w y)
+    right-factor = factor-clean (product_signed x y) w y some most s
+
+    -- a product breaks no condition, has at most its own bits, and reads its two nets
+    pub product-length : own_length nets (product w x y) ≤ w
+    product-length =
+        let p = left-factor in
+        let q = right-factor in
+        let long = length-Binary nets binary.Multiply (factor (product_signed x y) w x) (factor (product_signed x y) w y) in
+        omega (arith, long, p.clean.length, q.clean.length, p.within, q.within)
+
+    pub product-sound : sound (product w x y) ≡ true
+    product-sound =
+        let p = left-factor in
+        let q = right-factor in
+        binary-sound p.bits q.bits binary.Multiply _ _ (omega (arith, p.within, most)) (omega (arith, q.within, most)) p.clean q.clean
+
+    pub product-reads : (name : List ℕ) → Contains (names_read (product w x y)) name → allowed name
+    product-reads name c = binary-reads left-factor.bits right-factor.bits binary.Multiply _ _ name left-factor.clean right-factor.clean c
+
+    -- it is one multiplication, of its factors in its context
+    pub product-one : (context : ℕ) (signed : Bool) → multiplications_in nets context signed (product w x y)
+        ≡ record { left = factor (product_signed x y) w x; right = factor (product_signed x y) w y; width = context; signed = signed } ∷ []
+    product-one context signed = binary-products left-factor.bits right-factor.bits binary.Multiply _ _ context signed left-factor.clean right-factor.clean
+
   module _ (ports : ℕ → Wire) (a : ℕ → Wire) (w : ℕ) (some : 1 ≤ w) (most : w ≤ 128) where
     two-clean : (op : BinOp) → ((m : Multiplication) → product_of op m ≡ []) → (c : ℕ) → 1 ≤ c → c ≤ 128 → Readable (a 0) → Readable (a 1)
         → Clean (length_at (binary_place op) c) (in_width op c a)
@@ -368,9 +416,3 @@ module _ (nets : List ℕ → Net) (allowed : List ℕ → Type 0) where
         let r = known 0 (omega arith) in
         let k = word-most (a 0).width (a 0).signed r.word in
         slice-clean low (high + 1 - low) (omega (arith, within.0)) (omega (arith, within.0, within.1, k)) r
-
-    -- a Multiply or a Unit is one multiplication, of its operands in the context of its width
-    pub product-one : Readable (a 0) → Readable (a 1) → (context : ℕ) (signed : Bool)
-        → multiplications_in nets context signed (in_width binary.Multiply w a) ≡ record { left = at_width w (a 0); right = at_width w (a 1); width = context; signed = signed } ∷ []
-    product-one r s context signed =
-        binary-products w binary.Multiply (at_width w (a 0)) (at_width w (a 1)) context signed (at-clean w (a 0) some most r) (at-clean w (a 1) some most s)

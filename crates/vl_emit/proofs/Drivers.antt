@@ -21,16 +21,15 @@ use Rattle.hw_net.specs.declared.netlist.NetOp.TheVariants as operation
 use Rattle.hw_net.specs.declared.netlist.NetKind.{NetKind}
 use Rattle.hw_net.specs.declared.netlist.NetKind.TheVariants.{Comb, Reg, EnReg, Bridge, Unit, Counter}
 use Rattle.vl_emit.specs.Names.{Wire}
-use Rattle.vl_emit.specs.inner.Spelled.{zeros, at_width}
-use Rattle.vl_emit.specs.inner.Operators.{test_of}
+use Rattle.vl_emit.specs.inner.Spelled.{zeros}
+use Rattle.vl_emit.specs.inner.Operators.{product, test_of}
 use Rattle.vl_emit.specs.inner.Clean.{IsClean, IsCleanItem}
 use Rattle.vl_emit.specs.inner.Emitted.{Naming, wire_of, plain_number, constant, counts, slot_test, live_test, drivers}
 use Rattle.vl_emit.proofs.Found.{first-or-later, no-element}
 use Rattle.vl_ast.proofs.Stimulated.{bits-fit}
-use Rattle.vl_emit.proofs.Cleaned.{Readable, narrow, sound, literal-clean, binary-clean, binary-sound, binary-reads, choose-clean, at-clean, net-clean, no-bits, test-clean, word-most, op-clean}
+use Rattle.vl_emit.proofs.Cleaned.{Readable, narrow, sound, literal-clean, binary-clean, choose-clean, net-clean, no-bits, test-clean, word-most, op-clean, product-length, product-sound, product-reads}
 use Rattle.vl_emit.specs.inner.Operators.{expression_of}
 use Rattle.vl_emit.specs.inner.Sound.{NamedBy, IsSound, IsSoundKind, IsCounted}
-use Rattle.vl_ast.proofs.Forms.{length-Binary}
 use Rattle.vl_emit.proofs.OfOperations.{width-at-least}
 use Rattle.vl_emit.proofs.Registers.{both-some}
 
@@ -96,12 +95,11 @@ module _ (nets : List ℕ → DeclaredNet) (allowed : List ℕ → Type 0) where
     products = λ t. q.products (max (nets name).width (own_length nets e)) (is_signed nets e);
   }
 
-  pub unit-clean : (name : List ℕ) (w : ℕ) (x y : Expr) → w ≤ 128 → Clean w x → Clean w y → CleanItem true (item.Assign name (expression.Binary binary.Multiply x y))
-  unit-clean name w x y h p q = record {
-    sound = (let e : Expr = expression.Binary binary.Multiply x y in
-        let long : own_length nets e ≡ w = length-Binary nets binary.Multiply x y ∙ omega (arith, p.length, q.length) in
-        (λ i. binary-sound nets allowed w binary.Multiply x y h p q i && nat_le (long i) 128) ∙ le-leb w 128 h);
-    reads = λ z c. binary-reads nets allowed w binary.Multiply x y z p q c;
+  pub product-clean : (name : List ℕ) (w : ℕ) (x y : Wire) → 1 ≤ w → w ≤ 128 → Readable nets allowed x → Readable nets allowed y → CleanItem true (item.Assign name (product w x y))
+  product-clean name w x y some most r s = record {
+    sound = (let long : own_length nets (product w x y) ≤ 128 = (let l = product-length nets allowed w x y some most r s in omega (arith, l, most)) in
+        and_from (sound nets allowed (product w x y)) (nat_le (own_length nets (product w x y)) 128) (product-sound nets allowed w x y some most r s) (le-leb (own_length nets (product w x y)) 128 long));
+    reads = λ z c. product-reads nets allowed w x y some most r s z c;
     products = λ t. absurd (cc t);
   }
 
@@ -200,14 +198,14 @@ module _ (nets : List ℕ → DeclaredNet) (allowed : List ℕ → Type 0) (cycl
         let names = subst (IsSoundKind cycles count naming net rank k) is (sound.names k h) in
         let x : Wire = wire (get_or args 0 0) in
         let y : Wire = wire (get_or args 1 0) in
-        only true _ i (unit-clean nets allowed (naming.net k) (net k).width (at_width (net k).width x) (at_width (net k).width y) high
-        (at-clean nets allowed (net k).width x low high (may (Comb operation.Multiply args) is (get_or args 0 0) (names.1 0 (omega arith)).there (0, omega arith, refl)))
-        (at-clean nets allowed (net k).width y low high (may (Comb operation.Multiply args) is (get_or args 1 0) (names.1 1 (omega arith)).there (1, omega arith, refl)))) c
+        only true _ i (product-clean nets allowed (naming.net k) (net k).width x y low high
+        (may (Comb operation.Multiply args) is (get_or args 0 0) (names.1 0 (omega arith)).there (0, omega arith, refl))
+        (may (Comb operation.Multiply args) is (get_or args 1 0) (names.1 1 (omega arith)).there (1, omega arith, refl))) c
     drivers-clean (Comb op args) is i c = only false _ i (not-multiply op args is (λ e. absurd (cc e))) c
     drivers-clean (Unit left right) is i c =
         let names = subst (IsSoundKind cycles count naming net rank k) is (sound.names k h) in
-        only true _ i (unit-clean nets allowed (naming.net k) (net k).width (at_width (net k).width (wire left)) (at_width (net k).width (wire right)) high
-        (at-clean nets allowed (net k).width (wire left) low high (may (Unit left right) is left names.0.there (inl refl))) (at-clean nets allowed (net k).width (wire right) low high (may (Unit left right) is right names.1.there (inr refl)))) c
+        only true _ i (product-clean nets allowed (naming.net k) (net k).width (wire left) (wire right) low high
+        (may (Unit left right) is left names.0.there (inl refl)) (may (Unit left right) is right names.1.there (inr refl))) c
     drivers-clean (Counter frame) is i c =
         let fits = counter-fits k frame h is in
         let one : 1 < 2 ^ (net k).width = (let p : 2 ^ 1 ≤ 2 ^ (net k).width = pow_mono low in omega (arith, p)) in

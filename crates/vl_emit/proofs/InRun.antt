@@ -16,11 +16,10 @@ use Rattle.hw_net.specs.Circuit.{Circuit}
 use Rattle.vl_emit.specs.Names.{Wire, shown}
 use Rattle.hw_net.specs.Products.{net_at}
 use Rattle.vl_emit.specs.Shown.{IsReset}
-use Rattle.vl_emit.specs.inner.Written.{IsWritten, Shows}
+use Rattle.vl_emit.specs.inner.Written.{Shows}
 use Rattle.vl_emit.specs.inner.Emitted.{plain_number, drivers, naming_of}
 use Rattle.vl_emit.specs.inner.Sound.{IsSoundKind, IsSound, HasNets}
 use Rattle.vl_emit.proofs.Sections.{Run, run_of}
-use Rattle.vl_emit.proofs.AtWidth.{assigned-written}
 use Rattle.vl_emit.proofs.Numbers.{number-in_word, number-bits, number-wrapped, number-is, declaration-there}
 use Rattle.vl_emit.proofs.OfOperations.{width-at-least}
 use Rattle.vl_emit.proofs.Registers.{reset-bits}
@@ -74,11 +73,11 @@ module _ {netlist : Circuit} {rank : ℕ → ℕ} {m : Module} {total last : ℕ
 
   -- what an assignment gives
   pub assigned-bits : (clock k : ℕ) (e : Expr) (z : ℤ) → k < count → clock < clocks → Contains m.items (item.Assign (naming.net k) e)
-      → IsWritten (nets_of m) (row clock) (net k).width z e → row clock (naming.net k) ≡ bits_of (net k).width z
+      → assigned (nets_of m) (row clock) (net k).width e ≡ bits_of (net k).width z → row clock (naming.net k) ≡ bits_of (net k).width z
   assigned-bits clock k e z h below c p =
       run.reset.runs.assigns (last + 1 + clock) (in-run clock below) (naming.net k) e c
       ∙ ap (λ (n : DeclaredNet). assigned (nets_of m) (row clock) n.width e) (run.has.declared k h)
-      ∙ assigned-written (nets_of m) (row clock) (net k).width z e p
+      ∙ p
 
   -- a register after the edge of reset, and after a later one
   pub first-bits : (name : List ℕ) (w bits : ℕ) (signed : Bool) (condition : Option Expr) (e : Expr) → nets_of m name ≡ record { width = w; signed = signed } → bits < 2 ^ w → 0 < clocks

@@ -2,6 +2,7 @@ pub mod AtWidth
 pub mod Bitwise
 pub mod Cleaned
 pub mod Drivers
+pub mod Factors
 pub mod Found
 pub mod NetItems
 pub mod NoLoop

@@ -27,16 +27,14 @@ use Rattle.hw_net.specs.Products.{net_at, places}
 use Rattle.vl_emit.specs.Products.{HasFactor, IsProduct}
 use Rattle.hw_net.specs.Products.{Product, unit_product, comb_product, products_of}
 use Rattle.vl_emit.specs.Registers.{declared_register, register_name, RegistersAre}
-use Rattle.vl_emit.specs.inner.Clean.{IsClean}
 use Rattle.vl_emit.specs.inner.Emitted.{wire_of, drivers, declarers, unit_drivers, other_drivers, output_item, naming_of, items_of, first_declared, plain_module, module_of}
 use Rattle.vl_emit.specs.inner.Sound.{IsSound, IsSoundKind}
-use Rattle.vl_emit.specs.inner.Spelled.{at_width}
+use Rattle.vl_emit.specs.inner.Operators.{factor, product, product_signed}
 use Rattle.vl_emit.proofs.Sections.{Items, Parts, items_in, parts_of}
-use Rattle.vl_emit.proofs.AtWidth.{operand-written}
-use Rattle.vl_emit.proofs.Cleaned.{Readable, at-clean, name-clean, word-most, binary-products}
+use Rattle.vl_emit.proofs.Cleaned.{Readable, name-clean, word-most, product-length, product-one}
 use Rattle.vl_emit.proofs.Drivers.{multiplies, assign-clean, drivers-clean}
+use Rattle.vl_emit.proofs.Factors.{factor-value, product-sign}
 use Rattle.vl_emit.proofs.Found.{no-element, of-one, of-mapped, one-more}
-use Rattle.vl_ast.proofs.Forms.{length-Binary}
 use Rattle.vl_emit.proofs.Lists.{empty-list, flat_map-twice, flat_map-same}
 use Rattle.vl_emit.proofs.NetItems.{others-drive}
 use Rattle.vl_emit.proofs.OfOperations.{width-at-least}
@@ -170,31 +168,31 @@ module _ (netlist : Circuit) (runs : IsNetlist netlist) (emits : IsEmittable net
         may = tt;
       }
 
-  -- an operand of a product in a context of its width
-  factor : (w : ℕ) (width : ℕ) (signed : Bool) (j : ℕ) → j < length netlist.nets → 1 ≤ w → width ≡ w
-      → HasFactor (module_of netlist) width signed (at_width w (wire_of (naming_of netlist) (net_at netlist.nets) j)) (net_wire netlist j)
-  factor w width signed j h some same =
-      subst (λ (v : ℕ). HasFactor (module_of netlist) v signed (at_width w (wire_of (naming_of netlist) (net_at netlist.nets) j)) (net_wire netlist j)) (sym same)
+  -- a factor in the context of its product
+  factor-has : (w : ℕ) (width : ℕ) (sign signed : Bool) (j : ℕ) → j < length netlist.nets → 1 ≤ w → width ≡ w → sign ≡ signed
+      → HasFactor (module_of netlist) width sign (factor signed w (wire_of (naming_of netlist) (net_at netlist.nets) j)) (net_wire netlist j)
+  factor-has w width sign signed j h some same is =
+      subst (λ (b : Bool). HasFactor (module_of netlist) width b (factor signed w (wire_of (naming_of netlist) (net_at netlist.nets) j)) (net_wire netlist j)) (sym is)
+      (subst (λ (v : ℕ). HasFactor (module_of netlist) v signed (factor signed w (wire_of (naming_of netlist) (net_at netlist.nets) j)) (net_wire netlist j)) (sym same)
       (record {
         is = λ total start inputs rows run k below.
-            (operand-written nets (rows k) w (wire_of naming net j) (shown (rows k) (net_wire netlist j)) some
-            (wire-shows m total start inputs rows run k below (wire_of naming net j) (kept j h) (sound.word j h))).value signed;
-      })
-
-  -- an operand of a product
-  factor-clean : (k j : ℕ) → k < length netlist.nets → j < length netlist.nets → IsClean (nets_of (module_of netlist)) (λ name. ⊤) (net_at netlist.nets k).width (at_width (net_at netlist.nets k).width (wire_of (naming_of netlist) (net_at netlist.nets) j))
-  factor-clean k j h p =
-      at-clean nets any (net k).width (wire_of naming net j) (some-bits k h) (word-most nets any (net k).width (net k).signed (sound.word k h)) (readable j p)
+            factor-value nets (rows k) signed w (wire_of naming net j) (shown (rows k) (net_wire netlist j)) some
+            (wire-shows m total start inputs rows run k below (wire_of naming net j) (kept j h) (sound.word j h));
+      }))
 
   abbrev pub product_value : ℕ → ℕ → ℕ → Expr
   product_value k left right =
-      expression.Binary binary.Multiply (at_width (net_at netlist.nets k).width (wire_of (naming_of netlist) (net_at netlist.nets) left)) (at_width (net_at netlist.nets k).width (wire_of (naming_of netlist) (net_at netlist.nets) right))
+      product (net_at netlist.nets k).width (wire_of (naming_of netlist) (net_at netlist.nets) left) (wire_of (naming_of netlist) (net_at netlist.nets) right)
+
+  -- whether it is of signed numbers
+  abbrev signed_at : ℕ → ℕ → Bool
+  signed_at left right = product_signed (wire_of (naming_of netlist) (net_at netlist.nets) left) (wire_of (naming_of netlist) (net_at netlist.nets) right)
 
   -- the multiplication of a product
   abbrev pub multiplication_of : ℕ → ℕ → ℕ → Multiplication
   multiplication_of k left right = record {
-    left = at_width (net_at netlist.nets k).width (wire_of (naming_of netlist) (net_at netlist.nets) left);
-    right = at_width (net_at netlist.nets k).width (wire_of (naming_of netlist) (net_at netlist.nets) right);
+    left = factor (signed_at left right) (net_at netlist.nets k).width (wire_of (naming_of netlist) (net_at netlist.nets) left);
+    right = factor (signed_at left right) (net_at netlist.nets k).width (wire_of (naming_of netlist) (net_at netlist.nets) right);
     width = max (nets_of (module_of netlist) ((naming_of netlist).net k)).width (own_length (nets_of (module_of netlist)) (product_value k left right));
     signed = is_signed (nets_of (module_of netlist)) (product_value k left right);
   }
@@ -202,7 +200,8 @@ module _ (netlist : Circuit) (runs : IsNetlist netlist) (emits : IsEmittable net
   pub product-alone : (k left right : ℕ) → k < length netlist.nets → left < length netlist.nets → right < length netlist.nets
       → item_multiplications (nets_of (module_of netlist)) (item.Assign ((naming_of netlist).net k) (product_value k left right)) ≡ multiplication_of k left right ∷ []
   product-alone k left right h p q =
-      binary-products nets any (net k).width binary.Multiply _ _ (multiplication_of k left right).width (multiplication_of k left right).signed (factor-clean k left h p) (factor-clean k right h q)
+      product-one nets any (net k).width (wire_of naming net left) (wire_of naming net right) (some-bits k h) (word-most nets any (net k).width (net k).signed (sound.word k h))
+      (readable left p) (readable right q) (multiplication_of k left right).width (multiplication_of k left right).signed
 
   -- the item of a product
   product-zip : (k left right : ℕ) → k < length netlist.nets → left < length netlist.nets → right < length netlist.nets
@@ -210,18 +209,18 @@ module _ (netlist : Circuit) (runs : IsNetlist netlist) (emits : IsEmittable net
       (item_multiplications (nets_of (module_of netlist)) (item.Assign ((naming_of netlist).net k) (product_value k left right)) ++ [])
   product-zip k left right h p q =
       let w : ℕ = (net_at netlist.nets k).width in
-      let x : Expr = at_width w (wire_of naming net left) in
-      let y : Expr = at_width w (wire_of naming net right) in
-      let cx = factor-clean k left h p in
-      let cy = factor-clean k right h q in
-      let long : own_length nets (product_value k left right) ≡ w = length-Binary nets binary.Multiply x y ∙ omega (arith, cx.length, cy.length) in
+      let x : Wire = wire_of naming net left in
+      let y : Wire = wire_of naming net right in
+      let made : Multiplication = multiplication_of k left right in
+      let long = product-length nets any w x y (some-bits k h) (word-most nets any w (net k).signed (sound.word k h)) (readable left p) (readable right q) in
       let wide : (nets (naming.net k)).width ≡ w = ap (λ (n : DeclaredNet). n.width) (kept k h) in
-      let context : (multiplication_of k left right).width ≡ w = omega (arith, long, wide) in
+      let context : made.width ≡ w = omega (arith, long, wide) in
+      let sign : made.signed ≡ signed_at left right = product-sign nets (λ name. 0) w x y (kept left p) (kept right q) (sound.word left p) (sound.word right q) in
       subst (λ (l : List Multiplication). AllZip (IsProduct netlist m) (record { left = left; right = right; width = w } ∷ []) (l ++ [])) (sym (product-alone k left right h p q)) (
         record {
           width = context;
-          left = factor w (multiplication_of k left right).width (multiplication_of k left right).signed left p (some-bits k h) context;
-          right = factor w (multiplication_of k left right).width (multiplication_of k left right).signed right q (some-bits k h) context;
+          left = factor-has w made.width made.signed (signed_at left right) left p (some-bits k h) context sign;
+          right = factor-has w made.width made.signed (signed_at left right) right q (some-bits k h) context sign;
         },
         tt,
       )

@@ -27,7 +27,7 @@ use Rattle.vl_emit.proofs.Bitwise.{low-bits, and-written, or-written, xor-writte
 use Rattle.vl_ast.proofs.Forms.{by_itself}
 use Rattle.fx_num.proofs.Words.{size-below, size-half, size_of}
 use Rattle.vl_emit.proofs.AtWidth.{piece-plain, as-name, split-bits, zeros-written, beside-written, piece-written, operand-written, alone-written, cut-bits}
-use Rattle.vl_emit.proofs.Operations.{shift-bits, number-back, less_plain-written, add-written, subtract-written, multiply-written, negate-written, shift-written, literal-written, choose-written, equal-written, not_equal-written, less-written, same-bits}
+use Rattle.vl_emit.proofs.Operations.{shift-bits, number-back, less_plain-written, add-written, subtract-written, negate-written, shift-written, literal-written, choose-written, equal-written, not_equal-written, less-written, same-bits}
 use Rattle.vl_ast.proofs.Stimulated.{bits-fit}
 
 pub truth-number : (t : Bool) → pos (truth t) ≡ truth_number t
@@ -226,30 +226,31 @@ module _ (nets : List ℕ → Net) (row : List ℕ → ℕ) where
       equal-op : Written w (given_by Equal given operands) (expression_of Equal ports a w)
       equal-op = widened-written w (int_eq (z 0) (z 1)) (in_width binary.Equal (common_width (a 0) (a 1)) a) some (equal-by (by_sign (a 0) (a 1)) refl)
 
-    pub op-written : (op : NetOp) → ((j : ℕ) → j < arity op → Known j) → ((port : ℕ) → op ≡ Input port → Shows nets row (ports port) (given port)) → IsWithin op (a 0).width → Written w (given_by op given operands) (expression_of op ports a w)
-    op-written (Input port) known input bounds = operand-written nets row w (ports port) (given port) some (input port refl)
-    op-written (Const number) known input bounds = literal-written nets row w number
-    op-written Resize known input bounds = at 0 (known 0 (omega arith))
-    op-written (ShiftUp places) known input bounds =
+    -- an operation that isn't a Multiply
+    pub op-written : (op : NetOp) → ((j : ℕ) → j < arity op → Known j) → ((port : ℕ) → op ≡ Input port → Shows nets row (ports port) (given port)) → IsWithin op (a 0).width → ¬ (op ≡ Multiply) → Written w (given_by op given operands) (expression_of op ports a w)
+    op-written (Input port) known input bounds other = operand-written nets row w (ports port) (given port) some (input port refl)
+    op-written (Const number) known input bounds other = literal-written nets row w number
+    op-written Resize known input bounds other = at 0 (known 0 (omega arith))
+    op-written (ShiftUp places) known input bounds other =
         cond_both (nat_lt places w) (expression.Shift Left (at_width w (a 0)) (record { width = 8; signed = false; bits = places })) (zeros w) (Written w (z 0 *ℤ pos (2 ^ places)))
         (λ is. shift-written nets row w (z 0) (at_width w (a 0)) (record { width = 8; signed = false; bits = places }) (at 0 (known 0 (omega arith))))
         (λ is. renumbered w (pos 0) (z 0 *ℤ pos (2 ^ places)) (zeros w) (mod-eq_of_lt (pow_pos w) ∙ sym (all-out w places (z 0) (ltb-false places w is))) (zeros-written nets row w))
-    op-written (ShiftDown places) known input bounds = piece-written nets row places w (a 0) (z 0) some (known 0 (omega arith))
-    op-written Add known input bounds = add-written nets row w (z 0) (z 1) (at_width w (a 0)) (at_width w (a 1)) (at 0 (known 0 (omega arith))) (at 1 (known 1 (omega arith)))
-    op-written Subtract known input bounds = subtract-written nets row w (z 0) (z 1) (at_width w (a 0)) (at_width w (a 1)) (at 0 (known 0 (omega arith))) (at 1 (known 1 (omega arith)))
-    op-written Negate known input bounds = negate-written nets row w (z 0) (at_width w (a 0)) (at 0 (known 0 (omega arith)))
-    op-written Multiply known input bounds = multiply-written nets row w (z 0) (z 1) (at_width w (a 0)) (at_width w (a 1)) (at 0 (known 0 (omega arith))) (at 1 (known 1 (omega arith)))
-    op-written And known input bounds = and-written nets row w (z 0) (z 1) (at_width w (a 0)) (at_width w (a 1)) most (at 0 (known 0 (omega arith))) (at 1 (known 1 (omega arith)))
-    op-written Or known input bounds = or-written nets row w (z 0) (z 1) (at_width w (a 0)) (at_width w (a 1)) most (at 0 (known 0 (omega arith))) (at 1 (known 1 (omega arith)))
-    op-written Xor known input bounds = xor-written nets row w (z 0) (z 1) (at_width w (a 0)) (at_width w (a 1)) most (at 0 (known 0 (omega arith))) (at 1 (known 1 (omega arith)))
-    op-written Not known input bounds = invert-written nets row w (z 0) (at_width w (a 0)) (at 0 (known 0 (omega arith)))
-    op-written Less known input bounds = less-op (known 0 (omega arith)) (known 1 (omega arith))
-    op-written Equal known input bounds = equal-op (known 0 (omega arith)) (known 1 (omega arith))
-    op-written Choose known input bounds =
+    op-written (ShiftDown places) known input bounds other = piece-written nets row places w (a 0) (z 0) some (known 0 (omega arith))
+    op-written Add known input bounds other = add-written nets row w (z 0) (z 1) (at_width w (a 0)) (at_width w (a 1)) (at 0 (known 0 (omega arith))) (at 1 (known 1 (omega arith)))
+    op-written Subtract known input bounds other = subtract-written nets row w (z 0) (z 1) (at_width w (a 0)) (at_width w (a 1)) (at 0 (known 0 (omega arith))) (at 1 (known 1 (omega arith)))
+    op-written Negate known input bounds other = negate-written nets row w (z 0) (at_width w (a 0)) (at 0 (known 0 (omega arith)))
+    op-written Multiply known input bounds other = absurd (other refl)
+    op-written And known input bounds other = and-written nets row w (z 0) (z 1) (at_width w (a 0)) (at_width w (a 1)) most (at 0 (known 0 (omega arith))) (at 1 (known 1 (omega arith)))
+    op-written Or known input bounds other = or-written nets row w (z 0) (z 1) (at_width w (a 0)) (at_width w (a 1)) most (at 0 (known 0 (omega arith))) (at 1 (known 1 (omega arith)))
+    op-written Xor known input bounds other = xor-written nets row w (z 0) (z 1) (at_width w (a 0)) (at_width w (a 1)) most (at 0 (known 0 (omega arith))) (at 1 (known 1 (omega arith)))
+    op-written Not known input bounds other = invert-written nets row w (z 0) (at_width w (a 0)) (at 0 (known 0 (omega arith)))
+    op-written Less known input bounds other = less-op (known 0 (omega arith)) (known 1 (omega arith))
+    op-written Equal known input bounds other = equal-op (known 0 (omega arith)) (known 1 (omega arith))
+    op-written Choose known input bounds other =
         subst (λ (y : ℤ). Written w y (expression.Choose (test_of (a 0)) (at_width w (a 1)) (at_width w (a 2)))) (turned (int_eq (z 0) (pos 0)) (z 1) (z 2))
         (choose-written nets row w (z 1) (z 2) (int_eq (z 0) (pos 0)) (test_of (a 0)) (at_width w (a 1)) (at_width w (a 2))
         (test-tells (a 0) (z 0) (known 0 (omega arith))) (at 1 (known 1 (omega arith))) (at 2 (known 2 (omega arith))))
-    op-written (Slice high low) known input bounds =
+    op-written (Slice high low) known input bounds other =
         let e = slice-low high low (z 0) bounds.0 in
         subst (λ (n : ℕ). Written w (pos n) (slice_at w (a 0) low (high + 1 - low))) (sym e)
         (slice-written (a 0) (z 0) w low (high + 1 - low) some (omega (arith, bounds.0)) (known 0 (omega arith)))

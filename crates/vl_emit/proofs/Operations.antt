@@ -8,7 +8,7 @@ use Rattle.std.proofs.Math.Nat.{mod-eq_of_lt}
 use Rattle.fx_num.specs.Word.{IsCongruent}
 use Rattle.fx_num.proofs.Arithmetic.{double, IsCongruent-times, IsCongruent-trans}
 use Rattle.vl_ast.specs.declared.expressions.UnOp.TheVariants.{Negate}
-use Rattle.vl_ast.specs.declared.expressions.BinOp.TheVariants.{Add, Subtract, Multiply, Equal, NotEqual, Less}
+use Rattle.vl_ast.specs.declared.expressions.BinOp.TheVariants.{Add, Subtract, Equal, NotEqual, Less}
 use Rattle.vl_ast.specs.declared.expressions.ShiftOp.TheVariants.{Left}
 use Rattle.vl_ast.specs.declared.expressions.Sized.{Sized}
 use Rattle.vl_ast.specs.declared.expressions.Expr.{Expr}
@@ -39,7 +39,7 @@ subtract-bits w a b = bits-unique w (bits_of w a + (2 ^ w - bits_of w b)) (a -�
 negate-bits : (w : ℕ) (a : ℤ) → (2 ^ w - bits_of w a) % 2 ^ w ≡ bits_of w (neg_ℤ a)
 negate-bits w a = bits-unique w (2 ^ w - bits_of w a) (neg_ℤ a) (opposite-congruent w a)
 
-multiply-bits : (w : ℕ) (a b : ℤ) → bits_of w a * bits_of w b % 2 ^ w ≡ bits_of w (a *ℤ b)
+pub multiply-bits : (w : ℕ) (a b : ℤ) → bits_of w a * bits_of w b % 2 ^ w ≡ bits_of w (a *ℤ b)
 multiply-bits w a b = bits-unique w (bits_of w a * bits_of w b) (a *ℤ b) (IsCongruent-mul (2 ^ w) (bits-congruent w a) (bits-congruent w b))
 
 pub shift-bits : (w k : ℕ) (a : ℤ) → bits_of w a * 2 ^ k % 2 ^ w ≡ bits_of w (a *ℤ pos (2 ^ k))
@@ -96,12 +96,6 @@ module _ (nets : List ℕ → Net) (row : List ℕ → ℕ) where
     subtract-written = record {
       length = length-Binary nets Subtract x y ∙ longest;
       value = λ signed. value-Binary nets row w signed Subtract x y ∙ (λ i. (p.value signed i + (2 ^ w - q.value signed i)) % 2 ^ w) ∙ subtract-bits w a b;
-    }
-
-    pub multiply-written : Written w (a *ℤ b) (Binary Multiply x y)
-    multiply-written = record {
-      length = length-Binary nets Multiply x y ∙ longest;
-      value = λ signed. value-Binary nets row w signed Multiply x y ∙ (λ i. p.value signed i * q.value signed i % 2 ^ w) ∙ multiply-bits w a b;
     }
 
   pub negate-written : (w : ℕ) (a : ℤ) (x : Expr) → Written w a x → Written w (neg_ℤ a) (Unary Negate x)

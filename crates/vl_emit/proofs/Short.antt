@@ -1,5 +1,5 @@
 -- What is emitted nests a few levels deep, and has no empty concatenation.
-use Rattle.std.proofs.Common.{◌≡◌, ℕ, ◌+◌, ◌-◌, ◌*◌, ◌≤◌, ◌==◌, nat_le, nat_lt, Bool, true, false, ◌&&◌, if◌then◌else◌, List, [], ◌∷◌, refl, sym, ◌∙◌, subst, arith}
+use Rattle.std.proofs.Common.{◌≡◌, ℕ, ◌+◌, ◌-◌, ◌*◌, ◌≤◌, ◌==◌, nat_le, nat_lt, min, Bool, true, false, ◌&&◌, if◌then◌else◌, List, [], ◌∷◌, refl, sym, ◌∙◌, subst, arith}
 use Rattle.std.proofs.lemmas.Bool.{cond_both, and_from}
 use Rattle.vl_ast.specs.declared.expressions.UnOp.{UnOp}
 use Rattle.vl_ast.specs.declared.expressions.UnOp.TheVariants as unary
@@ -19,7 +19,7 @@ use Rattle.hw_net.specs.declared.netlist.NetOp.{NetOp}
 use Rattle.hw_net.specs.declared.netlist.NetOp.TheVariants as operation
 use Rattle.vl_emit.specs.Names.{Wire}
 use Rattle.vl_emit.specs.inner.Emitted.{counts, plain_number, slot_test, live_test}
-use Rattle.vl_emit.specs.inner.Operators.{by_sign, common_width, compared, expression_of, in_width, shifted_up, slice_at, test_of, widened}
+use Rattle.vl_emit.specs.inner.Operators.{by_sign, common_width, compared, expression_of, factor, in_width, product, product_signed, shifted_up, signed_width, slice_at, test_of, widened}
 use Rattle.vl_emit.specs.inner.Spelled.{zeros, fill, inside, piece, at_width}
 
 -- the expression nests at most so deep, and has no empty concatenation
@@ -130,6 +130,19 @@ short-compared false e s = deeper 2 3 e (omega arith) s
 short-two : (op : BinOp) (width : ℕ) (a : ℕ → Wire) → IsShort 3 (in_width op width a)
 short-two op width a = short-binary 2 op (at_width width (a 0)) (at_width width (a 1)) (short-at width (a 0)) (short-at width (a 1))
 
+short-factor : (signed : Bool) (width : ℕ) (wire : Wire) → IsShort 3 (factor signed width wire)
+short-factor true width wire =
+    let e : Expr = at_width (min (signed_width wire) width) wire in
+    cond_both (wire.signed && nat_le wire.width width) (Name wire.name) (AsSigned e) (IsShort 3)
+    (λ is. deeper 0 3 (Name wire.name) (omega arith) (short-name wire.name))
+    (λ is. short-signed 2 e (short-at (min (signed_width wire) width) wire))
+short-factor false width wire = deeper 2 3 _ (omega arith) (short-at (if wire.signed then width else min wire.width width) wire)
+
+pub short-product : (width : ℕ) (x y : Wire) → IsShort 4 (product width x y)
+short-product width x y =
+    let signed : Bool = product_signed x y in
+    short-binary 3 binary.Multiply (factor signed width x) (factor signed width y) (short-factor signed width x) (short-factor signed width y)
+
 short-slice : (width : ℕ) (wire : Wire) (low count : ℕ) → IsShort 3 (slice_at width wire low count)
 short-slice width wire low count =
     cond_both (nat_le width count) (piece wire low width) (Concat (zeros (width - count) ∷ piece wire low count ∷ [])) (IsShort 3)
@@ -160,7 +173,7 @@ module _ (ports a : ℕ → Wire) (width : ℕ) where
   short-operation operation.Add = at-most _ (short-two binary.Add width a)
   short-operation operation.Subtract = at-most _ (short-two binary.Subtract width a)
   short-operation operation.Negate = at-most _ (short-unary 2 unary.Negate (at_width width (a 0)) (short-at width (a 0)))
-  short-operation operation.Multiply = at-most _ (short-two binary.Multiply width a)
+  short-operation operation.Multiply = deeper 4 5 _ (omega arith) (short-product width (a 0) (a 1))
   short-operation operation.And = at-most _ (short-two binary.And width a)
   short-operation operation.Or = at-most _ (short-two binary.Or width a)
   short-operation operation.Xor = at-most _ (short-two binary.Xor width a)

@@ -2,9 +2,7 @@
 use Rattle.std.proofs.Common.{◌≡◌, ℕ, zero, suc, ◌+◌, ◌-◌, ◌*◌, ◌<◌, true, false, List, [], get_or, slice_get, ℤ, pos, ◌*ℤ◌, Option, Some, ap, sym, ◌∙◌, subst, refl, arith, add-one}
 use Rattle.std.proofs.lemmas.Option.{slice_get-get_or, get_or_from_slice_get, slice_get_within}
 use Rattle.fx_num.specs.Word.{IsWrapped}
-use Rattle.vl_ast.specs.declared.expressions.BinOp.TheVariants as binary
 use Rattle.vl_ast.specs.declared.expressions.Expr.{Expr}
-use Rattle.vl_ast.specs.declared.expressions.Expr.TheVariants as expression
 use Rattle.vl_ast.specs.declared.modules.ModItem.TheVariants as item
 use Rattle.vl_ast.specs.declared.modules.Module.{Module}
 use Rattle.vl_ast.specs.Nets.{nets_of}
@@ -22,14 +20,12 @@ use Rattle.hw_net.specs.Step.{BridgeSteps, NetStarts, NetSteps, NetGoes, StepsGi
 use Rattle.vl_emit.specs.Names.{input_wire}
 use Rattle.hw_net.specs.Products.{no_net}
 use Rattle.vl_emit.specs.Shown.{inputs_from, rows_from}
-use Rattle.vl_emit.specs.inner.Spelled.{at_width}
-use Rattle.vl_emit.specs.inner.Operators.{expression_of}
+use Rattle.vl_emit.specs.inner.Operators.{expression_of, product}
 use Rattle.vl_emit.specs.inner.Written.{Shows}
 use Rattle.vl_emit.proofs.Sections.{Run, run_of}
 use Rattle.vl_emit.proofs.Found.{here}
-use Rattle.vl_emit.proofs.AtWidth.{operand-written}
-use Rattle.vl_emit.proofs.OfOperations.{op-written, width-at-least}
-use Rattle.vl_emit.proofs.Operations.{multiply-written}
+use Rattle.vl_emit.proofs.OfOperations.{width-at-least}
+use Rattle.vl_emit.proofs.Factors.{op-assigned, product-assigned}
 use Rattle.vl_emit.proofs.InRun.{Running, known, value-wrapped, assigned-bits, item-of, names-of}
 use Rattle.vl_emit.proofs.Counters.{counter-value}
 use Rattle.vl_emit.proofs.Stepped.{begun, reg-goes, en-goes, bridge-begins, bridge-goes, counter-goes}
@@ -49,15 +45,12 @@ module _ {netlist : Circuit} {rank : ℕ → ℕ} {m : Module} {total last : ℕ
     unit-goes : (clock left right : ℕ) → (net k).kind ≡ Unit left right → clock < clocks → IsWrapped (value left clock *ℤ value right clock) (net k).width (net k).signed (value k clock)
     unit-goes clock left right is below =
         let names = names-of run k h (Unit left right) is in
-        let wide = width-at-least (net k).signed (net k).width (run.sound.word k h) in
-        let x : Expr = at_width (net k).width (wire left) in
-        let y : Expr = at_width (net k).width (wire right) in
+        let e : Expr = product (net k).width (wire left) (wire right) in
         value-wrapped run clock k (value left clock *ℤ value right clock) below h
-        (assigned-bits run clock k (expression.Binary binary.Multiply x y) (value left clock *ℤ value right clock) h below
-        (item-of run k h (Unit left right) is (item.Assign (naming.net k) (expression.Binary binary.Multiply x y)) (here _ []))
-        (multiply-written (nets_of m) (row clock) (net k).width (value left clock) (value right clock) x y
-        (operand-written (nets_of m) (row clock) (net k).width (wire left) (value left clock) wide (known run clock left below names.0.there))
-        (operand-written (nets_of m) (row clock) (net k).width (wire right) (value right clock) wide (known run clock right below names.1.there))))
+        (assigned-bits run clock k e (value left clock *ℤ value right clock) h below
+        (item-of run k h (Unit left right) is (item.Assign (naming.net k) e) (here _ []))
+        (product-assigned (nets_of m) (row clock) (net k).width (wire left) (wire right) (value left clock) (value right clock)
+        (width-at-least (net k).signed (net k).width (run.sound.word k h)) (known run clock left below names.0.there) (known run clock right below names.1.there)))
 
     comb-goes : (clock : ℕ) (op : NetOp) (args : List ℕ) → (net k).kind ≡ Comb op args → clock < clocks
         → ((port : ℕ) → op ≡ Input port → Shows (nets_of m) (row clock) (input_wire netlist port) (given port clock))
@@ -68,7 +61,7 @@ module _ {netlist : Circuit} {rank : ℕ → ℕ} {m : Module} {total last : ℕ
         let e : Expr = expression_of op naming.port (λ j. wire (get_or args j 0)) (net k).width in
         value-wrapped run clock k z below h
         (assigned-bits run clock k e z h below (item-of run k h (Comb op args) is (item.Assign (naming.net k) e) (here _ []))
-        (op-written (nets_of m) (row clock) naming.port (λ number. given number clock) (λ j. wire (get_or args j 0)) (λ j. number_at (λ number. value number clock) (slice_get args j)) (net k).width
+        (op-assigned (nets_of m) (row clock) naming.port (λ number. given number clock) (λ j. wire (get_or args j 0)) (λ j. number_at (λ number. value number clock) (slice_get args j)) (net k).width
         (width-at-least (net k).signed (net k).width (run.sound.word k h)) (word-width (net k).width (net k).signed (run.sound.word k h)) op
         (λ j within. (let same : slice_get args j ≡ Some (get_or args j 0) = slice_get-get_or args j 0 (omega (arith, within, names.2)) in
         subst (λ (o : Option ℕ). Shows (nets_of m) (row clock) (wire (get_or args j 0)) (number_at (λ number. value number clock) o)) (sym same)

@@ -38,7 +38,7 @@ use Rattle.vl_emit.proofs.Found.{DeclaredBy, declared-where, first-or-later, her
 use Rattle.vl_emit.proofs.NetItems.{hold_declarer, hold_driver}
 use Rattle.vl_emit.proofs.Opened.{IsGated, IsOf, gated-breaks, item-where}
 use Rattle.vl_emit.proofs.Origins.{Origin, Declaring, Driving, Showing, origin, declarer-of, driver-of}
-use Rattle.vl_emit.proofs.Short.{IsShort, deeper, short-at, short-binary, short-choose, short-literal, short-live, short-name, short-operation, short-slot, short-test}
+use Rattle.vl_emit.proofs.Short.{IsShort, deeper, short-binary, short-choose, short-literal, short-live, short-name, short-operation, short-product, short-slot, short-test}
 
 -- ---- identifiers
 
@@ -104,8 +104,7 @@ module _ (netlist : Circuit) (runs : IsNetlist netlist) (emits : IsEmittable net
 
   driver-short : (k : ℕ) (kind : NetKind) (i : ModItem) → Contains (drivers netlist.cycles (naming_of netlist) (net_at netlist.nets) k kind) i → AreShort i
   driver-short k (Comb op args) i c = one-of AreShort _ i (short-operation (naming_of netlist).port (λ j. wire (get_or args j 0)) (net_at netlist.nets k).width op) c
-  driver-short k (Unit left right) i c =
-      one-of AreShort _ i (up 3 _ (omega arith) (short-binary 2 binary.Multiply _ _ (short-at (net_at netlist.nets k).width (wire left)) (short-at (net_at netlist.nets k).width (wire right)))) c
+  driver-short k (Unit left right) i c = one-of AreShort _ i (up 4 _ (omega arith) (short-product (net_at netlist.nets k).width (wire left) (wire right))) c
   driver-short k (Counter frame) i c =
       one-of AreShort _ i (up 2 _ (omega arith) (short-choose 1 _ _ _ (short-test (wire k)) (short-binary 0 binary.Subtract _ _ (short-name _) (short-literal _)) (deeper 0 1 _ (omega arith) (short-literal _)))) c
   driver-short k (Reg frame slot first from) i c = one-of AreShort _ i (up 1 _ (omega arith) (short-slot netlist.cycles frame (counter frame) slot), up 0 _ (omega arith) (short-name _)) c

@@ -29,7 +29,7 @@ use Rattle.vl_emit.specs.inner.Sound.{HasWordOf}
 use Rattle.vl_emit.proofs.Sections.{Run, run_of}
 use Rattle.vl_emit.proofs.Counting.{count_of}
 use Rattle.vl_emit.proofs.Found.{here, later}
-use Rattle.vl_emit.proofs.AtWidth.{alone-written, as-name}
+use Rattle.vl_emit.proofs.AtWidth.{alone-written, as-name, assigned-written}
 use Rattle.vl_emit.proofs.OfOperations.{test-tells}
 use Rattle.vl_emit.proofs.Operations.{literal-written, choose-written, choice-bits}
 use Rattle.vl_emit.proofs.Registers.{next-value, name-written, condition-told, both-written, no-bit, both-some}
@@ -210,8 +210,9 @@ module _ {netlist : Circuit} {rank : ℕ → ℕ} {m : Module} {total last : ℕ
           let q = name-written (nets_of m) (row clock) (naming.hold k) (net k).width (net k).signed y (run.has.held k h frame live from is) held in
           assigned-bits run clock k (expression.Choose test x hold) (if not l then y else value from clock) h below
           (item-of run k h (Bridge frame live from) is (item.Assign (naming.net k) (expression.Choose test x hold)) (here _ (item.Always (naming.hold k) (plain_number (net k).width 0) None (expression.Name (naming.net k)) ∷ [])))
+          (assigned-written (nets_of m) (row clock) (net k).width (if not l then y else value from clock) (expression.Choose test x hold)
           (choose-written (nets_of m) (row clock) (net k).width (value from clock) y (not l) test x hold
-          (ap (λ (b : ℕ). b == 0) (alone-written (nets_of m) (row clock) 1 (pos (truth l)) test told) ∙ no-bit l) (from-written clock from below names.3) q)
+          (ap (λ (b : ℕ). b == 0) (alone-written (nets_of m) (row clock) 1 (pos (truth l)) test told) ∙ no-bit l) (from-written clock from below names.3) q))
 
       -- at clock 0 it passes
       begins-live : 0 < clocks → IsLive (span_of cycles frame) (live * cycles) 0

@@ -9,7 +9,7 @@ ghost use Rattle.vl_emit.specs.inner.Spoken.{wire_at, CanBeWritten};
 
 use crate::conditions::{clocks, enable, enabled_taking, live_test, slot_test, with_enable};
 use crate::operands::{Operand, numbered, operand_name, text_of};
-use crate::operators::{constant, expression, in_width, plain, test_of};
+use crate::operators::{constant, expression, plain, product, test_of};
 use crate::source::{Source, input_operand, operand};
 use hw_net::{Frame, NetOp};
 use std::alloc::Global;
@@ -82,7 +82,7 @@ pub fn put_unit(
     let net = operand(source, own);
     let left = operand(source, left as usize);
     let right = operand(source, right as usize);
-    let value = in_width(alloc, BinOp::Multiply, left, right, net.width);
+    let value = product(alloc, left, right, net.width);
     put_assignment(out, text_of(alloc, net.called), value);
 }
 

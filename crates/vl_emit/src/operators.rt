@@ -1,15 +1,17 @@
-ghost use Rattle.std.specs.Prelude.{◌≡◌, ◌+◌, ◌-◌, ◌≤◌, ◌<◌, false, IfOk};
+ghost use Rattle.std.specs.Prelude.{◌≡◌, ◌+◌, ◌-◌, ◌≤◌, ◌<◌, true, false, IfOk};
 ghost use Rattle.fx_num.specs.Word.{IsWord};
 ghost use Rattle.vl_ast.specs.declared.expressions.Expr.{Expr};
 ghost use Rattle.vl_ast.specs.declared.expressions.Expr.TheVariants.{Unary};
 ghost use Rattle.hw_net.specs.declared.netlist.NetOp.TheVariants.{Less, Equal};
 ghost use Rattle.vl_emit.specs.inner.Operators.{compared, widened, signed_width, common_width};
-ghost use Rattle.vl_emit.specs.inner.Operators.{test_of, slice_at, shifted_up};
+ghost use Rattle.vl_emit.specs.inner.Operators.{factor, product_signed, test_of};
+ghost use Rattle.vl_emit.specs.inner.Operators.{slice_at, shifted_up};
 ghost use Rattle.vl_emit.specs.inner.Spelled.{at_width};
 ghost use Rattle.vl_emit.specs.inner.Emitted.{constant, plain_number};
 ghost use Rattle.vl_emit.specs.inner.Spoken.{wire_at, CanBeWritten, HasRoom};
 ghost use Rattle.vl_emit.specs.inner.Spoken.{CanBeAt, CanBothBeAt, CanBeExpressed};
-ghost use Rattle.vl_emit.specs.inner.Spoken.{both_at, comparison_at, choice_at, operation_at};
+ghost use Rattle.vl_emit.specs.inner.Spoken.{both_at, product_at, comparison_at, choice_at};
+ghost use Rattle.vl_emit.specs.inner.Spoken.{operation_at};
 
 use crate::operands::{Operand, at_width, beside, operand_name, piece, zeros};
 use hw_net::NetOp;
@@ -55,7 +57,7 @@ fn comparand(alloc: Global, signed: bool, operand: Operand, width: u32) -> Made<
 }
 
 /// `left op right`, each at the width.
-pub fn in_width(alloc: Global, op: BinOp, left: Operand, right: Operand, width: u32) -> Made<Expr>
+fn in_width(alloc: Global, op: BinOp, left: Operand, right: Operand, width: u32) -> Made<Expr>
     requires { CanBothBeAt left right width }
     ensures { IfOk result (λ e. e ≡ both_at op width left.entry right.entry) }
 {
@@ -110,6 +112,54 @@ pub fn test_of(alloc: Global, operand: Operand) -> Made<Expr>
         return name;
     }
     binary(alloc, BinOp::NotEqual, name, Ok(zeros(operand.width)))
+}
+
+/// Whether a product is of signed numbers.
+fn product_signed(left: Operand, right: Operand) -> bool
+    ensures { result ≡ product_signed (wire_at left.entry) (wire_at right.entry) }
+{
+    let several = (1 < left.width) & (1 < right.width);
+    (left.signed | right.signed) & several
+}
+
+/// A factor of a product of signed numbers, at no more bits than it needs.
+fn signed_factor(alloc: Global, operand: Operand, width: u32) -> Made<Expr>
+    requires { CanBeAt operand width }
+    ensures { IfOk result (λ e. e ≡ factor true width (wire_at operand.entry)) }
+{
+    if operand.signed & (operand.width <= width) {
+        return operand_name(alloc, operand);
+    }
+    comparand(alloc, true, operand, signed_width(operand).min(width))
+}
+
+/// A factor of a product of numbers without sign, at no more bits than it needs.
+fn plain_factor(alloc: Global, operand: Operand, width: u32) -> Made<Expr>
+    requires { CanBeAt operand width }
+    ensures { IfOk result (λ e. e ≡ factor false width (wire_at operand.entry)) }
+{
+    let most = if operand.signed {
+        width
+    } else {
+        operand.width.min(width)
+    };
+    at_width(alloc, operand, most)
+}
+
+/// The product of two nets, of which each is extended by its context and not by its text: a
+/// multiplier is then as wide as its factors.
+pub fn product(alloc: Global, left: Operand, right: Operand, width: u32) -> Made<Expr>
+    requires { CanBothBeAt left right width }
+    ensures { IfOk result (λ e. e ≡ product_at width left.entry right.entry) }
+{
+    if product_signed(left, right) {
+        let one = signed_factor(alloc, left, width);
+        let other = signed_factor(alloc, right, width);
+        return binary(alloc, BinOp::Multiply, one, other);
+    }
+    let one = plain_factor(alloc, left, width);
+    let other = plain_factor(alloc, right, width);
+    binary(alloc, BinOp::Multiply, one, other)
 }
 
 fn less(alloc: Global, left: Operand, right: Operand, width: u32) -> Made<Expr>
@@ -197,7 +247,7 @@ pub fn expression(
         NetOp::Add => in_width(alloc, BinOp::Add, first, second, width),
         NetOp::Subtract => in_width(alloc, BinOp::Subtract, first, second, width),
         NetOp::Negate => unary(alloc, UnOp::Negate, first, width),
-        NetOp::Multiply => in_width(alloc, BinOp::Multiply, first, second, width),
+        NetOp::Multiply => product(alloc, first, second, width),
         NetOp::And => in_width(alloc, BinOp::And, first, second, width),
         NetOp::Or => in_width(alloc, BinOp::Or, first, second, width),
         NetOp::Xor => in_width(alloc, BinOp::Xor, first, second, width),

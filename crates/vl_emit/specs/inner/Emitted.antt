@@ -17,8 +17,8 @@ use Rattle.hw_net.specs.declared.netlist.NetKind.{NetKind}
 use Rattle.hw_net.specs.declared.netlist.NetKind.TheVariants.{Comb, Reg, EnReg, Bridge, Unit}
 use Rattle.hw_net.specs.declared.netlist.NetKind.TheVariants.{Counter}
 use Rattle.vl_emit.specs.Names.{Wire}
-use Rattle.vl_emit.specs.inner.Spelled.{zeros, at_width}
-use Rattle.vl_emit.specs.inner.Operators.{test_of, expression_of}
+use Rattle.vl_emit.specs.inner.Spelled.{zeros}
+use Rattle.vl_emit.specs.inner.Operators.{test_of, product, expression_of}
 use Rattle.vl_emit.specs.Names.{name_of, hold_name, net_wire, input_wire}
 use Rattle.hw_net.specs.Products.{places, net_at}
 use Rattle.vl_ast.specs.Header.{attribute_of, bit_input}
@@ -73,9 +73,8 @@ drivers cycles naming net k (Comb op args) =
     item.Assign (naming.net k) (expression_of op naming.port
     (λ j. wire_of naming net (get_or args j 0)) (net k).width) ∷ []
 drivers cycles naming net k (Unit left right) =
-    item.Assign (naming.net k) (expression.Binary binary.Multiply
-    (at_width (net k).width (wire_of naming net left))
-    (at_width (net k).width (wire_of naming net right))) ∷ []
+    item.Assign (naming.net k)
+    (product (net k).width (wire_of naming net left) (wire_of naming net right)) ∷ []
 drivers cycles naming net k (Counter frame) =
     item.Always (naming.net k) (plain_number (net k).width
     (frame.latency * cycles + (frame.period * cycles - 1))) None

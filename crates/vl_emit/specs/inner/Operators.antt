@@ -1,8 +1,9 @@
 -- How an operation of the netlist is written as an expression. Each operand is written at the width
 -- at which it is used. Where one operand of a comparison is signed and the other isn't, both are
--- written one bit longer than the unsigned one and are compared as signed.
-use Rattle.std.specs.Prelude.{Bool, ℕ, ◌+◌, ◌-◌, ◌==◌, nat_le, nat_lt, max, false, if◌then◌else◌}
-use Rattle.std.specs.Prelude.{[], ◌∷◌, ◌||◌}
+-- written one bit longer than the unsigned one and are compared as signed. A factor of a product is
+-- written with no more bits than its numbers need, and the product's context extends it.
+use Rattle.std.specs.Prelude.{Bool, ℕ, ◌+◌, ◌-◌, ◌==◌, nat_le, nat_lt, max, min, true, false}
+use Rattle.std.specs.Prelude.{if◌then◌else◌, [], ◌∷◌, ◌&&◌, ◌||◌}
 use Rattle.vl_ast.specs.declared.expressions.UnOp.TheVariants as unary
 use Rattle.vl_ast.specs.declared.expressions.BinOp.{BinOp}
 use Rattle.vl_ast.specs.declared.expressions.BinOp.TheVariants as binary
@@ -39,6 +40,25 @@ common_width left right =
 abbrev pub compared : Bool → Expr → Expr
 compared signed e = if signed then expression.AsSigned e else e
 
+-- whether a product is of signed numbers; where a net of one bit is a factor, it only lets the
+-- other's bits through
+abbrev pub product_signed : Wire → Wire → Bool
+product_signed left right =
+    by_sign left right && (nat_lt 1 left.width && nat_lt 1 right.width)
+
+-- a factor of a product of this sign and width
+abbrev pub factor : Bool → ℕ → Wire → Expr
+factor true width wire =
+    if wire.signed && nat_le wire.width width then expression.Name wire.name
+    else expression.AsSigned (at_width (min (signed_width wire) width) wire)
+factor false width wire =
+    at_width (if wire.signed then width else min wire.width width) wire
+
+abbrev pub product : ℕ → Wire → Wire → Expr
+product width left right =
+    expression.Binary binary.Multiply (factor (product_signed left right) width left)
+    (factor (product_signed left right) width right)
+
 -- one bit that tells whether a net isn't 0
 abbrev pub test_of : Wire → Expr
 test_of wire =
@@ -72,7 +92,7 @@ expression_of (ShiftDown places) ports a width = piece (a 0) places width
 expression_of Add ports a width = in_width binary.Add width a
 expression_of Subtract ports a width = in_width binary.Subtract width a
 expression_of Negate ports a width = expression.Unary unary.Negate (at_width width (a 0))
-expression_of Multiply ports a width = in_width binary.Multiply width a
+expression_of Multiply ports a width = product width (a 0) (a 1)
 expression_of And ports a width = in_width binary.And width a
 expression_of Or ports a width = in_width binary.Or width a
 expression_of Xor ports a width = in_width binary.Xor width a

@@ -14,7 +14,7 @@ use Rattle.vl_emit.specs.declared.operands.Called.{Called}
 use Rattle.vl_emit.specs.declared.operands.Called.TheVariants.{Number, Named}
 use Rattle.vl_emit.specs.declared.operands.Operand.{Operand}
 use Rattle.vl_emit.specs.Names.{net_name}
-use Rattle.vl_emit.specs.inner.Operators.{expression_of, test_of}
+use Rattle.vl_emit.specs.inner.Operators.{expression_of, product, test_of}
 use Rattle.vl_emit.specs.inner.Spelled.{at_width}
 use Rattle.vl_emit.specs.Names.{Wire}
 
@@ -85,6 +85,9 @@ pub record CanBeExpressed (op : NetOp) (shown one two three : Operand) (width : 
 abbrev pub both_at : BinOp → ℕ → Operand → Operand → Expr
 both_at op width left right =
     Binary op (at_width width (wire_at left)) (at_width width (wire_at right))
+
+abbrev pub product_at : ℕ → Operand → Operand → Expr
+product_at width left right = product width (wire_at left) (wire_at right)
 
 abbrev pub comparison_at : NetOp → ℕ → Operand → Operand → Expr
 comparison_at op width left right =

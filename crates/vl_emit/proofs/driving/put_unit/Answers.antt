@@ -1,11 +1,8 @@
 use Rattle.std.proofs.Common.{◌≡◌, IfOk, subst}
 use Rattle.fx_num.proofs.Words.{word_width}
-use Rattle.vl_ast.specs.declared.expressions.BinOp.TheVariants.{Multiply}
-use Rattle.vl_ast.specs.declared.expressions.Expr.TheVariants.{Binary}
+use Rattle.vl_ast.specs.declared.expressions.Expr.{Expr}
 use Rattle.vl_emit.specs.Names.{Wire}
-use Rattle.vl_emit.specs.inner.Ready.{wire_in}
-use Rattle.vl_emit.specs.inner.Spelled.{at_width}
-use Rattle.vl_emit.specs.inner.Spoken.{wire_at}
+use Rattle.vl_emit.specs.inner.Operators.{product}
 use Rattle.vl_emit.proofs.driving.put_unit.Goals as goal
 
 pub operand-left-requires : goal.operand-left-requires
@@ -14,8 +11,8 @@ operand-left-requires c = record { is = c.requires.net.is; there = c.requires.re
 pub operand-right-requires : goal.operand-right-requires
 operand-right-requires c = record { is = c.requires.net.is; there = c.requires.ready.1 }
 
-pub in_width-value-requires : goal.in_width-value-requires
-in_width-value-requires c = record {
+pub product-value-requires : goal.product-value-requires
+product-value-requires c = record {
   left = c.operand-left.ensures.word;
   right = c.operand-right.ensures.word;
   room = word_width c.operand-net.result.width c.operand-net.result.signed c.operand-net.ensures.word;
@@ -24,7 +21,6 @@ in_width-value-requires c = record {
 pub returns : goal.returns
 returns c =
     let name = subst (λ (w : Wire). IfOk c.text_of.result (λ text. text ≡ w.name)) c.operand-net.ensures.wire c.text_of.ensures in
-    let wide = subst (λ (w : Wire). IfOk c.in_width-value.result (λ e. e ≡ Binary Multiply (at_width w.width (wire_at c.operand-left.result)) (at_width w.width (wire_at c.operand-right.result)))) c.operand-net.ensures.wire c.in_width-value.ensures in
-    let first = subst (λ (w : Wire). IfOk c.in_width-value.result (λ e. e ≡ Binary Multiply (at_width (wire_in c.args.source c.args.own).width w) (at_width (wire_in c.args.source c.args.own).width (wire_at c.operand-right.result)))) c.operand-left.ensures.wire wide in
-    let both = subst (λ (w : Wire). IfOk c.in_width-value.result (λ e. e ≡ Binary Multiply (at_width (wire_in c.args.source c.args.own).width (wire_in c.args.source c.args.left)) (at_width (wire_in c.args.source c.args.own).width w))) c.operand-right.ensures.wire first in
-    c.put_assignment.ensures _ _ name both
+    let value = subst (λ (v : Expr). IfOk c.product-value.result (λ e. e ≡ v))
+    (λ i. product (c.operand-net.ensures.wire i).width (c.operand-left.ensures.wire i) (c.operand-right.ensures.wire i)) c.product-value.ensures in
+    c.put_assignment.ensures _ _ name value
