@@ -9,6 +9,7 @@ use fx_designed::{DesignFault, designed_of};
 use fx_io::{OpenGate, OutOfMemory, Text};
 use hw_build::build;
 use hw_module::module_of;
+use hw_refine::refines_itself;
 use hw_rules::Planned;
 use hw_sched::SizeFault;
 use std::alloc::Global;
@@ -31,6 +32,7 @@ pub fn made_of(alloc: Global, checked: &Checked, planned: &Planned) -> Result<Mo
         Err(SizeFault::Size { .. }) => unreachable!(),
         Err(SizeFault::OutOfMemory) => return Err(OutOfMemory),
     };
+    refines_itself();
     let made = module_of(
         alloc,
         checked,

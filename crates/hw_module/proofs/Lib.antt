@@ -5,6 +5,7 @@ pub mod Lists
 pub mod Multiplied
 pub mod Offered
 pub mod Ported
+pub mod Refined
 pub mod Served
 pub mod Staged
 pub mod Thinned

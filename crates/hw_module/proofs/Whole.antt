@@ -8,10 +8,11 @@ use Rattle.dg_model.specs.RootElements.{RootElement}
 use Rattle.hw_sched.specs.Laws.{MovingHavePeriods, OperationsAreServed, OperationsHavePeriods, SlotsDiffer, ReadyFits}
 use Rattle.hw_sched.specs.Scheduled.{IsScheduled}
 use Rattle.hw_sched.specs.Slots.{Timing}
-use Rattle.hw_module.specs.Laws.{BuiltModulesAreOf}
+use Rattle.hw_module.specs.Laws.{BuiltModulesAreOf, RefinedModulesAreOf}
 use Rattle.hw_module.proofs.Carried.{InputsHavePeriods, carries}
 use Rattle.hw_module.proofs.Multiplied.{names-multiplications}
 use Rattle.hw_module.proofs.Offered.{offers}
+use Rattle.hw_module.proofs.Refined.{multiplied-still, offers-still}
 use Rattle.hw_module.proofs.Served.{owed, serves}
 use Rattle.hw_module.proofs.Staged.{pipelined, few-registers}
 use Rattle.hw_build.proofs.Delivered.{input_moves}
@@ -32,6 +33,20 @@ module _ (columns : StimulusGivesColumns) (listed : InputsAreListed) (outputs : 
         serves = serves offered made served have_periods differ fits columns periods scheduled;
         owed = owed offered made;
         named = names-multiplications built.multiplied made;
+        pipelined = pipelined offered made columns periods;
+        few = few-registers offered made;
+      }
+
+  -- the proof goes on from what the built netlist offers, which what stands in its place offers, too
+  pub refined-modules : RefinedModulesAreOf
+  refined-modules netlist diagram plan timing m scheduled refined made =
+      let periods = inputs-have-periods listed moving scheduled in
+      let offered = offers-still refined.runs refined.emittable refined.refines (offers outputs moving have_periods scheduled periods refined.is_built) in
+      record {
+        carries = carries offered made columns periods refined.is_built.ports.names;
+        serves = serves offered made served have_periods differ fits columns periods scheduled;
+        owed = owed offered made;
+        named = names-multiplications (multiplied-still refined.runs refined.emittable refined.refines refined.is_built.multiplied) made;
         pipelined = pipelined offered made columns periods;
         few = few-registers offered made;
       }

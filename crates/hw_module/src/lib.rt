@@ -9,5 +9,5 @@
 mod laws;
 mod made;
 
-pub use laws::built_modules_owe_nothing;
+pub use laws::{built_modules_owe_nothing, refined_modules_owe_nothing};
 pub use made::module_of;

@@ -1,5 +1,5 @@
 -- What a built netlist offers to its module, each part by itself (own).
-use Rattle.std.specs.Prelude.{◌≡◌, ◌≢◌, ℕ, suc, ◌+◌, ◌*◌, ◌<◌, ◌≤◌, ℤ, List, map, length, flat_map, Contains, Some, slice_get}
+use Rattle.std.specs.Prelude.{◌≡◌, ℕ, suc, ◌+◌, ◌*◌, ◌<◌, ◌≤◌, ℤ, List, map, length, flat_map, Contains, Some, slice_get}
 use Rattle.fx_type.specs.FxType.{is_signed, width_of}
 use Rattle.dg_model.specs.declared.diagram.Diagram.{Diagram}
 use Rattle.dg_model.specs.declared.diagram.Block.{Block}
@@ -19,7 +19,7 @@ use Rattle.hw_net.specs.declared.netlist.NetPort.{NetPort}
 use Rattle.hw_net.specs.declared.netlist.NetOp.{NetOp}
 use Rattle.hw_net.specs.declared.netlist.NetKind.TheVariants.{Comb, Reg}
 use Rattle.hw_net.specs.Circuit.{Circuit}
-use Rattle.hw_net.specs.Netlist.{IsNetlist, HasWord, reads}
+use Rattle.hw_net.specs.Netlist.{IsNetlist, HasWord}
 use Rattle.hw_net.specs.NetRows.{Inputs, Rows}
 use Rattle.hw_sched.specs.Chained.{chained}
 use Rattle.hw_sched.specs.Laws.{IsOperation}
@@ -31,6 +31,7 @@ use Rattle.vl_emit.specs.Header.{data_port}
 use Rattle.hw_net.specs.Products.{net_at, places}
 use Rattle.hw_net.specs.Products.{Product, products_of}
 use Rattle.vl_emit.specs.Registers.{register_name}
+pub use Rattle.hw_refine.specs.Refines.{IsReadBy}
 use Rattle.hw_module.specs.Interface.{NamedElement, input_elements, output_elements, input_data, output_data, step_of}
 
 -- the ports are those of the diagram
@@ -67,12 +68,6 @@ pub record HasUnit (netlist : Circuit) (diagram : Diagram) (plan : Resolved) (ti
       → AreOperands diagram table o.block b o.element t
       (rows product.left (clock_of diagram plan timing number o t))
       (rows product.right (clock_of diagram plan timing number o t))
-
--- no net but this one reads another, and no output shows it
-pub record IsReadBy (netlist : Circuit) (read reader : ℕ) : Type 0 where
-  pub alone : (k : ℕ) → k < length netlist.nets → Contains (reads (net_at netlist.nets k).kind) read
-      → k ≡ reader
-  pub unshown : (port : NetPort) → Contains netlist.outputs port → port.net ≢ read
 
 -- a register in series: a Reg with this name that takes another net
 pub record IsStage (netlist : Circuit) (number from : ℕ) (name : List ℕ) : Type 0 where

@@ -1,0 +1,5 @@
+pub mod Alike
+pub mod Composed
+pub mod Dropped
+pub mod Redirected
+pub mod Represented

@@ -1,0 +1,5 @@
+use Rattle.hw_refine.proofs.Dropped.{drops}
+use Rattle.hw_refine.proofs.laws.drops_refine.Goals as goal
+
+pub returns : goal.returns
+returns c = drops

@@ -1,0 +1,5 @@
+use Rattle.hw_refine.proofs.Redirected.{redirects}
+use Rattle.hw_refine.proofs.laws.redirects_refine.Goals as goal
+
+pub returns : goal.returns
+returns c = redirects

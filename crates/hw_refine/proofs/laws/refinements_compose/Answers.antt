@@ -1,0 +1,5 @@
+use Rattle.hw_refine.proofs.Composed.{compose}
+use Rattle.hw_refine.proofs.laws.refinements_compose.Goals as goal
+
+pub returns : goal.returns
+returns c = compose

@@ -1,0 +1,5 @@
+use Rattle.hw_refine.proofs.Represented.{represents}
+use Rattle.hw_refine.proofs.laws.represents_refine.Goals as goal
+
+pub returns : goal.returns
+returns c = represents
