@@ -56,7 +56,7 @@ module _ (diagram : Diagram) (attributes : Attributes) (timing : Timing) (places
     holds = λ later goes n inputs rows are. record {
       op = op;
       is = is_op;
-      gives = λ c below.
+      gives = λ t c below seen.
           let given = (lowered_gives closed hubs now (operation_at diagram attributes block b op) (offered_args places block b element) (places.entry block port element) is).holds later goes n inputs rows are c below in
           subst (λ (values : List ℤ). OpGives (operation_at diagram attributes block b op) values (rows (places.entry block port element) c))
           (map-map (λ (net : ℕ). rows net c) (λ (input : ℕ). places.offered block input element) (numbers_from 1 b.inputs)) given;

@@ -44,11 +44,11 @@ module _ {diagram : Diagram} {attributes : Attributes} {rank : ℕ → ℕ} {sti
     pub carried_out : (t c : ℕ) → t < n → c < k → IsDue t c → AreOffered s block b block_is showing k (timing.ready block)
         → ((input : ℕ) → 1 ≤ input → input ≤ b.inputs → IsRead diagram attributes block input element)
         → IsCarriedOut diagram attributes timing clocks waves block b port element → ElementEquation diagram attributes stimulus table b block element t (waves.entry block port element c)
-    carried_out t c below early seen now reads made = (
+    carried_out t c below early due now reads made = (
       made.op,
       made.is,
       subst (λ (values : List ℤ). OpGives (operation_of_block diagram attributes timing clocks waves block b made.op) values (waves.entry block port element c))
-          (input_values t c below early seen now reads) (made.gives c (omega arith)),
+          (input_values t c below early due now reads) (made.gives t c (omega arith) due),
     )
 
     -- ---- shared operations

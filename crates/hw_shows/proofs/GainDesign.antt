@@ -147,9 +147,9 @@ made = each_by (AreMade diagram attributes timing 6 (waves state)) blocks
     (λ port element. record { at = λ c below. refl })
     (λ port element. record { at = λ c below. refl })
     (λ port element. tried_same 6 control (λ c. stored_truth (int_lt (pos 0) (control c) || false)) refl)
-    (λ port element. record { op = OpGain (pos 1) int8; is = (pos 1, stores_small 1 (lit< tt) (lit< tt), refl); gives = λ c below. (int16, int16_full, kept 6 (λ k. stage 0 k *ℤ pos 1) (stage 0) refl c below) })
+    (λ port element. record { op = OpGain (pos 1) int8; is = (pos 1, stores_small 1 (lit< tt) (lit< tt), refl); gives = λ t c below seen. (int16, int16_full, kept 6 (λ k. stage 0 k *ℤ pos 1) (stage 0) refl c below) })
     (λ port element. (stores_small 9 (lit< tt) (lit< tt), (record { at = λ c below. refl }, λ period is. subst (λ (p : ℕ). IsEnabledSeries 6 (span_at timing p 4) 1 false (pos 9) enable (stage 2) state) (same_Some 1 period is) states)))
-    (λ port element. record { op = Pass; is = refl; gives = λ c below. refl })
+    (λ port element. record { op = Pass; is = refl; gives = λ t c below seen. refl })
 
 piped : AllKeep diagram (ArePiped diagram attributes timing 6 (waves state))
 piped = each_by (ArePiped diagram attributes timing 6 (waves state)) blocks

@@ -155,7 +155,7 @@ made = each_by (AreMade diagram attributes timing 16 (waves slowed)) blocks
       converts = kept 16 product product refl;
     })
     (λ port element. (stores_small 0 (lit< tt) (lit< tt), record { at = λ c below. refl }))
-    (λ port element. record { op = Pass; is = refl; gives = λ c below. refl })
+    (λ port element. record { op = Pass; is = refl; gives = λ t c below seen. refl })
     (λ port element. record { at = λ c below. refl })
 
 -- no pipelines

@@ -63,12 +63,14 @@ module _ (diagram : Diagram) (attributes : Attributes) (timing : Timing) (clocks
         saturate = b.saturate;
       }
 
-  -- at each clock the operation of what its inputs are offered then
+  -- at each clock at which an entry is to be seen the operation of what its inputs are offered then
   pub record IsCarriedOut (block : ℕ) (b : Block) (port element : ℕ) : Type 0 where
     pub op : Op
     pub is : IsOpOf b.kind element (attributes.param_at block)
         (type_into diagram attributes block 2) op
-    pub gives : (c : ℕ) → c < clocks
+    pub gives : (t c : ℕ) → c < clocks
+        → IsSeen timing.cycles (attributes.period_at block) (timing.latency block)
+        (timing.ready block) t c
         → OpGives (operation_of_block block b op)
         (map (λ input. waves.offered block input element c) (numbers_from 1 b.inputs))
         (waves.entry block port element c)
