@@ -1,5 +1,6 @@
 pub mod Clocks
 pub mod Extending
+pub mod Gathered
 pub mod Growing
 pub mod Index
 pub mod Magnitudes

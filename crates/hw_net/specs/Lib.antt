@@ -3,6 +3,7 @@ pub mod Circuit
 pub mod Closed
 pub mod Emittable
 pub mod Frames
+pub mod Gathered
 pub mod Growing
 pub mod NetRows
 pub mod Netlist

@@ -14,7 +14,7 @@ mod netlist;
 pub use circuit::Netlist;
 pub use frame_index::FrameIndex;
 pub use laws::{
-    bridge_is_closed, counter_is_closed, counter_is_telling, enabled_register_is_closed,
+    accumulator_is_closed, bridge_is_closed, counter_is_closed, counter_is_telling, enabled_register_is_closed,
     register_is_closed, steps_give_rows,
 };
 pub use netlist::{
