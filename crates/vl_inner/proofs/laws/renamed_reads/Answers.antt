@@ -1,0 +1,5 @@
+use Rattle.vl_inner.proofs.Reading.{reads-renamed}
+use Rattle.vl_inner.proofs.laws.renamed_reads.Goals as goal
+
+pub returns : goal.returns
+returns c = reads-renamed
