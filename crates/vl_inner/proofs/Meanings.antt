@@ -1,4 +1,4 @@
--- An expression over other names means what it means over its own. Crates above may cite this file.
+-- An expression over other names means what it means over its own.
 use Rattle.std.proofs.Common.{◌≡◌, ℕ, List, Contains, sym, ◌∙◌}
 use Rattle.vl_ast.specs.declared.expressions.Expr.{Expr}
 use Rattle.vl_ast.specs.declared.expressions.Expr.TheOpen.{Expr-F}

@@ -1,4 +1,4 @@
--- The names that an expression over other names reads. Crates above may cite this file.
+-- The names that an expression over other names reads.
 use Rattle.std.proofs.Common.{◌≡◌, ℕ, List, [], ◌∷◌, ◌++◌, map, flat_map, refl, sym, ap, subst, ◌∙◌}
 use Rattle.std.proofs.lemmas.List.{map-append}
 use Rattle.vl_ast.specs.declared.expressions.Expr.{Expr}

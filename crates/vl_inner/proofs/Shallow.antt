@@ -1,4 +1,4 @@
--- An expression over other names nests as deep. Crates above may cite this file.
+-- An expression over other names nests as deep.
 use Rattle.std.proofs.Common.{◌≡◌, ℕ, ◌+◌, ◌≤◌, max, Bool, true, List, [], ◌∷◌, map, Option, None, Some, refl, sym, ap, subst, ◌∙◌}
 use Rattle.std.specs.Prelude.{fold, ◌&&◌}
 use Rattle.std.specs.List.{list_all}
