@@ -1,5 +1,5 @@
 -- What is prepared for an operation from its types alone (own).
-use Rattle.std.specs.Prelude.{◌≡◌, ℕ, ◌+◌, ◌≤◌, Bool, false, ℤ, ◌+ℤ◌, ◌≤ℤ◌, List, length, zip, All, ⊤}
+use Rattle.std.specs.Prelude.{◌≡◌, ℕ, ◌+◌, ◌≤◌, Bool, false, ℤ, ◌+ℤ◌, ◌≤ℤ◌, List, length, zip, All, ⊤, None}
 use Rattle.std.specs.Int.{int_gap}
 use Rattle.fx_type.specs.declared.kind.FxType.{FxType}
 use Rattle.fx_type.specs.FullType.{IsFullSum}
@@ -56,7 +56,7 @@ IsPrepared (Scaled coefficient narrow) operation =
     × IsReady operation narrow (width_of (type_of operation.types 0) + width_of param)
     (frac_of (type_of operation.types 0) +ℤ frac_of param)
 IsPrepared (Summed frac narrow) operation =
-    (full : FxType) × (operation.op ≡ Sum) × IsFullSum (zip operation.signs operation.types) full
+    (full : FxType) × (operation.op ≡ Sum None) × IsFullSum (zip operation.signs operation.types) full
     × (frac_of full ≡ frac)
     × All (IsShort frac) operation.types × IsReady operation narrow (width_of full) frac
 IsPrepared (Chosen narrow) operation =

@@ -2,12 +2,14 @@
 ghost use Rattle.std.specs.Prelude.{◌≡◌, ◌*ℤ◌};
 ghost use Rattle.fx_type.specs.declared.kind.FxType.{FxType};
 ghost use Rattle.fx_type.specs.FxType.{IsType, InRange};
-ghost use Rattle.fx_type.specs.FullType.{IsFullProduct};
+ghost use Rattle.std.specs.Prelude.{◌∷◌, [], false, None, Some};
+ghost use Rattle.fx_type.specs.FullType.{IsFullProduct, IsFullSum};
 ghost use Rattle.fx_type.specs.Conversion.{Converts};
-ghost use Rattle.dg_model.specs.Operation.{operation_of, without_frac, IsConverted, CanCarryOut, OpGives};
+ghost use Rattle.dg_model.specs.Operation.{operation_of, without_frac, IsConverted, IsStep, CanCarryOut, OpGives};
 
 use crate::conditions::{compares_values, gate, meets};
 use crate::exact::{exact_conversion, greatest_frac, product, product_frac, signed_sum};
+use crate::laws::operation_gives_one;
 use dg_model::{Op, OpCall, without_frac};
 use fx_type::FxType;
 
@@ -19,7 +21,8 @@ pub fn output(call: &OpCall, inputs: &[i128]) -> i128
     ensures { OpGives (operation_of call.now) inputs.now result }
 {
     match call.op {
-        Op::Sum => sum(call, inputs),
+        Op::Sum { accum: None } => sum(call, inputs),
+        Op::Sum { accum: Some(accum) } => accumulated(call, accum, inputs),
         Op::Gain { coefficient, param } => {
             times(call, call.types[0], param, inputs[0], coefficient)
         }
@@ -48,12 +51,48 @@ pub fn output(call: &OpCall, inputs: &[i128]) -> i128
 /// A Sum.
 fn sum(call: &OpCall, inputs: &[i128]) -> i128
     requires can { CanCarryOut (operation_of call.now) inputs.now }
-    requires is_sum { call.now.op ≡ Op.Sum }
+    requires is_sum { call.now.op ≡ Op.Sum None }
     ensures { OpGives (operation_of call.now) inputs.now result }
 {
     let frac = greatest_frac(call.types);
     let exact = signed_sum(call.signs, call.types, inputs, frac);
     exact_conversion(call, exact, frac)
+}
+
+/// What an accumulator of a type has after one input more: the exact sum, converted to that type.
+fn step(call: &OpCall, accum: FxType, before: i128, negative: bool, kind: FxType, v: i128) -> i128
+    requires accum { IsType accum }
+    requires kind { IsType kind }
+    requires before { InRange accum before }
+    requires in_range { InRange kind v }
+    requires full { (full : FxType)
+        × IsFullSum ((false, accum) ∷ (negative, kind) ∷ []) full }
+    ensures step { IsStep (operation_of call.now) accum (negative, kind) v before result }
+    ensures range { InRange accum result }
+{
+    operation_gives_one();
+    let one = OpCall {
+        op: Op::Sum { accum: None },
+        signs: &[false, negative],
+        types: &[accum, kind],
+        result: accum,
+        rounding: call.rounding,
+        saturate: call.saturate,
+    };
+    sum(&one, &[before, v])
+}
+
+/// A Sum that is added up in a type.
+fn accumulated(call: &OpCall, accum: FxType, inputs: &[i128]) -> i128
+    requires can { CanCarryOut (operation_of call.now) inputs.now }
+    requires is_sum { call.now.op ≡ Op.Sum (Some accum) }
+    ensures { OpGives (operation_of call.now) inputs.now result }
+{
+    let mut total = 0;
+    for (input, v) in inputs.iter().enumerate() {
+        total = step(call, accum, total, call.signs[input], call.types[input], *v);
+    }
+    conversion(call, total, accum)
 }
 
 /// A Product or a Gain of two stored integers.

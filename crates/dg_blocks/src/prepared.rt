@@ -35,14 +35,16 @@ impl Prepared {
         ensures { IsPrepared result (operation_of call.now) }
     {
         match call.op {
-            Op::Sum => prepared_sum(call),
+            Op::Sum { accum: None } => prepared_sum(call),
             Op::Gain { coefficient, param } => prepared_gain(call, coefficient, param),
             Op::Product => prepared_product(call),
             Op::Switch { .. } => prepared_switch(call),
             Op::Convert { stored: false } => prepared_conversion(call),
-            Op::Convert { stored: true } | Op::Relational { .. } | Op::Logic { .. } | Op::Pass => {
-                Prepared::Wide
-            }
+            Op::Sum { accum: Some(_) }
+            | Op::Convert { stored: true }
+            | Op::Relational { .. }
+            | Op::Logic { .. }
+            | Op::Pass => Prepared::Wide,
         }
     }
 

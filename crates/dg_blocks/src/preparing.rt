@@ -32,7 +32,7 @@ fn product_narrow(call: &OpCall, a: FxType, b: FxType) -> Option<Narrow>
 /// Of a Sum.
 pub fn prepared_sum(call: &OpCall) -> Prepared
     requires can { CanPrepare (operation_of call.now) }
-    requires is_sum { call.now.op ≡ Sum }
+    requires is_sum { call.now.op ≡ Sum None }
     ensures { IsPrepared result (operation_of call.now) }
 {
     let full = sum_type(call.signs, call.types);

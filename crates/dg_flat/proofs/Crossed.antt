@@ -26,14 +26,14 @@ edge from from_port to to_port = Some (record { from = from; from_port = from_po
 
 abbrev added : List NestedBlock
 added = within None (codes "Speed in") (In (plain (Inport 1 0) 0 1) 1)
-    ∷ within None (codes "Add") (Plain (plain (Sum (false ∷ false ∷ [])) 2 1))
+    ∷ within None (codes "Add") (Plain (plain (Sum (false ∷ false ∷ []) Internal) 2 1))
     ∷ within None (codes "Unit Delay") (Plain (plain (Delay 1 [] false) 1 1))
     ∷ within None (codes "Total") (Out (plain (Outport 1) 1 0) 1)
     ∷ []
 
 added_blocks : flat_blocks added ≡
     flat (codes "Speed in") (Inport 1 0) 0 1 None
-    ∷ flat (codes "Add") (Sum (false ∷ false ∷ [])) 2 1 None
+    ∷ flat (codes "Add") (Sum (false ∷ false ∷ []) Internal) 2 1 None
     ∷ flat (codes "Unit Delay") (Delay 1 [] false) 1 1 None
     ∷ flat (codes "Total") (Outport 1) 1 0 None
     ∷ []

@@ -69,8 +69,9 @@ fn copy_unlisted(alloc: Global, kind: &Kind) -> Result<Kind, OutOfMemory>
         }),
         Kind::Outport { number } => Ok(Kind::Outport { number: *number }),
         Kind::Ground => Ok(Kind::Ground),
-        Kind::Sum { negative } => Ok(Kind::Sum {
+        Kind::Sum { negative, accum } => Ok(Kind::Sum {
             negative: copy_list(alloc, negative.as_slice())?,
+            accum: *accum,
         }),
         Kind::Product => Ok(Kind::Product),
         Kind::Relational { operator } => Ok(Kind::Relational {

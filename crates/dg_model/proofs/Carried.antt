@@ -7,7 +7,7 @@ use Rattle.std.proofs.lemmas.Int.{ints}
 use Rattle.std.proofs.Math.Dec.{lit<, lit≤}
 use Rattle.fx_type.specs.declared.kind.FxType.{FxType}
 use Rattle.fx_type.specs.declared.kind.FxType.TheVariants.{Num}
-use Rattle.fx_type.specs.declared.spec.TypeSpec.TheVariants.{Fixed}
+use Rattle.fx_type.specs.declared.spec.TypeSpec.TheVariants.{Internal, Fixed}
 use Rattle.fx_type.specs.declared.rounding.Rounding.TheVariants.{Ceiling, Nearest}
 use Rattle.fx_type.specs.declared.decimal.Decimal.{Decimal}
 use Rattle.fx_type.specs.FxType.{IsType}
@@ -47,7 +47,7 @@ convert_block = record (block_of (Convert false) 1 1 None) { rounding = Ceiling 
 abbrev diagram : Diagram
 diagram = record {
   blocks = block_of (Inport 1 2) 0 1 None ∷ block_of (Inport 2 2) 0 1 None ∷ gain_block ∷ switch_block ∷ block_of (Constant (decimal_of 9 (lit< tt) ∷ [])) 0 1 None
-      ∷ block_of (Sum (false ∷ true ∷ [])) 2 1 None ∷ block_of (Outport 1) 1 0 None ∷ convert_block ∷ [];
+      ∷ block_of (Sum (false ∷ true ∷ []) Internal) 2 1 None ∷ block_of (Outport 1) 1 0 None ∷ convert_block ∷ [];
   edges = edge_of 0 1 2 1 ∷ edge_of 0 1 3 1 ∷ edge_of 1 1 3 2 ∷ edge_of 4 1 3 3 ∷ edge_of 0 1 5 1 ∷ edge_of 4 1 5 2 ∷ edge_of 3 1 6 1 ∷ edge_of 1 1 7 1 ∷ [];
 }
 
@@ -173,4 +173,4 @@ second_element given =
 -- ---- u less 9
 
 difference : Allows 5 0 (negsuc 5) × Allows 5 1 (pos 91)
-difference = ((OpSum, refl, (Num true 9 (pos 0), byte_less_byte_full, kept (negsuc 5) tt tt)), (OpSum, refl, (Num true 9 (pos 0), byte_less_byte_full, kept (pos 91) tt tt)))
+difference = ((OpSum None, refl, (Num true 9 (pos 0), byte_less_byte_full, kept (negsuc 5) tt tt)), (OpSum None, refl, (Num true 9 (pos 0), byte_less_byte_full, kept (pos 91) tt tt)))

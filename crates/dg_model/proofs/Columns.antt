@@ -20,7 +20,7 @@ use Rattle.dg_model.specs.Types.{names_full_type, needed_inputs}
 use Rattle.dg_model.proofs.Examples.{int8, decimal_of}
 
 abbrev kinds : List Kind
-kinds = Inport 1 5 ∷ Outport 2 ∷ Constant (decimal_of 1 (lit< tt) ∷ decimal_of 2 (lit< tt) ∷ []) ∷ Ground ∷ Sum (false ∷ true ∷ false ∷ []) ∷ Gain (decimal_of 3 (lit< tt) ∷ []) Internal ∷ Product ∷ Switch AtLeast (decimal_of 4 (lit< tt) ∷ [])
+kinds = Inport 1 5 ∷ Outport 2 ∷ Constant (decimal_of 1 (lit< tt) ∷ decimal_of 2 (lit< tt) ∷ []) ∷ Ground ∷ Sum (false ∷ true ∷ false ∷ []) Internal ∷ Gain (decimal_of 3 (lit< tt) ∷ []) Internal ∷ Product ∷ Switch AtLeast (decimal_of 4 (lit< tt) ∷ [])
     ∷ Relational Lt ∷ Logic And ∷ Convert false ∷ Delay 7 (decimal_of 5 (lit< tt) ∷ []) true ∷ Mux (2 ∷ []) ∷ Demux (3 ∷ []) ∷ RateTransition (decimal_of 6 (lit< tt)) (decimal_of 7 (lit< tt) ∷ []) ∷ Pass 4 ∷ EnableTest ∷ EnOut true (decimal_of 8 (lit< tt) ∷ []) ∷ Terminator ∷ []
 
 role : map (λ kind. (row_of kind).place.role) kinds ≡ Role.RootInput 1 ∷ Role.RootOutput 2 ∷ Role.Plain ∷ Role.Plain ∷ Role.Plain ∷ Role.Plain ∷ Role.Plain ∷ Role.Plain

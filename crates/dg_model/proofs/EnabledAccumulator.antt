@@ -1,4 +1,5 @@
 -- An accumulator in an enabled subsystem, whose output is held: under the control 1, 1, 0, 1 it gives 0, 1, 1, 2 with held states and 0, 1, 1, 0 with reset states.
+use Rattle.fx_type.specs.declared.spec.TypeSpec.TheVariants.{Internal}
 use Rattle.std.proofs.Common.{◌≡◌, ℕ, zero, suc, ◌<◌, Bool, true, false, List, [], ◌∷◌, Some, None, ℤ, pos, refl, sym, ◌∙◌, arith}
 use Rattle.std.proofs.Math.Dec.{lit<}
 use Rattle.std.proofs.Math.Nat.{mod-one}
@@ -19,7 +20,7 @@ use Rattle.dg_model.proofs.Written.{below_of}
 abbrev diagram : Bool → Diagram
 diagram reset = record {
   blocks = block_of (Inport 1 0) 0 1 None ∷ block_of EnableTest 1 1 None ∷ block_of (Delay 1 (decimal_of 0 (lit< tt) ∷ []) reset) 1 1 (Some 1)
-      ∷ block_of (Constant (decimal_of 1 (lit< tt) ∷ [])) 0 1 (Some 1) ∷ block_of (Sum (false ∷ false ∷ [])) 2 1 (Some 1)
+      ∷ block_of (Constant (decimal_of 1 (lit< tt) ∷ [])) 0 1 (Some 1) ∷ block_of (Sum (false ∷ false ∷ []) Internal) 2 1 (Some 1)
       ∷ block_of (EnOut false (decimal_of 0 (lit< tt) ∷ [])) 1 1 (Some 1) ∷ block_of (Outport 1) 1 0 None ∷ [];
   edges = edge_of 0 1 1 1 ∷ edge_of 4 1 2 1 ∷ edge_of 2 1 4 1 ∷ edge_of 3 1 4 2 ∷ edge_of 2 1 5 1 ∷ edge_of 5 1 6 1 ∷ [];
 }
@@ -70,14 +71,14 @@ constant true port element zero hit = stores_small 1 (lit< tt) (lit< tt)
 constant reset port element (suc t) hit = absurd (omega (arith, hit))
 
 sum : (reset : Bool) (port element t : ℕ) → t < 4 → IsRight reset 4 port element t
-sum false port element zero below = (OpSum, refl, (Num true 9 (pos 0), two_bytes_full, kept (pos 1) tt tt))
-sum false port element (suc zero) below = (OpSum, refl, (Num true 9 (pos 0), two_bytes_full, kept (pos 2) tt tt))
-sum false port element (suc (suc zero)) below = (OpSum, refl, (Num true 9 (pos 0), two_bytes_full, kept (pos 3) tt tt))
-sum false port element (suc (suc (suc zero))) below = (OpSum, refl, (Num true 9 (pos 0), two_bytes_full, kept (pos 3) tt tt))
-sum true port element zero below = (OpSum, refl, (Num true 9 (pos 0), two_bytes_full, kept (pos 1) tt tt))
-sum true port element (suc zero) below = (OpSum, refl, (Num true 9 (pos 0), two_bytes_full, kept (pos 2) tt tt))
-sum true port element (suc (suc zero)) below = (OpSum, refl, (Num true 9 (pos 0), two_bytes_full, kept (pos 3) tt tt))
-sum true port element (suc (suc (suc zero))) below = (OpSum, refl, (Num true 9 (pos 0), two_bytes_full, kept (pos 1) tt tt))
+sum false port element zero below = (OpSum None, refl, (Num true 9 (pos 0), two_bytes_full, kept (pos 1) tt tt))
+sum false port element (suc zero) below = (OpSum None, refl, (Num true 9 (pos 0), two_bytes_full, kept (pos 2) tt tt))
+sum false port element (suc (suc zero)) below = (OpSum None, refl, (Num true 9 (pos 0), two_bytes_full, kept (pos 3) tt tt))
+sum false port element (suc (suc (suc zero))) below = (OpSum None, refl, (Num true 9 (pos 0), two_bytes_full, kept (pos 3) tt tt))
+sum true port element zero below = (OpSum None, refl, (Num true 9 (pos 0), two_bytes_full, kept (pos 1) tt tt))
+sum true port element (suc zero) below = (OpSum None, refl, (Num true 9 (pos 0), two_bytes_full, kept (pos 2) tt tt))
+sum true port element (suc (suc zero)) below = (OpSum None, refl, (Num true 9 (pos 0), two_bytes_full, kept (pos 3) tt tt))
+sum true port element (suc (suc (suc zero))) below = (OpSum None, refl, (Num true 9 (pos 0), two_bytes_full, kept (pos 1) tt tt))
 sum reset port element (suc (suc (suc (suc t)))) below = absurd (omega arith)
 
 output : (reset : Bool) (port element t : ℕ) → t < 4 → IsRight reset 5 port element t

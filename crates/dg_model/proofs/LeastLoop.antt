@@ -22,7 +22,7 @@ abbrev gain : Block
 gain = record (block_of (Gain [] Internal) 1 1) { path = codes "m/g" }
 
 abbrev sum : List ℕ → Block
-sum path = record (block_of (Sum (false ∷ false ∷ [])) 2 1) { path = path }
+sum path = record (block_of (Sum (false ∷ false ∷ []) Internal) 2 1) { path = path }
 
 -- an input and a gain into a sum, and the sum into that gain; a second sum of the first and of itself
 abbrev two_loops : Diagram

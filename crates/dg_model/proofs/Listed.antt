@@ -1,4 +1,5 @@
 -- Root elements, edges for latency, instant edges and stimuli of small diagrams.
+use Rattle.fx_type.specs.declared.spec.TypeSpec.TheVariants.{Internal}
 use Rattle.std.proofs.Common.{◌≡◌, ℕ, zero, suc, ◌<◌, List, [], ◌∷◌, map, None, Some, pos, get_or, true, false, ℤ, refl, arith}
 use lib.Signed.{le_z_yes}
 use Rattle.std.proofs.Math.Dec.{lit<}
@@ -26,7 +27,7 @@ no_list = decimal_of 0 (lit< tt) ∷ []
 abbrev diagram : Diagram
 diagram = record {
   blocks = block_of (Inport 2 2) 0 1 None ∷ block_of (Inport 1 0) 0 1 None ∷ block_of EnableTest 1 1 None ∷ block_of (Delay 1 no_list false) 1 1 (Some 2) ∷ block_of (Constant no_list) 0 1 (Some 2)
-      ∷ block_of (Sum (false ∷ false ∷ [])) 2 1 (Some 2) ∷ block_of (EnOut false no_list) 1 1 (Some 2) ∷ block_of (RateTransition (decimal_of 2 (lit< tt)) no_list) 1 1 None
+      ∷ block_of (Sum (false ∷ false ∷ []) Internal) 2 1 (Some 2) ∷ block_of (EnOut false no_list) 1 1 (Some 2) ∷ block_of (RateTransition (decimal_of 2 (lit< tt)) no_list) 1 1 None
       ∷ block_of (RateTransition (decimal_of 1 (lit< tt)) no_list) 1 1 None ∷ block_of (Outport 2) 1 0 None ∷ block_of (Outport 1) 1 0 None ∷ block_of (Delay 2 no_list false) 1 1 None ∷ [];
   edges = edge_of 1 1 2 1 ∷ edge_of 5 1 3 1 ∷ edge_of 3 1 5 1 ∷ edge_of 4 1 5 2 ∷ edge_of 5 1 6 1 ∷ edge_of 6 1 7 1 ∷ edge_of 7 1 8 1 ∷ edge_of 8 1 9 1 ∷ edge_of 0 1 10 1 ∷ edge_of 0 1 11 1 ∷ [];
 }

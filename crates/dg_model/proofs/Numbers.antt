@@ -1,5 +1,5 @@
 -- Operations on numbers worked out by hand: sums, products, gains, relations, gates, switches and conversions.
-use Rattle.std.proofs.Common.{Bool, true, false, List, [], ◌∷◌, ℤ, pos, negsuc, refl, arith}
+use Rattle.std.proofs.Common.{Bool, true, false, None, List, [], ◌∷◌, ℤ, pos, negsuc, refl, arith}
 use lib.Signed.{le_z_yes, lt_z_yes}
 use Rattle.std.proofs.Math.Dec.{lit<, lit≤}
 use Rattle.fx_type.specs.declared.kind.FxType.{FxType}
@@ -23,10 +23,10 @@ operation_of op signs types result saturate = record { op = op; signs = signs; t
 
 -- ---- the sum of int8 127 and 1 in int8
 
-sum_wraps : OpGives (operation_of Sum (false ∷ false ∷ []) (int8 ∷ int8 ∷ []) int8 false) (pos 127 ∷ pos 1 ∷ []) (negsuc 127)
+sum_wraps : OpGives (operation_of (Sum None) (false ∷ false ∷ []) (int8 ∷ int8 ∷ []) int8 false) (pos 127 ∷ pos 1 ∷ []) (negsuc 127)
 sum_wraps = (Num true 9 (pos 0), two_bytes_full, record { rounded = pos 128; rounds = down tt tt; settles = wrapped true 8 (negsuc 0) tt tt refl })
 
-sum_saturates : OpGives (operation_of Sum (false ∷ false ∷ []) (int8 ∷ int8 ∷ []) int8 true) (pos 127 ∷ pos 1 ∷ []) (pos 127)
+sum_saturates : OpGives (operation_of (Sum None) (false ∷ false ∷ []) (int8 ∷ int8 ∷ []) int8 true) (pos 127 ∷ pos 1 ∷ []) (pos 127)
 sum_saturates = (
   Num true 9 (pos 0),
   two_bytes_full,

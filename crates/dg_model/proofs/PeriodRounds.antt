@@ -1,4 +1,5 @@
 -- Periods of small diagrams, worked by hand.
+use Rattle.fx_type.specs.declared.spec.TypeSpec.TheVariants.{Internal}
 use Rattle.std.proofs.Common.{◌≡◌, ℕ, [], ◌∷◌, None, Some, pos, false, refl}
 use Rattle.std.specs.Prelude.{◌<◌, ◌^◌}
 use Rattle.std.proofs.Math.Dec.{lit<}
@@ -22,7 +23,7 @@ timed kind period inputs outputs = record (block_of kind inputs outputs) { perio
 -- a sum of a source of period 8 and of a copy of one of period 4 takes 8 in the first round, and keeps it
 abbrev late : Diagram
 late = record {
-  blocks = timed (Inport 1 0) (Every (small 8 (lit< tt))) 0 1 ∷ timed (Inport 2 0) (Every (small 4 (lit< tt))) 0 1 ∷ timed (Pass 0) Inherit 1 1 ∷ timed (Sum (false ∷ false ∷ [])) Inherit 2 1
+  blocks = timed (Inport 1 0) (Every (small 8 (lit< tt))) 0 1 ∷ timed (Inport 2 0) (Every (small 4 (lit< tt))) 0 1 ∷ timed (Pass 0) Inherit 1 1 ∷ timed (Sum (false ∷ false ∷ []) Internal) Inherit 2 1
       ∷ timed Ground Inherit 0 1 ∷ timed (Pass 0) Inherit 1 1 ∷ timed (Delay 1 [] false) Inherit 1 1 ∷ timed (Outport 1) Inherit 1 0 ∷ [];
   edges = edge_of 1 1 2 1 ∷ edge_of 0 1 3 1 ∷ edge_of 2 1 3 2 ∷ edge_of 4 1 5 1 ∷ edge_of 5 1 6 1 ∷ edge_of 5 1 7 1 ∷ [];
 }

@@ -1,4 +1,5 @@
 -- Plans whose paths are found in a diagram, and plans that break the rule of plans, worked by hand.
+use Rattle.fx_type.specs.declared.spec.TypeSpec.TheVariants.{Internal}
 use Rattle.std.proofs.Common.{◌≡◌, ◌≢◌, ℕ, zero, suc, ◌<◌, List, [], ◌∷◌, codes, Some, false, refl, sym, subst, ap, ◌∙◌, arith, get_or}
 use Rattle.std.specs.Prelude.{slice_get, slice_index_or}
 use Rattle.std.proofs.lemmas.Bool.{false≢true}
@@ -26,10 +27,10 @@ abbrev ground : Block
 ground = named (codes "m/g") Ground 0 1
 
 abbrev moving : Block
-moving = named (codes "m/s") (Sum (false ∷ false ∷ [])) 2 1
+moving = named (codes "m/s") (Sum (false ∷ false ∷ []) Internal) 2 1
 
 abbrev still : Block
-still = named (codes "m/t") (Sum (false ∷ false ∷ [])) 2 1
+still = named (codes "m/t") (Sum (false ∷ false ∷ []) Internal) 2 1
 
 -- a sum of an input and a Ground, and one of the Ground alone, whose value never changes
 abbrev sums : Diagram

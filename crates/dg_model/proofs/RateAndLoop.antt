@@ -76,7 +76,7 @@ four_breaks = inr (record {
 -- an input and the sum itself into a sum
 abbrev looped : Diagram
 looped = record {
-  blocks = block_of (Inport 1 0) 0 1 ∷ block_of (Sum (false ∷ false ∷ [])) 2 1 ∷ block_of (Outport 1) 1 0 ∷ [];
+  blocks = block_of (Inport 1 0) 0 1 ∷ block_of (Sum (false ∷ false ∷ []) Internal) 2 1 ∷ block_of (Outport 1) 1 0 ∷ [];
   edges = edge_of 0 1 1 1 ∷ edge_of 1 1 1 2 ∷ edge_of 1 1 2 1 ∷ [];
 }
 

@@ -26,7 +26,7 @@ one = decimal_of 1 (lit< tt) ∷ []
 
 -- ---- ports
 
-ports : HasPorts (Inport 1 0) 0 1 × HasPorts (Outport 1) 1 0 × HasPorts (Constant one) 0 1 × HasPorts Ground 0 1 × HasPorts (Sum (false ∷ true ∷ false ∷ [])) 3 1 × HasPorts (Gain one Internal) 1 1 × HasPorts Product 2 1
+ports : HasPorts (Inport 1 0) 0 1 × HasPorts (Outport 1) 1 0 × HasPorts (Constant one) 0 1 × HasPorts Ground 0 1 × HasPorts (Sum (false ∷ true ∷ false ∷ []) Internal) 3 1 × HasPorts (Gain one Internal) 1 1 × HasPorts Product 2 1
     × HasPorts (Switch AtLeast one) 3 1 × HasPorts (Relational Lt) 2 1 × HasPorts (Logic Not) 1 1 × HasPorts (Convert false) 1 1 × HasPorts (Delay 1 one false) 1 1 × HasPorts (Mux (2 ∷ 3 ∷ [])) 2 1 × HasPorts (Demux (2 ∷ 3 ∷ [])) 1 2
     × HasPorts (RateTransition (decimal_of 1 (lit< tt)) one) 1 1 × HasPorts (Pass 0) 1 1 × HasPorts EnableTest 1 1 × HasPorts (EnOut false one) 1 1 × HasPorts Terminator 1 0
 ports = ((refl, refl), (refl, refl), (refl, refl), (refl, refl), (refl, refl), (refl, refl), (refl, refl), (refl, refl), (refl, refl), (refl, refl), (refl, refl), (refl, refl), (refl, refl), (refl, refl), (refl, refl), (refl, refl), (refl, refl), (refl, refl), (refl, refl))
@@ -49,11 +49,11 @@ long = replicate 1025 (decimal_of 1 (lit< tt))
 long_is : length long ≡ 1025
 long_is = length-replicate 1025 (decimal_of 1 (lit< tt))
 
-in_range : Carries (Inport 20000 1024) × Carries (Outport 20000) × Carries (Sum (false ∷ false ∷ [])) × Carries (Delay 1024 one false) × Carries (Pass 1024) × Carries Product × Carries Terminator
-in_range = (((lit≤ tt, lit≤ tt), (lit≤ tt, lit≤ tt)), (lit≤ tt, lit≤ tt), (lit≤ tt, lit≤ tt), ((lit≤ tt, lit≤ tt), (lit≤ tt, lit≤ tt)), (lit≤ tt, lit≤ tt), tt, tt)
+in_range : Carries (Inport 20000 1024) × Carries (Outport 20000) × Carries (Sum (false ∷ false ∷ []) Internal) × Carries (Delay 1024 one false) × Carries (Pass 1024) × Carries Product × Carries Terminator
+in_range = (((lit≤ tt, lit≤ tt), (lit≤ tt, lit≤ tt)), (lit≤ tt, lit≤ tt), ((lit≤ tt, lit≤ tt), tt, tt), ((lit≤ tt, lit≤ tt), (lit≤ tt, lit≤ tt)), (lit≤ tt, lit≤ tt), tt, tt)
 
 numbers_out_of_range : (¬ Carries (Inport 0 0)) × (¬ Carries (Inport 20001 0)) × (¬ Carries (Inport 1 1025)) × (¬ Carries (Outport 0)) × (¬ Carries (Outport 20001)) × (¬ Carries (Pass 1025))
-    × (¬ Carries (Delay 0 one false)) × (¬ Carries (Delay 1025 one false)) × (¬ Carries (Sum (false ∷ []))) × (¬ Carries (Sum (replicate 33 false)))
+    × (¬ Carries (Delay 0 one false)) × (¬ Carries (Delay 1025 one false)) × (¬ Carries (Sum (false ∷ []) Internal)) × (¬ Carries (Sum (replicate 33 false) Internal))
 numbers_out_of_range = (
   λ has. absurd (omega (arith, has.0.0)),
   λ has. absurd (omega (arith, has.0.1)),
@@ -100,10 +100,10 @@ MayHave kind spec = (row_of kind).types.may_be spec
 fixed_or_none : MayHave (Inport 1 0) (Fixed int8) × MayHave (Inport 1 0) Auto × MayHave (Outport 1) (Fixed int8) × MayHave (Constant one) (Fixed int8) × MayHave (Pass 0) (Fixed int8) × MayHave (EnOut false one) (Fixed int8) × MayHave (Pass 0) Auto
 fixed_or_none = (tt, tt, tt, tt, tt, tt, tt)
 
-choices : MayHave (Sum []) (Fixed int8) × MayHave (Gain one Internal) Internal × MayHave Product SameFirst × MayHave (Switch AtLeast one) Internal × MayHave (Convert false) (Fixed int8) × MayHave (Delay 1 one false) Auto
+choices : MayHave (Sum [] Internal) (Fixed int8) × MayHave (Gain one Internal) Internal × MayHave Product SameFirst × MayHave (Switch AtLeast one) Internal × MayHave (Convert false) (Fixed int8) × MayHave (Delay 1 one false) Auto
 choices = (tt, tt, tt, tt, tt, refl)
 
-no_such_type : (¬ MayHave (Inport 1 0) Internal) × (¬ MayHave (Pass 0) SameFirst) × (¬ MayHave (Sum []) Auto) × (¬ MayHave Product Auto) × (¬ MayHave (Convert false) Internal) × (¬ MayHave (Convert false) Auto)
+no_such_type : (¬ MayHave (Inport 1 0) Internal) × (¬ MayHave (Pass 0) SameFirst) × (¬ MayHave (Sum [] Internal) Auto) × (¬ MayHave Product Auto) × (¬ MayHave (Convert false) Internal) × (¬ MayHave (Convert false) Auto)
 no_such_type = (λ has. absurd has, λ has. absurd has, λ has. absurd has, λ has. absurd has, λ has. absurd has, λ has. absurd has)
 
 no_type : (¬ MayHave (Delay 1 one false) (Fixed int8)) × (¬ MayHave (Relational Lt) (Fixed Boolean)) × (¬ MayHave Ground Internal)
@@ -118,7 +118,7 @@ not_a_type is = absurd (omega (arith, is.types.0.1))
 
 -- ---- rounding and periods
 
-roundings : HasRounding (Sum []) Nearest true × HasRounding (Gain one Internal) Nearest true × HasRounding Product Nearest true × HasRounding (Switch AtLeast one) Nearest true × HasRounding (Convert true) Nearest true × HasRounding Ground Floor false
+roundings : HasRounding (Sum [] Internal) Nearest true × HasRounding (Gain one Internal) Nearest true × HasRounding Product Nearest true × HasRounding (Switch AtLeast one) Nearest true × HasRounding (Convert true) Nearest true × HasRounding Ground Floor false
 roundings = (tt, tt, tt, tt, tt, (refl, refl))
 
 no_rounding : (¬ HasRounding (Delay 1 one false) Nearest false) × (¬ HasRounding (Outport 1) Floor true)

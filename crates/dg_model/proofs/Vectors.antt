@@ -1,4 +1,5 @@
 -- Signals of several elements: a Mux of two and one elements into a Demux of one and two, a control of two elements, a Constant of two, a scalar that is repeated, and Ground.
+use Rattle.fx_type.specs.declared.spec.TypeSpec.TheVariants.{Internal}
 use Rattle.std.proofs.Common.{◌≡◌, ap, ℤ, zero, suc, ◌<◌, ◌≤◌, sym, subst, ◌∙◌, arith, ℕ, ◌-◌, List, [], ◌∷◌, Some, None, pos, negsuc, get_or, true, false, refl}
 use Rattle.std.proofs.Math.Dec.{lit<, lit≤}
 use Rattle.std.specs.Prelude.{slice_get}
@@ -109,7 +110,7 @@ control_of_two = (refl, refl)
 
 abbrev added : Diagram
 added = record {
-  blocks = block_of (Constant (decimal_of 4 (lit< tt) ∷ decimal_of 5 (lit< tt) ∷ [])) 0 1 None ∷ block_of (Constant (decimal_of 1 (lit< tt) ∷ [])) 0 1 None ∷ block_of (Sum (false ∷ false ∷ [])) 2 1 None ∷ block_of Ground 0 1 None ∷ [];
+  blocks = block_of (Constant (decimal_of 4 (lit< tt) ∷ decimal_of 5 (lit< tt) ∷ [])) 0 1 None ∷ block_of (Constant (decimal_of 1 (lit< tt) ∷ [])) 0 1 None ∷ block_of (Sum (false ∷ false ∷ []) Internal) 2 1 None ∷ block_of Ground 0 1 None ∷ [];
   edges = edge_of 0 1 2 1 ∷ edge_of 1 1 2 2 ∷ [];
 }
 
@@ -126,7 +127,7 @@ constant : IsAdded 0 0 × IsAdded 0 1 × IsAdded 1 0
 constant = (stores_small 4 (lit< tt) (lit< tt), stores_small 5 (lit< tt) (lit< tt), stores_small 1 (lit< tt) (lit< tt))
 
 sum : IsAdded 2 0 × IsAdded 2 1
-sum = ((OpSum, refl, (Num true 9 (pos 0), two_bytes_full, kept (pos 5) tt tt)), (OpSum, refl, (Num true 9 (pos 0), two_bytes_full, kept (pos 6) tt tt)))
+sum = ((OpSum None, refl, (Num true 9 (pos 0), two_bytes_full, kept (pos 5) tt tt)), (OpSum None, refl, (Num true 9 (pos 0), two_bytes_full, kept (pos 6) tt tt)))
 
 ground : IsAdded 3 0
 ground = refl

@@ -3,7 +3,7 @@ use Rattle.std.proofs.Common.{◌≡◌, ℕ, zero, suc, ◌≤◌, List, [], �
 use Rattle.dg_model.specs.declared.fault.Shown.TheVariants.{Nothing}
 use Rattle.dg_model.specs.Faults.{fault_of}
 use Rattle.dg_model.specs.Dimension.{KeepsDimension, IsBounded, BreaksDimension}
-use Rattle.fx_type.specs.declared.spec.TypeSpec.TheVariants.{Auto}
+use Rattle.fx_type.specs.declared.spec.TypeSpec.TheVariants.{Internal, Auto}
 use Rattle.fx_type.specs.declared.rounding.Rounding.TheVariants.{Floor}
 use Rattle.dg_model.specs.declared.diagram.Diagram.{Diagram}
 use Rattle.dg_model.specs.declared.diagram.Block.{Block}
@@ -33,7 +33,7 @@ laid_widths = refl
 -- a Demux of three open parts of seven elements, in reverse order of the file
 abbrev parted : Diagram
 parted = record {
-  blocks = block_of Terminator 1 0 ∷ block_of (Demux (0 ∷ 0 ∷ 0 ∷ [])) 1 3 ∷ block_of (Sum (false ∷ true ∷ [])) 2 1 ∷ block_of (Inport 1 7) 0 1 ∷ [];
+  blocks = block_of Terminator 1 0 ∷ block_of (Demux (0 ∷ 0 ∷ 0 ∷ [])) 1 3 ∷ block_of (Sum (false ∷ true ∷ []) Internal) 2 1 ∷ block_of (Inport 1 7) 0 1 ∷ [];
   edges = edge_of 1 2 0 1 ∷ edge_of 2 1 1 1 ∷ edge_of 3 1 2 1 ∷ edge_of 3 1 2 2 ∷ [];
 }
 

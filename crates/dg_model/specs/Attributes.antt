@@ -9,7 +9,7 @@ use Rattle.dg_model.specs.Library.{row_of}
 use Rattle.dg_model.specs.Signals.{Attributes}
 use Rattle.dg_model.specs.Widths.{width_at, widths_of}
 use Rattle.dg_model.specs.GainParam.{param_type_of}
-use Rattle.dg_model.specs.TypeRounds.{with_known, Types, input_types, types_of}
+use Rattle.dg_model.specs.TypeRounds.{with_known, specified_type, Types, input_types, types_of}
 use Rattle.dg_model.specs.Periods.{known_at, periods_of, period_at}
 
 -- a type that is known; a diagram that keeps the rules knows each that is asked for
@@ -17,10 +17,10 @@ abbrev pub or_logical : Option FxType → FxType
 or_logical None = Logical
 or_logical (Some type) = type
 
--- the type of a block's coefficients, where it has any
+-- the type of a block's coefficients or of its accumulator, where it has any
 abbrev pub coefficient_type : FullRule → Option FxType → Option FxType
 coefficient_type FullRule.NoFull input = None
-coefficient_type (FullRule.FullSum negative) input = None
+coefficient_type (FullRule.FullSum negative accum) input = specified_type accum None input None
 coefficient_type (FullRule.FullScaled value param) input =
     with_known input (param_type_of value param)
 coefficient_type FullRule.FullProduct input = None

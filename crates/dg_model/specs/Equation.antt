@@ -5,6 +5,8 @@ use Rattle.std.specs.Prelude.{◌≡◌, ℕ, suc, ◌+◌, ◌-◌, ◌<◌, �
 use Rattle.std.specs.List.{list_any}
 use Rattle.fx_type.specs.declared.kind.FxType.{FxType}
 use Rattle.fx_type.specs.declared.decimal.Decimal.{Decimal}
+use Rattle.fx_type.specs.declared.spec.TypeSpec.{TypeSpec}
+use Rattle.fx_type.specs.declared.spec.TypeSpec.TheVariants.{Fixed, Internal, SameFirst, Auto}
 use Rattle.fx_type.specs.Conversion.{Stores}
 use Rattle.dg_model.specs.declared.diagram.Diagram.{Diagram}
 use Rattle.dg_model.specs.declared.diagram.Block.{Block}
@@ -25,6 +27,14 @@ use Rattle.dg_model.specs.Operation.{OpGives, stored_truth}
 abbrev pub StoresEntry : List Decimal → ℕ → FxType → ℤ → Type 0
 StoresEntry list element type v = MatchOption (entry_of list element) ⊥ (λ decimal. Stores decimal type v)
 
+-- the type in which a sum is added up, where it is so specified and has this type; none where it is
+-- exact
+abbrev pub accumulator : TypeSpec → FxType → Option FxType
+accumulator (Fixed type) own = Some own
+accumulator Internal own = None
+accumulator SameFirst own = Some own
+accumulator Auto own = None
+
 -- the operation of a kind that carries one out at an element, with the type of its Gain's
 -- coefficients and of its input 2
 abbrev pub IsOpOf : Kind → ℕ → FxType → FxType → Op → Type 0
@@ -32,7 +42,7 @@ IsOpOf (Inport number width) element param control op = ⊥
 IsOpOf (Outport number) element param control op = op ≡ OpPass
 IsOpOf (Constant value) element param control op = ⊥
 IsOpOf Ground element param control op = ⊥
-IsOpOf (Sum negative) element param control op = op ≡ OpSum
+IsOpOf (Sum negative accum) element param control op = op ≡ OpSum (accumulator accum param)
 IsOpOf (Gain value spec) element param control op = (coefficient : ℤ) × StoresEntry value element param coefficient × (op ≡ OpGain coefficient param)
 IsOpOf Product element param control op = op ≡ OpProduct
 IsOpOf (Switch criterion threshold) element param control op = (stored : ℤ) × StoresEntry threshold element control stored × (op ≡ OpSwitch criterion stored)
@@ -51,7 +61,7 @@ IsOpOf Terminator element param control op = ⊥
 -- the signs of the inputs of a full sum
 abbrev pub signs_of_full : FullRule → List Bool
 signs_of_full FullRule.NoFull = []
-signs_of_full (FullRule.FullSum negative) = negative
+signs_of_full (FullRule.FullSum negative accum) = negative
 signs_of_full (FullRule.FullScaled value param) = []
 signs_of_full FullRule.FullProduct = []
 signs_of_full FullRule.UnionOfTwo = []
@@ -128,7 +138,7 @@ module _ (diagram : Diagram) (attributes : Attributes) (stimulus : Stimulus) (ta
   KindEquation (Outport number) b block port element t v = ElementEquation b block element t v
   KindEquation (Constant value) b block port element t v = StoresEntry value element (attributes.type_at block 1) v
   KindEquation Ground b block port element t v = v ≡ pos 0
-  KindEquation (Sum negative) b block port element t v = ElementEquation b block element t v
+  KindEquation (Sum negative accum) b block port element t v = ElementEquation b block element t v
   KindEquation (Gain value spec) b block port element t v = ElementEquation b block element t v
   KindEquation Product b block port element t v = ElementEquation b block element t v
   KindEquation (Switch criterion threshold) b block port element t v = ElementEquation b block element t v

@@ -93,8 +93,9 @@ pub data Shape : Type 0 where
 pub data FullRule : Type 0 where
   -- none
   NoFull : FullRule
-  -- the full sum of the inputs, where `true` marks one that is subtracted
-  FullSum : (negative : List Bool) → FullRule
+  -- the full sum of the inputs, where `true` marks one that is subtracted; or those of its steps,
+  -- where it is added up in a type that is so specified
+  FullSum : (negative : List Bool) → (accum : TypeSpec) → FullRule
   -- the full product of input 1 and coefficients of this list, whose type is so specified
   FullScaled : (value : List Decimal) → (param : TypeSpec) → FullRule
   -- the full product of inputs 1 and 2

@@ -15,7 +15,7 @@ lent_shape Single = Shape.Single
 -- the full type or union whose lists are lent
 abbrev pub lent_full : LentFullRule → FullRule
 lent_full NoFull = FullRule.NoFull
-lent_full (FullSum negative) = FullRule.FullSum negative.now
+lent_full (FullSum negative accum) = FullRule.FullSum negative.now accum
 lent_full (FullScaled value param) = FullRule.FullScaled value.now param
 lent_full FullProduct = FullRule.FullProduct
 lent_full UnionOfTwo = FullRule.UnionOfTwo

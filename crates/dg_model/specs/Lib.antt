@@ -1,5 +1,6 @@
 pub mod Attributes
 pub mod Checked
+pub mod Convolution
 pub mod Dimension
 pub mod Equation
 pub mod Faults

@@ -91,16 +91,16 @@ row_of Ground = record {
       };
   hardware = record { pipelines = false; multiplies = false };
 }
-row_of (Sum negative) = record {
+row_of (Sum negative accum) = record {
   place = record { role = Role.Plain; stands = Standing.Anywhere };
   ports = record { inputs = Only (length negative); outputs = Only 1 };
-  parameters = IsBetween 2 32 (length negative);
+  parameters = IsBetween 2 32 (length negative) × IsChoice accum × IsSpec accum;
   signal = record { shape = Shape.Elementwise; lists = []; width = 0 };
   types =
       record {
         may_be = IsChoice;
         own = OwnType.Untyped;
-        full = FullRule.FullSum negative;
+        full = FullRule.FullSum negative accum;
         rounds = true;
       };
   timing =

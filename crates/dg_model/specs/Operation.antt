@@ -1,7 +1,7 @@
 -- What an elementwise operation gives (Simulink reference, Sum, Product, Gain, Switch, Relational
 -- Operator, Logical Operator, Data Type Conversion). The exact result is computed without loss and
 -- then converted once. That Relational compares exact real values is own.
-use Rattle.std.specs.Prelude.{◌≡◌, ℕ, ◌%◌, ◌<◌, ◌≤◌, ◌==◌, ℤ, pos, ◌+ℤ◌, ◌*ℤ◌, int_lt, int_le, Bool, true, false, not, cond, MatchBool, List, [], ◌∷◌, length, slice_index_or, zip, count_by, All, ⊤}
+use Rattle.std.specs.Prelude.{◌≡◌, ℕ, ◌%◌, ◌<◌, ◌≤◌, ◌==◌, ℤ, pos, ◌+ℤ◌, ◌*ℤ◌, int_lt, int_le, Bool, true, false, not, cond, MatchBool, List, [], ◌∷◌, length, slice_index_or, zip, count_by, All, ⊤, Option, Some, None}
 use Rattle.std.specs.List.{list_any, list_all}
 use Rattle.std.specs.Int.{int_max}
 use Rattle.std.specs.Ordering.{int_eq}
@@ -107,12 +107,46 @@ type_of types input = slice_index_or types input (Num false 0 (pos 0))
 abbrev pub value_of : List ℤ → ℕ → ℤ
 value_of inputs input = slice_index_or inputs input (pos 0)
 
--- r is what an operation gives of these types and inputs
-abbrev pub Gives : Op → Operation → List FxType → List ℤ → ℤ → Type 0
-Gives Sum operation types inputs r =
+-- r is the exact sum of inputs of these types, converted
+abbrev pub IsExactSum : Operation → List FxType → List ℤ → ℤ → Type 0
+IsExactSum operation types inputs r =
     let terms = zip operation.signs types
     in (full : FxType) × IsFullSum terms full
     × IsConverted operation (signed_sum (frac_of full) terms inputs) full r
+
+-- the sum of an accumulator of a type and of one term more, converted to that type
+abbrev pub step_of : Operation → FxType → Bool × FxType → Operation
+step_of operation accum term =
+    record operation {
+      signs = false ∷ term.0 ∷ [];
+      types = accum ∷ term.1 ∷ [];
+      result = accum;
+    }
+
+-- what an accumulator of a type has after one term more
+abbrev pub IsStep : Operation → FxType → Bool × FxType → ℤ → ℤ → ℤ → Type 0
+IsStep operation accum term v before after =
+    IsExactSum (step_of operation accum term) (accum ∷ term.1 ∷ []) (before ∷ v ∷ []) after
+
+-- what an accumulator of a type has after all terms, in order
+abbrev pub IsAddedUp : Operation → FxType → Terms → List ℤ → ℤ → ℤ → Type 0
+IsAddedUp operation accum [] inputs before last = last ≡ before
+IsAddedUp operation accum (term ∷ terms) [] before last = last ≡ before
+IsAddedUp operation accum (term ∷ terms) (v ∷ inputs) before last =
+    (after : ℤ) × IsStep operation accum term v before after
+    × IsAddedUp operation accum terms inputs after last
+
+-- r is the sum of inputs of these types, exact, or added up from 0 in the type of an accumulator,
+-- and converted
+abbrev pub IsSum : Option FxType → Operation → List FxType → List ℤ → ℤ → Type 0
+IsSum None operation types inputs r = IsExactSum operation types inputs r
+IsSum (Some accum) operation types inputs r =
+    (last : ℤ) × IsAddedUp operation accum (zip operation.signs types) inputs (pos 0) last
+    × IsConverted operation last accum r
+
+-- r is what an operation gives of these types and inputs
+abbrev pub Gives : Op → Operation → List FxType → List ℤ → ℤ → Type 0
+Gives (Sum accum) operation types inputs r = IsSum accum operation types inputs r
 Gives (Gain coefficient param) operation types inputs r =
     (full : FxType) × IsFullProduct (type_of types 0) param full
     × IsConverted operation (value_of inputs 0 *ℤ coefficient) full r
@@ -143,7 +177,7 @@ OpGives operation inputs r = Gives operation.op operation operation.types inputs
 
 -- how many inputs an operation has
 abbrev pub HasArity : Op → ℕ → Type 0
-HasArity Sum n = (1 ≤ n) × (n ≤ 32)
+HasArity (Sum accum) n = (1 ≤ n) × (n ≤ 32)
 HasArity (Gain coefficient param) n = n ≡ 1
 HasArity Product n = n ≡ 2
 HasArity (Switch criterion threshold) n = n ≡ 3
@@ -155,7 +189,7 @@ HasArity Pass n = n ≡ 1
 
 -- a Sum has one sign an input
 abbrev pub HasSigns : Op → List Bool → ℕ → Type 0
-HasSigns Sum signs n = length signs ≡ n
+HasSigns (Sum accum) signs n = length signs ≡ n
 HasSigns (Gain coefficient param) signs n = ⊤
 HasSigns Product signs n = ⊤
 HasSigns (Switch criterion threshold) signs n = ⊤
@@ -164,9 +198,14 @@ HasSigns (Logic gate) signs n = ⊤
 HasSigns (Convert stored) signs n = ⊤
 HasSigns Pass signs n = ⊤
 
--- a Gain's coefficient and its type, and a Switch's threshold
+-- the type of an accumulator, where there is one, is valid
+abbrev pub IsAccumulator : Option FxType → Type 0
+IsAccumulator None = ⊤
+IsAccumulator (Some accum) = IsType accum
+
+-- a Gain's coefficient and its type, a Switch's threshold, and the type in which a Sum is added up
 abbrev pub HasParameters : Op → List FxType → Type 0
-HasParameters Sum types = ⊤
+HasParameters (Sum accum) types = IsAccumulator accum
 HasParameters (Gain coefficient param) types = IsType param × InRange param coefficient
 HasParameters Product types = ⊤
 HasParameters (Switch criterion threshold) types = InRange (type_of types 1) threshold
@@ -177,7 +216,7 @@ HasParameters Pass types = ⊤
 
 -- the result types that an operation allows
 abbrev pub HasResultType : Op → List FxType → FxType → Type 0
-HasResultType Sum types result = ⊤
+HasResultType (Sum accum) types result = ⊤
 HasResultType (Gain coefficient param) types result = ⊤
 HasResultType Product types result = ⊤
 HasResultType (Switch criterion threshold) types result = ⊤
@@ -188,7 +227,9 @@ HasResultType Pass types result = result ≡ type_of types 0
 
 -- the full type or union that an operation names is a type
 abbrev pub HasFullType : Op → List Bool → List FxType → Type 0
-HasFullType Sum signs types = (full : FxType) × IsFullSum (zip signs types) full
+HasFullType (Sum None) signs types = (full : FxType) × IsFullSum (zip signs types) full
+HasFullType (Sum (Some accum)) signs types =
+    All (λ term. (full : FxType) × IsFullSum ((false, accum) ∷ term ∷ []) full) (zip signs types)
 HasFullType (Gain coefficient param) signs types =
     (full : FxType) × IsFullProduct (type_of types 0) param full
 HasFullType Product signs types =

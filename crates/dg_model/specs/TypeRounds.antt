@@ -1,10 +1,11 @@
 -- Which types the signals of a diagram have, by rounds (Simulink reference, `OutDataTypeStr`; the
 -- rounds, and what the internal rule gives, are own).
-use Rattle.std.specs.Prelude.{ℕ, List, [], ◌∷◌, length, map, zip, Option, Some, None, slice_get}
+use Rattle.std.specs.Prelude.{ℕ, Bool, false, List, [], ◌∷◌, length, map, zip, Option, Some, None, slice_get}
 use Rattle.dg_waves.specs.Rounds.{after_rounds}
 use Rattle.fx_type.specs.declared.kind.FxType.{FxType}
 use Rattle.fx_type.specs.declared.spec.TypeSpec.{TypeSpec}
 use Rattle.fx_type.specs.declared.spec.TypeSpec.TheVariants.{Fixed, Internal, SameFirst, Auto}
+use Rattle.fx_type.specs.FullType.{Terms}
 use Rattle.fx_type.specs.FullTypeOf.{full_sum_of, full_product_of, union_of}
 use Rattle.dg_model.specs.declared.diagram.Diagram.{Diagram}
 use Rattle.dg_model.specs.declared.diagram.Block.{Block}
@@ -49,12 +50,32 @@ specified_type Internal internal first own = internal
 specified_type SameFirst internal first own = first
 specified_type Auto internal first own = own
 
+-- the type of an accumulator, where each step has a full sum that is valid: that of the accumulator
+-- and of one term more
+abbrev pub stepped : FxType → Terms → Option FxType
+stepped accum [] = Some accum
+stepped accum (term ∷ terms) =
+    with_known (full_sum_of ((false, accum) ∷ term ∷ [])) (λ full. stepped accum terms)
+
+-- the same, where the accumulator has the type of the first term
+abbrev pub stepped_first : Terms → Option FxType
+stepped_first [] = None
+stepped_first (term ∷ terms) = stepped term.1 (term ∷ terms)
+
+-- what a sum of these terms names: its full sum, or the type in which it is added up
+abbrev pub sum_named : TypeSpec → Terms → Option FxType
+sum_named (Fixed type) terms = stepped type terms
+sum_named Internal terms = full_sum_of terms
+sum_named SameFirst terms = stepped_first terms
+sum_named Auto terms = None
+
 -- the full type or union that a kind's equation names of these inputs, where the types that it
--- needs are known and it is valid
+-- needs are known and it is valid; of a sum that is added up in a type that type, where the full
+-- sums of its steps are valid
 abbrev pub full_type : FullRule → Types → Option FxType
 full_type FullRule.NoFull types = None
-full_type (FullRule.FullSum negative) types =
-    with_known (all_known types) (λ known. full_sum_of (zip negative known))
+full_type (FullRule.FullSum negative accum) types =
+    with_known (all_known types) (λ known. sum_named accum (zip negative known))
 full_type (FullRule.FullScaled value param) types =
     with_known (known_at types 0)
     (λ input. with_known (param_type_of value param input) (full_product_of input))
@@ -71,10 +92,22 @@ own_type OwnType.Untyped types = None
 own_type (OwnType.Always type) types = Some type
 own_type OwnType.OfInput types = known_at types 0
 
+-- the type that the internal rule gives: that of the accumulator, where a sum has one, and else
+-- what the equation names
+abbrev pub internal_type : FullRule → Types → Option FxType
+internal_type FullRule.NoFull types = full_type FullRule.NoFull types
+internal_type (FullRule.FullSum negative accum) types =
+    specified_type accum (full_type (FullRule.FullSum negative accum) types) (known_at types 0) None
+internal_type (FullRule.FullScaled value param) types =
+    full_type (FullRule.FullScaled value param) types
+internal_type FullRule.FullProduct types = full_type FullRule.FullProduct types
+internal_type FullRule.UnionOfTwo types = full_type FullRule.UnionOfTwo types
+internal_type FullRule.UnionOfEnds types = full_type FullRule.UnionOfEnds types
+
 -- the type that a block takes where the input types that it needs are known
 abbrev pub taken_type : Kind → TypeSpec → Types → Option FxType
 taken_type kind spec types =
-    specified_type spec (full_type (row_of kind).types.full types) (known_at types 0)
+    specified_type spec (internal_type (row_of kind).types.full types) (known_at types 0)
     (own_type (row_of kind).types.own types)
 
 -- the type that a block takes in a round

@@ -19,9 +19,11 @@ pub enum Kind {
     },
     /// The value 0.
     Ground,
-    /// The sum of its inputs, where `true` marks one that is subtracted.
+    /// The sum of its inputs, where `true` marks one that is subtracted; `accum` chooses the type in
+    /// which it is added up input by input, or the internal rule, by which it is exact.
     Sum {
         negative: Flags,
+        accum: TypeSpec,
     },
     /// The input times a coefficient; `param` chooses the coefficient's type.
     Gain {

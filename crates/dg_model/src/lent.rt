@@ -26,9 +26,11 @@ pub enum Shape<'a> {
 pub enum FullRule<'a> {
     /// None.
     NoFull,
-    /// The full sum of the inputs, where `true` marks one that is subtracted.
+    /// The full sum of the inputs, where `true` marks one that is subtracted; or those of its steps,
+    /// where it is added up in a type that is so specified.
     FullSum {
         negative: &'a [bool],
+        accum: TypeSpec,
     },
     /// The full product of input 1 and coefficients of this list, whose type is so specified.
     FullScaled {
@@ -65,8 +67,9 @@ impl Kind {
         ensures { lent_full result ≡ (row_of self.now).types.full }
     {
         match self {
-            Kind::Sum { negative } => FullRule::FullSum {
+            Kind::Sum { negative, accum } => FullRule::FullSum {
                 negative: negative.as_slice(),
+                accum: *accum,
             },
             Kind::Gain { value, param } => FullRule::FullScaled {
                 value: value.as_slice(),
@@ -84,7 +87,7 @@ impl Kind {
         ensures { result.now ≡ signs_of self.now }
     {
         match self.full() {
-            FullRule::FullSum { negative } => negative,
+            FullRule::FullSum { negative, .. } => negative,
             _ => &[],
         }
     }

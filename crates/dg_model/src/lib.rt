@@ -42,7 +42,7 @@ pub use laws::{columns_are_a_stimulus, edges_stand_by_port, root_elements_are_li
 pub use lent::{FullRule, Shape};
 pub use naming::put_escaped;
 pub use nested::{Nested, NestedBlock, NestedBlocks, NestedLine, NestedLines, Part, Target};
-pub use op::{Op, OpCall, without_frac};
+pub use op::{Op, OpCall, accumulator, without_frac};
 pub use path::{Path, SystemPath};
 pub use plan::{Pipeline, Pipelines, Plan};
 pub use port_widths::PortWidths;

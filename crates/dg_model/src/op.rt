@@ -1,14 +1,17 @@
 ghost use Rattle.std.specs.Prelude.{◌≡◌};
 ghost use Rattle.dg_model.specs.Operation.{without_frac as without_frac_of};
+ghost use Rattle.dg_model.specs.Equation.{accumulator as accumulator_of};
 
 use crate::kind::{Criterion, Gate, Relation};
-use fx_type::{FxType, Rounding};
+use fx_type::{FxType, Rounding, TypeSpec};
 
 /// An elementwise operation, its parameters converted to stored integers (own).
 #[derive(Clone, Copy)]
 pub enum Op {
-    /// The sum of its inputs with their signs.
-    Sum,
+    /// The sum of its inputs with their signs: exact, or added up input by input in the type `accum`.
+    Sum {
+        accum: Option<FxType>,
+    },
     /// The input times `coefficient`, which is a stored integer of the type `param`.
     Gain {
         coefficient: i128,
@@ -65,5 +68,16 @@ pub fn without_frac(kind: FxType) -> FxType
             frac: 0,
         },
         FxType::Logical => FxType::Logical,
+    }
+}
+
+/// The type in which a sum is added up, where it is so specified and has this type; none where it is
+/// exact.
+pub fn accumulator(spec: TypeSpec, kind: FxType) -> Option<FxType>
+    ensures { result ≡ accumulator_of spec kind }
+{
+    match spec {
+        TypeSpec::Internal | TypeSpec::Auto => None,
+        TypeSpec::Fixed(_) | TypeSpec::SameFirst => Some(kind),
     }
 }

@@ -28,7 +28,7 @@ edge_of from to to_port = record { from = from; from_port = 1; to = to; to_port 
 
 abbrev crossed : Diagram
 crossed = record {
-  blocks = block_of (Sum (false ∷ false ∷ [])) 2 (codes "m/s") ∷ block_of (Gain [] Internal) 1 (codes "m/a") ∷ block_of (Gain [] Internal) 1 (codes "m/b") ∷ [];
+  blocks = block_of (Sum (false ∷ false ∷ []) Internal) 2 (codes "m/s") ∷ block_of (Gain [] Internal) 1 (codes "m/a") ∷ block_of (Gain [] Internal) 1 (codes "m/b") ∷ [];
   edges = edge_of 1 0 1 ∷ edge_of 2 0 2 ∷ edge_of 0 1 1 ∷ edge_of 0 2 1 ∷ [];
 }
 

@@ -31,7 +31,7 @@ module _ (diagram : Diagram) (attributes : Attributes) (place : Place) (b : Bloc
   by_op : (kind : Kind) (op : Op) → IsOpOf kind place.element (attributes.param_at place.block) (type_into diagram attributes place.block 2) op
       → (stimulus : Stimulus) (table : Table) (t : ℕ) (v : ℤ) → ElementEquation diagram attributes stimulus table b place.block place.element t v → KindEquation diagram attributes stimulus table kind b place.block place.port place.element t v
   by_op (Outport number) op is stimulus table t v h = h
-  by_op (Sum negative) op is stimulus table t v h = h
+  by_op (Sum negative accum) op is stimulus table t v h = h
   by_op (Gain value spec) op is stimulus table t v h = h
   by_op Product op is stimulus table t v h = h
   by_op (Switch criterion threshold) op is stimulus table t v h = h

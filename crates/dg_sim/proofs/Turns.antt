@@ -81,7 +81,7 @@ module _ (checked : CheckedDiagram) (starts : Starts) (places : List Place) (k :
   op_few (Outport number) param control op inputs outputs is ports parameters = omega (arith, ports.0)
   op_few (Constant value) param control op inputs outputs is ports parameters = absurd is
   op_few Ground param control op inputs outputs is ports parameters = absurd is
-  op_few (Sum negative) param control op inputs outputs is ports parameters = omega (arith, ports.0, parameters.1)
+  op_few (Sum negative accum) param control op inputs outputs is ports parameters = omega (arith, ports.0, parameters.0.1)
   op_few (Gain value spec) param control op inputs outputs is ports parameters = omega (arith, ports.0)
   op_few Product param control op inputs outputs is ports parameters = omega (arith, ports.0)
   op_few (Switch criterion threshold) param control op inputs outputs is ports parameters = omega (arith, ports.0)
@@ -98,7 +98,7 @@ module _ (checked : CheckedDiagram) (starts : Starts) (places : List Place) (k :
   op_few Terminator param control op inputs outputs is ports parameters = absurd is
 
   signs_few : (kind : Kind) → (row_of kind).parameters → length (signs_of kind) ≤ 32
-  signs_few (Sum negative) parameters = parameters.1
+  signs_few (Sum negative accum) parameters = parameters.0.1
   signs_few _ parameters = omega arith
 
   module _ (turn : IsTurn checked starts places k place b) where

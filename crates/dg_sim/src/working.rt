@@ -13,7 +13,7 @@ ghost use Rattle.dg_sim.specs.inner.Turns.{CanOffer, IsMadeFor, IsTurnOf};
 use crate::program::{Program, Rule, Work};
 use crate::turn::{Turn, offered_entry};
 use crate::values::stored_entry;
-use dg_model::{FxTypes, Kind, Op};
+use dg_model::{FxTypes, Kind, Op, accumulator};
 use dg_tables::{Places, operations_prepare, type_of_input};
 use fx_io::{Flags, OutOfMemory, Sizes};
 use fx_type::FxType;
@@ -94,7 +94,9 @@ fn op_of<'a>(turn: Turn<'a>) -> Op
         (attributes_of turn.entry.checked.now.diagram) turn.entry.place.block 2) result }
 {
     match &turn.block.kind {
-        Kind::Sum { .. } => Op::Sum,
+        Kind::Sum { accum, .. } => Op::Sum {
+            accum: accumulator(*accum, turn.checked.param(turn.place.block)),
+        },
         Kind::Gain { value, .. } => {
             let param = turn.checked.param(turn.place.block);
             let coefficient = stored_entry(value.as_slice(), turn.place.element, param);

@@ -170,7 +170,7 @@ module _ (diagram : Diagram) (attributes : Attributes) (rank : ℕ → ℕ) (che
       by_kind (EnOut reset initial) ports widths below to now control h = output_same (control refl) reset initial element v (now refl) (reads_from (EnOut reset initial) below to widths 1 (omega arith) (omega (arith, ports.0))) h
       by_kind Terminator ports widths below to now control h = absurd h
       by_kind (Outport number) ports widths below to now control h = element_same element v (now refl) (reads_from (Outport number) below to widths) h
-      by_kind (Sum negative) ports widths below to now control h = element_same element v (now refl) (reads_from (Sum negative) below to widths) h
+      by_kind (Sum negative accum) ports widths below to now control h = element_same element v (now refl) (reads_from (Sum negative accum) below to widths) h
       by_kind (Gain value param) ports widths below to now control h = element_same element v (now refl) (reads_from (Gain value param) below to widths) h
       by_kind Product ports widths below to now control h = element_same element v (now refl) (reads_from Product below to widths) h
       by_kind (Switch criterion threshold) ports widths below to now control h = element_same element v (now refl) (reads_from (Switch criterion threshold) below to widths) h

@@ -24,7 +24,7 @@ use Rattle.dg_model.specs.Operation.{AreInRange, stored_truth, type_of, value_of
 use Rattle.dg_model.specs.Solves.{IsShown, shown_ports, shown_width}
 use Rattle.dg_waves.specs.Rounds.{numbers_from}
 use Rattle.dg_model.specs.Wires.{driver_of, at_source, repeated, width_into, widths_into, type_into, types_into, value_into, values_into, period_into}
-use Rattle.dg_model.specs.Equation.{StoresEntry, IsOpOf, IsPart, is_enabled, IsInputAt, ElementEquation, MuxEquation, RateEquation, EnableEquation, EnOutEquation, KindEquation}
+use Rattle.dg_model.specs.Equation.{accumulator, StoresEntry, IsOpOf, IsPart, is_enabled, IsInputAt, ElementEquation, MuxEquation, RateEquation, EnableEquation, EnOutEquation, KindEquation}
 use Rattle.fx_round.specs.Laws.{StoringGivesOne}
 use Rattle.dg_blocks.specs.Laws.{OperationGivesOne}
 use Rattle.dg_model.specs.Instant.{reads_now}
@@ -216,8 +216,8 @@ module _ (storing : StoringGivesOne) (exactly : OperationGivesOne) where
           by_kind Terminator same ports widths lists kept below to now given = absurd (omega (arith, ports.1))
           by_kind (Outport number) same ports widths lists kept below to now given =
               elementwise (Outport number) OpPass same (omega arith) refl (now refl) (elements_read diagram attributes block b.inputs b.outputs (Outport number) port element from to below widths)
-          by_kind (Sum negative) same ports widths lists kept below to now given =
-              elementwise (Sum negative) OpSum same (omega (arith, ports.1)) refl (now refl) (elements_read diagram attributes block b.inputs b.outputs (Sum negative) port element from to below widths)
+          by_kind (Sum negative accum) same ports widths lists kept below to now given =
+              elementwise (Sum negative accum) (OpSum (accumulator accum (attributes.param_at block))) same (omega (arith, ports.1)) refl (now refl) (elements_read diagram attributes block b.inputs b.outputs (Sum negative accum) port element from to below widths)
           by_kind (Gain value param) same ports widths lists kept below to now given =
               let one : port ≡ 1 = omega (arith, ports.1) in
               let c = entry_some value element (attributes.width_at block 1) (attributes.param_at block) (only_list value (attributes.width_at block 1) lists) (subst (λ (p : ℕ). element < attributes.width_at block p) one below) (checked.params block b block_is) in

@@ -83,7 +83,7 @@ module _ (sums : FullSumIsOne) (products : FullProductIsOne) (unions : UnionIsOn
     where
       by_block : (o : Option Block) → slice_get diagram.blocks place ≡ o → type_of_next o (input_types diagram types place) ≡ Some t → IsType t
       by_block None at e = absurd (none-some t e)
-      by_block (Some block) at e = taken_valid sums products unions params block.kind block.result (input_types diagram types place) t (readable place block at).types (inputs_valid types place v) e
+      by_block (Some block) at e = taken_valid sums products unions params block.kind block.result (input_types diagram types place) t (readable place block at).parameters (readable place block at).types (inputs_valid types place v) e
 
       go : (known_at types place ≡ Some t) ⊎ (taken types place ≡ Some t) → IsType t
       go (inl e) = v place t e

@@ -2,6 +2,9 @@
 use Rattle.std.proofs.Common.{◌≡◌, ℕ, suc, ◌-◌, Bool, true, false, MatchBool, List, filter, slice_get, Option, Some, None, MatchOption, ℤ, ap, ap₂, sym, ◌∙◌, subst}
 use Rattle.fx_type.specs.declared.kind.FxType.{FxType}
 use Rattle.fx_type.specs.declared.decimal.Decimal.{Decimal}
+use Rattle.fx_type.specs.declared.spec.TypeSpec.{TypeSpec}
+use Rattle.fx_type.specs.declared.spec.TypeSpec.TheVariants.{Fixed, Internal, SameFirst, Auto}
+use Rattle.std.proofs.lemmas.Option.{none-some, same_Some}
 use Rattle.fx_type.specs.FxType.{IsType}
 use Rattle.fx_type.specs.Conversion.{Stores}
 use Rattle.dg_model.specs.declared.diagram.Diagram.{Diagram}
@@ -9,16 +12,16 @@ use Rattle.dg_model.specs.declared.diagram.Block.{Block}
 use Rattle.dg_model.specs.declared.kind.Kind.{Kind}
 use Rattle.dg_model.specs.declared.kind.Kind.TheVariants.{Inport, Outport, Constant, Ground, Sum, Gain, Product, Switch, Relational, Logic, Convert, Delay, Mux, Demux, RateTransition, Pass, EnableTest, EnOut, Terminator}
 use Rattle.dg_model.specs.declared.op.Op.{Op}
-use Rattle.dg_model.specs.declared.op.Op.TheVariants.{Gain as OpGain, Switch as OpSwitch}
+use Rattle.dg_model.specs.declared.op.Op.TheVariants.{Sum as OpSum, Gain as OpGain, Switch as OpSwitch}
 use Rattle.dg_model.specs.Signals.{Attributes, Stimulus, Table}
 use Rattle.dg_model.specs.Hits.{hits_before, counted_hits, is_slow_to_fast}
 use Rattle.dg_model.specs.Operation.{OpGives}
 use Rattle.dg_model.specs.Wires.{widths_into, type_into, types_into, value_into, values_into, entry_of, period_into}
-use Rattle.dg_model.specs.Equation.{StoresEntry, IsOpOf, signs_of, is_enabled, IsInputAt, ElementEquation, MuxEquation, RateEquation, EnOutEquation, KindEquation}
+use Rattle.dg_model.specs.Equation.{StoresEntry, IsOpOf, accumulator, signs_of, is_enabled, IsInputAt, ElementEquation, MuxEquation, RateEquation, EnOutEquation, KindEquation}
 use Rattle.dg_tables.proofs.Ground.{IsRanked}
 use Rattle.dg_tables.proofs.Lists.{parts_one}
 use Rattle.fx_round.specs.Laws.{StoringGivesOne}
-use Rattle.dg_blocks.specs.Laws.{OperationGivesAtMostOne}
+use Rattle.dg_blocks.specs.Laws.{AddsUpInType, OperationGivesAtMostOne}
 use Rattle.dg_tables.proofs.Sources.{type_into_valid}
 
 module _ (storing : StoringGivesOne) (at_most : OperationGivesAtMostOne) where
@@ -30,7 +33,7 @@ module _ (storing : StoringGivesOne) (at_most : OperationGivesAtMostOne) where
       go (Some decimal) a b = let one = storing decimal type valid in one.only v a ∙ sym (one.only w b)
 
   op_one : (kind : Kind) (element : ℕ) (param control : FxType) (op other : Op) → IsType param → IsType control → IsOpOf kind element param control op → IsOpOf kind element param control other → op ≡ other
-  op_one (Sum negative) element param control op other p c a b = a ∙ sym b
+  op_one (Sum negative accum) element param control op other p c a b = a ∙ sym b
   op_one (Gain value spec) element param control op other p c a b = a.2 ∙ ap (λ (v : ℤ). OpGain v param) (entry_one value element param a.0 b.0 p a.1 b.1) ∙ sym b.2
   op_one Product element param control op other p c a b = a ∙ sym b
   op_one (Switch criterion threshold) element param control op other p c a b = a.2 ∙ ap (λ (v : ℤ). OpSwitch criterion v) (entry_one threshold element control a.0 b.0 c a.1 b.1) ∙ sym b.2
@@ -40,6 +43,32 @@ module _ (storing : StoringGivesOne) (at_most : OperationGivesAtMostOne) where
   op_one (Pass width) element param control op other p c a b = a ∙ sym b
   op_one (Outport number) element param control op other p c a b = a ∙ sym b
   op_one _ element param control op other p c a b = absurd a
+
+  -- the type of its accumulator is valid
+  abbrev accum_of : Op → Option FxType
+  accum_of (OpSum accum) = accum
+  accum_of _ = None
+
+  none_adds : (op : Op) → accum_of op ≡ None → AddsUpInType op
+  none_adds op none accum e = absurd (none-some accum (sym none ∙ ap accum_of e))
+
+  sum_adds : (spec : TypeSpec) (param : FxType) → IsType param → (accum : FxType) → accumulator spec param ≡ Some accum → IsType accum
+  sum_adds (Fixed type) param p accum e = subst IsType (same_Some param accum e) p
+  sum_adds Internal param p accum e = absurd (none-some accum e)
+  sum_adds SameFirst param p accum e = subst IsType (same_Some param accum e) p
+  sum_adds Auto param p accum e = absurd (none-some accum e)
+
+  op_adds : (kind : Kind) (element : ℕ) (param control : FxType) (op : Op) → IsType param → IsOpOf kind element param control op → AddsUpInType op
+  op_adds (Sum negative spec) element param control op p is = λ accum e. sum_adds spec param p accum (sym (ap accum_of is) ∙ ap accum_of e)
+  op_adds (Gain value spec) element param control op p is = none_adds op (ap accum_of is.2)
+  op_adds Product element param control op p is = none_adds op (ap accum_of is)
+  op_adds (Switch criterion threshold) element param control op p is = none_adds op (ap accum_of is.2)
+  op_adds (Relational operator) element param control op p is = none_adds op (ap accum_of is)
+  op_adds (Logic operator) element param control op p is = none_adds op (ap accum_of is)
+  op_adds (Convert stored) element param control op p is = none_adds op (ap accum_of is)
+  op_adds (Pass width) element param control op p is = none_adds op (ap accum_of is)
+  op_adds (Outport number) element param control op p is = none_adds op (ap accum_of is)
+  op_adds _ element param control op p is = absurd is
 
   module _ (diagram : Diagram) (attributes : Attributes) (rank : ℕ → ℕ) (checked : IsRanked diagram attributes rank) (stimulus : Stimulus) (table : Table)
       (block : ℕ) (b : Block) (block_is : slice_get diagram.blocks block ≡ Some b) (valid : IsType (attributes.type_at block 1)) (t : ℕ) (v w : ℤ)
@@ -52,7 +81,7 @@ module _ (storing : StoringGivesOne) (at_most : OperationGivesAtMostOne) where
       element_one element p q =
           let e : p.0 ≡ q.0 = op_one b.kind element (attributes.param_at block) (type_into diagram attributes block 2) p.0 q.0 (checked.params block b block_is) (type_into_valid diagram attributes checked.wired checked.types block 2) p.1 q.1 in
           at_most (record { op = q.0; signs = signs_of b.kind; types = types_into diagram attributes block b.inputs; result = attributes.type_at block 1; rounding = b.rounding; saturate = b.saturate })
-          (values_into diagram attributes table block b.inputs element t) v w valid
+          (values_into diagram attributes table block b.inputs element t) v w valid (op_adds b.kind element (attributes.param_at block) (type_into diagram attributes block 2) q.0 (checked.params block b block_is) q.1)
           (subst (λ (op : Op). OpGives (record { op = op; signs = signs_of b.kind; types = types_into diagram attributes block b.inputs; result = attributes.type_at block 1; rounding = b.rounding; saturate = b.saturate }) (values_into diagram attributes table block b.inputs element t) v) e p.2)
           q.2
 
@@ -91,7 +120,7 @@ module _ (storing : StoringGivesOne) (at_most : OperationGivesAtMostOne) where
       kind_one (EnOut reset initial) port element p q = output_one reset initial element p q
       kind_one Terminator port element p q = absurd p
       kind_one (Outport number) port element p q = element_one element p q
-      kind_one (Sum negative) port element p q = element_one element p q
+      kind_one (Sum negative accum) port element p q = element_one element p q
       kind_one (Gain value param) port element p q = element_one element p q
       kind_one Product port element p q = element_one element p q
       kind_one (Switch criterion threshold) port element p q = element_one element p q

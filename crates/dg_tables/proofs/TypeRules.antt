@@ -17,13 +17,13 @@ use Rattle.fx_type.specs.FullType.{IsUnion}
 use Rattle.fx_type.specs.FullTypeOf.{full_sum_of, full_product_of, union_of, same_sign, same_type}
 use Rattle.fx_type.specs.Laws.{FullSumIsOne, FullProductIsOne, UnionIsOne}
 use Rattle.dg_model.specs.declared.kind.Kind.{Kind}
-use Rattle.dg_model.specs.declared.kind.Kind.TheVariants.{Ground}
+use Rattle.dg_model.specs.declared.kind.Kind.TheVariants.{Ground, Sum}
 use Rattle.dg_model.specs.declared.row.OwnType.{OwnType}
 use Rattle.dg_model.specs.KindRow.{FullRule, IsSpec}
 use Rattle.dg_model.specs.Library.{row_of}
 use Rattle.dg_model.specs.GainParam.{ParamTypeIsOne, IsInternalParam, IsGreatestFit, is_negative, is_zero, is_param_signed, param_width, param_type_of}
 use Rattle.dg_model.specs.Periods.{known_at}
-use Rattle.dg_model.specs.TypeRounds.{with_known, all_known, Types, full_type, own_type, taken_type}
+use Rattle.dg_model.specs.TypeRounds.{with_known, all_known, Types, specified_type, sum_named, full_type, internal_type, own_type, taken_type}
 use Rattle.dg_tables.proofs.Growing.{Grows, known_there, there_known, rest_grows}
 use Rattle.dg_model.proofs.SumTerms.{terms-valid}
 
@@ -59,15 +59,26 @@ two_more f j inputs later g t e =
 
 full_more : (rule : FullRule) (inputs later : Types) → Grows inputs later → (t : FxType) → full_type rule inputs ≡ Some t → full_type rule later ≡ Some t
 full_more FullRule.NoFull inputs later g t e = e
-full_more (FullRule.FullSum negative) inputs later g t e =
-    let h = with_some (all_known inputs) (λ known. full_sum_of (zip negative known)) t e in
-    with_is (all_known later) h.0 (λ known. full_sum_of (zip negative known)) (Some t) (all_more inputs later g h.0 h.1) h.2
+full_more (FullRule.FullSum negative accum) inputs later g t e =
+    let h = with_some (all_known inputs) (λ known. sum_named accum (zip negative known)) t e in
+    with_is (all_known later) h.0 (λ known. sum_named accum (zip negative known)) (Some t) (all_more inputs later g h.0 h.1) h.2
 full_more (FullRule.FullScaled value param) inputs later g t e =
     let h = with_some (known_at inputs 0) (λ input. with_known (param_type_of value param input) (full_product_of input)) t e in
     with_is (known_at later 0) h.0 (λ input. with_known (param_type_of value param input) (full_product_of input)) (Some t) (known_more inputs later g 0 h.0 h.1) h.2
 full_more FullRule.FullProduct inputs later g t e = two_more full_product_of 1 inputs later g t e
 full_more FullRule.UnionOfTwo inputs later g t e = two_more union_of 1 inputs later g t e
 full_more FullRule.UnionOfEnds inputs later g t e = two_more union_of 2 inputs later g t e
+
+internal_more : (rule : FullRule) (inputs later : Types) → Grows inputs later → (t : FxType) → internal_type rule inputs ≡ Some t → internal_type rule later ≡ Some t
+internal_more FullRule.NoFull inputs later g t e = e
+internal_more (FullRule.FullSum negative (Fixed type)) inputs later g t e = e
+internal_more (FullRule.FullSum negative Internal) inputs later g t e = full_more (FullRule.FullSum negative Internal) inputs later g t e
+internal_more (FullRule.FullSum negative SameFirst) inputs later g t e = known_more inputs later g 0 t e
+internal_more (FullRule.FullSum negative Auto) inputs later g t e = e
+internal_more (FullRule.FullScaled value param) inputs later g t e = full_more (FullRule.FullScaled value param) inputs later g t e
+internal_more FullRule.FullProduct inputs later g t e = full_more FullRule.FullProduct inputs later g t e
+internal_more FullRule.UnionOfTwo inputs later g t e = full_more FullRule.UnionOfTwo inputs later g t e
+internal_more FullRule.UnionOfEnds inputs later g t e = full_more FullRule.UnionOfEnds inputs later g t e
 
 own_more : (own : OwnType) (inputs later : Types) → Grows inputs later → (t : FxType) → own_type own inputs ≡ Some t → own_type own later ≡ Some t
 own_more OwnType.Untyped inputs later g t e = e
@@ -76,7 +87,7 @@ own_more OwnType.OfInput inputs later g t e = known_more inputs later g 0 t e
 
 pub taken_more : (kind : Kind) (spec : TypeSpec) (inputs later : Types) → Grows inputs later → (t : FxType) → taken_type kind spec inputs ≡ Some t → taken_type kind spec later ≡ Some t
 taken_more kind (Fixed type) inputs later g t e = e
-taken_more kind Internal inputs later g t e = full_more (row_of kind).types.full inputs later g t e
+taken_more kind Internal inputs later g t e = internal_more (row_of kind).types.full inputs later g t e
 taken_more kind SameFirst inputs later g t e = known_more inputs later g 0 t e
 taken_more kind Auto inputs later g t e = own_more (row_of kind).types.own inputs later g t e
 
@@ -129,18 +140,34 @@ module _ (sums : FullSumIsOne) (products : FullProductIsOne) (unions : UnionIsOn
       let k = with_some (known_at inputs j) (f h.0) t h.2 in
       valid h.0 k.0 (v 0 h.0 h.1) (v j k.0 k.1) k.2
 
-  full_valid : (rule : FullRule) (inputs : Types) (t : FxType) → AreValid inputs → full_type rule inputs ≡ Some t → IsType t
-  full_valid FullRule.NoFull inputs t v e = absurd (none-some t e)
-  full_valid (FullRule.FullSum negative) inputs t v e =
+  -- an accumulator's type is valid where it is written out
+  abbrev IsRuleValid : FullRule → Type 0
+  IsRuleValid FullRule.NoFull = Unit {0}
+  IsRuleValid (FullRule.FullSum negative accum) = IsSpec accum
+  IsRuleValid (FullRule.FullScaled value param) = Unit {0}
+  IsRuleValid FullRule.FullProduct = Unit {0}
+  IsRuleValid FullRule.UnionOfTwo = Unit {0}
+  IsRuleValid FullRule.UnionOfEnds = Unit {0}
+
+  rule_is_valid : (kind : Kind) → (row_of kind).parameters → IsRuleValid (row_of kind).types.full
+  rule_is_valid (Sum negative accum) parameters = parameters.2
+  rule_is_valid _ parameters = tt
+
+  full_valid : (rule : FullRule) (inputs : Types) (t : FxType) → IsRuleValid rule → AreValid inputs → internal_type rule inputs ≡ Some t → IsType t
+  full_valid FullRule.NoFull inputs t is v e = absurd (none-some t e)
+  full_valid (FullRule.FullSum negative (Fixed type)) inputs t is v e = subst IsType (same_Some type t e) is
+  full_valid (FullRule.FullSum negative SameFirst) inputs t is v e = v 0 t e
+  full_valid (FullRule.FullSum negative Auto) inputs t is v e = absurd (none-some t e)
+  full_valid (FullRule.FullSum negative Internal) inputs t is v e =
       let h = with_some (all_known inputs) (λ known. full_sum_of (zip negative known)) t e in
       ((sums (zip negative h.0) t (terms-valid negative h.0 (all_valid inputs h.0 v h.1))).1 h.2).valid
-  full_valid (FullRule.FullScaled value param) inputs t v e =
+  full_valid (FullRule.FullScaled value param) inputs t is v e =
       let h = with_some (known_at inputs 0) (λ input. with_known (param_type_of value param input) (full_product_of input)) t e in
       let k = with_some (param_type_of value param h.0) (full_product_of h.0) t h.2 in
       ((products h.0 k.0 t).1 k.2).valid
-  full_valid FullRule.FullProduct inputs t v e = two_valid full_product_of 1 inputs t v (λ a b va vb e. ((products a b t).1 e).valid) e
-  full_valid FullRule.UnionOfTwo inputs t v e = two_valid union_of 1 inputs t v (λ a b va vb e. union_valid a b t va vb e) e
-  full_valid FullRule.UnionOfEnds inputs t v e = two_valid union_of 2 inputs t v (λ a b va vb e. union_valid a b t va vb e) e
+  full_valid FullRule.FullProduct inputs t is v e = two_valid full_product_of 1 inputs t v (λ a b va vb e. ((products a b t).1 e).valid) e
+  full_valid FullRule.UnionOfTwo inputs t is v e = two_valid union_of 1 inputs t v (λ a b va vb e. union_valid a b t va vb e) e
+  full_valid FullRule.UnionOfEnds inputs t is v e = two_valid union_of 2 inputs t v (λ a b va vb e. union_valid a b t va vb e) e
 
   abbrev IsOwnValid : OwnType → Type 0
   IsOwnValid OwnType.Untyped = Unit {0}
@@ -156,11 +183,11 @@ module _ (sums : FullSumIsOne) (products : FullProductIsOne) (unions : UnionIsOn
   own_valid (OwnType.Always type) inputs t is v e = subst IsType (same_Some type t e) is
   own_valid OwnType.OfInput inputs t is v e = v 0 t e
 
-  pub taken_valid : (kind : Kind) (spec : TypeSpec) (inputs : Types) (t : FxType) → IsSpec spec → AreValid inputs → taken_type kind spec inputs ≡ Some t → IsType t
-  taken_valid kind (Fixed type) inputs t is v e = subst IsType (same_Some type t e) is
-  taken_valid kind Internal inputs t is v e = full_valid (row_of kind).types.full inputs t v e
-  taken_valid kind SameFirst inputs t is v e = v 0 t e
-  taken_valid kind Auto inputs t is v e = own_valid (row_of kind).types.own inputs t (own_is_valid kind) v e
+  pub taken_valid : (kind : Kind) (spec : TypeSpec) (inputs : Types) (t : FxType) → (row_of kind).parameters → IsSpec spec → AreValid inputs → taken_type kind spec inputs ≡ Some t → IsType t
+  taken_valid kind (Fixed type) inputs t has is v e = subst IsType (same_Some type t e) is
+  taken_valid kind Internal inputs t has is v e = full_valid (row_of kind).types.full inputs t (rule_is_valid kind has) v e
+  taken_valid kind SameFirst inputs t has is v e = v 0 t e
+  taken_valid kind Auto inputs t has is v e = own_valid (row_of kind).types.own inputs t (own_is_valid kind) v e
 
   -- ---- the type of a Gain's coefficients
   word_of : (negative : Bool) (input : FxType) → IsType input → IsWord (cond ((is_signed input || negative) && (width_of input == 1)) 2 (width_of input)) (is_signed input || negative)

@@ -1,6 +1,7 @@
 -- The rule of types gives each block types that fit, and an operation that can be prepared.
 use Rattle.std.proofs.Common.{◌≡◌, ℕ, zero, suc, ◌+◌, ◌-◌, ◌<◌, Bool, true, false, true≢false, List, [], ◌∷◌, length, map, zip, All, slice_get, Option, Some, None, IsSome, MatchOption, ℤ, pos, ap, sym, ◌∙◌, subst, subst₂, refl, arith}
-use Rattle.std.proofs.lemmas.Option.{same_Some, get_or_from_slice_get}
+use Rattle.std.proofs.lemmas.Option.{none-some, same_Some, get_or_from_slice_get}
+use Rattle.std.proofs.lemmas.List.Elements.{All-nil, All-cons}
 use Rattle.fx_type.specs.declared.kind.FxType.{FxType}
 use Rattle.fx_type.specs.declared.kind.FxType.TheVariants.{Num, Logical}
 use Rattle.fx_type.specs.declared.spec.TypeSpec.{TypeSpec}
@@ -8,7 +9,7 @@ use Rattle.fx_type.specs.declared.spec.TypeSpec.TheVariants.{Fixed, Internal, Sa
 use Rattle.fx_type.specs.declared.decimal.Decimal.{Decimal}
 use Rattle.fx_type.specs.FxType.{IsType, InRange}
 use Rattle.fx_type.specs.Conversion.{Stores}
-use Rattle.fx_type.specs.FullType.{IsUnion}
+use Rattle.fx_type.specs.FullType.{Terms, IsFullSum, IsUnion}
 use Rattle.fx_type.specs.FullTypeOf.{full_sum_of, full_product_of, union_of}
 use Rattle.fx_type.specs.Laws.{FullSumIsOne, FullProductIsOne, UnionIsOne}
 use Rattle.fx_round.specs.Laws.{StoringGivesOne}
@@ -21,17 +22,17 @@ use Rattle.dg_model.specs.declared.kind.Gate.{Gate}
 use Rattle.dg_model.specs.declared.kind.Gate.TheVariants.{Not}
 use Rattle.dg_model.specs.declared.op.Op.{Op}
 use Rattle.dg_model.specs.declared.op.Op.TheVariants.{Sum as OpSum, Gain as OpGain, Product as OpProduct, Switch as OpSwitch, Relational as OpRelational, Logic as OpLogic, Convert as OpConvert, Pass as OpPass}
-use Rattle.dg_model.specs.KindRow.{FullRule, MayBeFixed, HasOperands}
+use Rattle.dg_model.specs.KindRow.{FullRule, IsSpec, MayBeFixed, HasOperands}
 use Rattle.dg_model.specs.Library.{row_of}
 use Rattle.dg_model.specs.Readable.{HasPorts, IsReadable}
 use Rattle.dg_model.specs.GainParam.{ParamTypeIsOne, param_type_of}
 use Rattle.dg_model.specs.Periods.{known_at}
 use Rattle.dg_model.specs.Types.{names_full_type}
-use Rattle.dg_model.specs.TypeRounds.{with_known, all_known, Types, input_types, full_type, taken_type, types_of}
+use Rattle.dg_model.specs.TypeRounds.{with_known, all_known, specified_type, stepped, stepped_first, sum_named, Types, input_types, full_type, taken_type, types_of}
 use Rattle.dg_model.specs.TypeRule.{AgreesWith, AgreeInside, IsDrivers, AreOne, KeepsTypes}
 use Rattle.dg_model.specs.Attributes.{attributes_of, or_logical, coefficient_type, param_type_at}
-use Rattle.dg_model.specs.Operation.{HasArity, HasSigns, HasParameters, HasResultType, HasFullType, CanPrepare, type_of}
-use Rattle.dg_model.specs.Equation.{StoresEntry, IsOpOf, signs_of}
+use Rattle.dg_model.specs.Operation.{HasArity, HasSigns, HasParameters, HasResultType, HasFullType, IsAccumulator, CanPrepare, type_of}
+use Rattle.dg_model.specs.Equation.{StoresEntry, IsOpOf, accumulator, signs_of}
 use Rattle.dg_model.specs.Wires.{type_into, types_into, edges_into, entry_of}
 use Rattle.dg_model.specs.Wired.{IsWired}
 use Rattle.dg_model.proofs.Ports.{inputs_are_sources, map_twice}
@@ -186,11 +187,48 @@ module _ (storing : StoringGivesOne) (sums : FullSumIsOne) (products : FullProdu
     abbrev Named : FullRule → Type 0
     Named rule = IsSome (full_type rule inputs)
 
-    full_sum : (negative : List Bool) → Named (FullRule.FullSum negative) → HasFullType OpSum negative list
-    full_sum negative named =
-        let full = known_some (full_type (FullRule.FullSum negative) inputs) named in
-        let at : full_sum_of (zip negative list) ≡ Some full.0 = ap (λ (o : Option (List FxType)). with_known o (λ known. full_sum_of (zip negative known))) (sym list_known) ∙ full.1 in
-        (full.0, (sums (zip negative list) full.0 (terms-valid negative list list_valid)).1 at)
+    -- each step of an accumulator has a full sum
+    abbrev HaveSteps : FxType → Terms → Type 0
+    HaveSteps accum terms = All (λ (term : Bool × FxType). (full : FxType) × IsFullSum ((false, accum) ∷ term ∷ []) full) terms
+
+    steps_full : (accum : FxType) (terms : Terms) (named : FxType) → IsType accum → All (λ (term : Bool × FxType). IsType term.1) terms → stepped accum terms ≡ Some named → HaveSteps accum terms
+    steps_full accum [] named a valid e = All-nil (λ (term : Bool × FxType). (full : FxType) × IsFullSum ((false, accum) ∷ term ∷ []) full)
+    steps_full accum (term ∷ terms) named a valid e =
+        let h = with_some (full_sum_of ((false, accum) ∷ term ∷ [])) (λ full. stepped accum terms) named e in
+        let two : All (λ (term : Bool × FxType). IsType term.1) ((false, accum) ∷ term ∷ []) =
+        All-cons (λ (term : Bool × FxType). IsType term.1) (false, accum) (term ∷ []) a
+        (All-cons (λ (term : Bool × FxType). IsType term.1) term [] (valid 0 term (omega arith)) (All-nil (λ (term : Bool × FxType). IsType term.1))) in
+        All-cons (λ (term : Bool × FxType). (full : FxType) × IsFullSum ((false, accum) ∷ term ∷ []) full) term terms (h.0, (sums ((false, accum) ∷ term ∷ []) h.0 two).1 h.1)
+        (steps_full accum terms named a (λ k d below. valid (suc k) d (omega (arith, below))) h.2)
+
+    first_full : (negative : List Bool) (types : List FxType) (named : FxType) → All IsType types → stepped_first (zip negative types) ≡ Some named → HaveSteps (type_of types 0) (zip negative types)
+    first_full [] types named valid e = absurd (none-some named e)
+    first_full (n ∷ signs) [] named valid e = absurd (none-some named e)
+    first_full (n ∷ signs) (type ∷ types) named valid e =
+        steps_full type (zip (n ∷ signs) (type ∷ types)) named (valid 0 type (omega arith)) (terms-valid (n ∷ signs) (type ∷ types) valid) e
+
+    -- the type of the block's coefficients or accumulator
+    abbrev param : FxType
+    param = or_logical (param_type_at diagram (types_of diagram) block)
+
+    spec_param : (negative : List Bool) (accum : TypeSpec) → Sum negative accum ≡ b.kind → param_type_at diagram (types_of diagram) block ≡ specified_type accum None (known_at inputs 0) None
+    spec_param negative accum same =
+        ap (λ (o : Option Block). with_known o (λ x. coefficient_type (row_of x.kind).types.full (known_at inputs 0))) block_is
+        ∙ ap (λ (kind : Kind). coefficient_type (row_of kind).types.full (known_at inputs 0)) (sym same)
+
+    full_sum : (negative : List Bool) (accum : TypeSpec) → Sum negative accum ≡ b.kind → IsSpec accum → 0 < b.inputs → Named (FullRule.FullSum negative accum) → HasFullType (OpSum (accumulator accum param)) negative list
+    full_sum negative accum same spec some named =
+        let full = known_some (full_type (FullRule.FullSum negative accum) inputs) named in
+        let at : sum_named accum (zip negative list) ≡ Some full.0 = ap (λ (o : Option (List FxType)). with_known o (λ known. sum_named accum (zip negative known))) (sym list_known) ∙ full.1 in
+        go accum spec full.0 at (ap or_logical (spec_param negative accum same))
+      where
+        go : (accum : TypeSpec) → IsSpec accum → (full : FxType) → sum_named accum (zip negative list) ≡ Some full → param ≡ or_logical (specified_type accum None (known_at inputs 0) None) → HasFullType (OpSum (accumulator accum param)) negative list
+        go (Fixed type) spec full at is =
+            subst (λ (accum : FxType). HaveSteps accum (zip negative list)) (sym is) (steps_full type (zip negative list) full spec (terms-valid negative list list_valid) at)
+        go Internal spec full at is = (full, (sums (zip negative list) full (terms-valid negative list list_valid)).1 at)
+        go SameFirst spec full at is =
+            subst (λ (accum : FxType). HaveSteps accum (zip negative list)) (list_at 0 some ∙ sym (is ∙ ap or_logical (input_at 0 some))) (first_full negative list full list_valid at)
+        go Auto spec full at is = absurd (none-some full at)
 
     two : (f : FxType → FxType → Option FxType) (j : ℕ) (t : FxType) → 0 < b.inputs → j < b.inputs → with_known (known_at inputs 0) (λ left. with_known (known_at inputs j) (f left)) ≡ Some t
         → f (type_of list 0) (type_of list j) ≡ Some t
@@ -258,7 +296,13 @@ module _ (storing : StoringGivesOne) (sums : FullSumIsOne) (products : FullProdu
             let is : param_type_at diagram (types_of diagram) block ≡ param_type_of value spec (into 1) =
             param_is (Gain value spec) same ∙ ap (λ (o : Option FxType). with_known o (param_type_of value spec)) (input_at 0 some) in
             given (param_type_of value spec (into 1)) is (λ p e. param_valid sums products unions params value spec (into 1) p parameters.2 (into_valid 0 some) e)
-        go (Sum negative) same ports parameters = logical (Sum negative) same refl
+        go (Sum negative accum) same ports parameters = given (specified_type accum None (known_at inputs 0) None) (spec_param negative accum same) (spec_valid accum parameters.2)
+          where
+            spec_valid : (accum : TypeSpec) → IsSpec accum → (p : FxType) → specified_type accum None (known_at inputs 0) None ≡ Some p → IsType p
+            spec_valid (Fixed type) is p e = subst IsType (same_Some type p e) is
+            spec_valid Internal is p e = absurd (none-some p e)
+            spec_valid SameFirst is p e = inputs_valid sums products unions params diagram wired (types_of diagram) block (types_valid sums products unions params diagram wired) 0 p e
+            spec_valid Auto is p e = absurd (none-some p e)
         go Product same ports parameters = logical Product same refl
         go (Switch criterion threshold) same ports parameters = logical (Switch criterion threshold) same refl
         go (Relational operator) same ports parameters = logical (Relational operator) same refl
@@ -272,9 +316,15 @@ module _ (storing : StoringGivesOne) (sums : FullSumIsOne) (products : FullProdu
     prepares (Pass width) same ports parameters may agrees element op is =
         subst (Prepares (Pass width)) (sym is) (prepared (Pass width) OpPass ports.0 tt tt
         (sym (of_port (Pass width) b.result same refl may agrees refl (omega (arith, ports.0))) ∙ sym (list_at 0 (omega (arith, ports.0)))) tt)
-    prepares (Sum negative) same ports parameters may agrees element op is =
-        subst (Prepares (Sum negative)) (sym is) (prepared (Sum negative) OpSum (omega (arith, ports.0, parameters.0), omega (arith, ports.0, parameters.1)) (sym ports.0) tt tt
-        (full_sum negative (not_wide (Sum negative) same refl)))
+    prepares (Sum negative accum) same ports parameters may agrees element op is =
+        subst (Prepares (Sum negative accum)) (sym is) (prepared (Sum negative accum) (OpSum (accumulator accum param)) (omega (arith, ports.0, parameters.0.0), omega (arith, ports.0, parameters.0.1)) (sym ports.0) (accum_valid accum) tt
+        (full_sum negative accum same parameters.2 (omega (arith, ports.0, parameters.0.0)) (not_wide (Sum negative accum) same refl)))
+      where
+        accum_valid : (spec : TypeSpec) → IsAccumulator (accumulator spec param)
+        accum_valid (Fixed type) = param_type_valid
+        accum_valid Internal = tt
+        accum_valid SameFirst = param_type_valid
+        accum_valid Auto = tt
     prepares (Gain value spec) same ports parameters may agrees element op is =
         subst (Prepares (Gain value spec)) (sym is.2) (prepared (Gain value spec) (OpGain is.0 (or_logical (param_type_at diagram (types_of diagram) block))) ports.0 tt
         (param_type_valid, entry_range value element (or_logical (param_type_at diagram (types_of diagram) block)) is.0 param_type_valid is.1) tt

@@ -5,6 +5,7 @@ pub mod Numbered
 pub mod ScanFacts
 pub mod Shown
 pub mod Verdicts
+mod Stepping
 pub mod TypedFits
 pub mod TypedGreatest
 pub mod TypedRanges

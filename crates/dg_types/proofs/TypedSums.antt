@@ -6,11 +6,11 @@ use Rattle.std.proofs.lemmas.List.{drop_more, drop_all, take_more_set, append-ni
 use Rattle.std.proofs.lemmas.List.Elements.{All-append}
 use Rattle.fx_type.specs.declared.kind.FxType.{FxType}
 use Rattle.fx_type.specs.FullType.{Terms}
-use Rattle.fx_type.specs.FullTypeOf.{full_sum_of}
+use Rattle.fx_type.specs.declared.spec.TypeSpec.{TypeSpec}
 use Rattle.fx_type.specs.FxType.{IsType}
 use Rattle.dg_model.specs.KindRow.{FullRule}
 use Rattle.dg_model.specs.Periods.{known_at}
-use Rattle.dg_model.specs.TypeRounds.{Types, with_known, all_known, full_type}
+use Rattle.dg_model.specs.TypeRounds.{Types, with_known, all_known, sum_named, full_type}
 use Rattle.dg_types.specs.inner.TypedInputs.{joined, terms_of}
 
 -- none is given where nothing that is given would do
@@ -44,15 +44,15 @@ zip_known (n ∷ signs) [] same = absurd (omega arith)
 zip_known (n ∷ signs) (None ∷ types) same = refl
 zip_known (n ∷ signs) (Some type ∷ types) same = paired n type signs (all_known types) ∙ ap (joined ((n, type) ∷ [])) (zip_known signs types (omega arith))
 
-through : (negative : List Bool) (o : Option (List FxType)) → with_known o (λ known. full_sum_of (zip negative known)) ≡ with_known (with_known o (λ ks. Some (zip negative ks))) full_sum_of
-through negative None = refl
-through negative (Some ks) = refl
+through : (accum : TypeSpec) (negative : List Bool) (o : Option (List FxType)) → with_known o (λ known. sum_named accum (zip negative known)) ≡ with_known (with_known o (λ ks. Some (zip negative ks))) (sum_named accum)
+through accum negative None = refl
+through accum negative (Some ks) = refl
 
--- the full sum is that of the terms
-pub full_of_terms : (negative : List Bool) (types : Types) → length negative ≡ length types → full_type (FullRule.FullSum negative) types ≡ with_known (terms_of negative types) full_sum_of
-full_of_terms negative types same = through negative (all_known types) ∙ ap (λ (o : Option Terms). with_known o full_sum_of) (zip_known negative types same)
+-- what a sum names is that of its terms
+pub full_of_terms : (accum : TypeSpec) (negative : List Bool) (types : Types) → length negative ≡ length types → full_type (FullRule.FullSum negative accum) types ≡ with_known (terms_of negative types) (sum_named accum)
+full_of_terms accum negative types same = through accum negative (all_known types) ∙ ap (λ (o : Option Terms). with_known o (sum_named accum)) (zip_known negative types same)
 
-module _ (negative : List Bool) (types : Types) (terms : Terms) (i : ℕ) (inside : i < length negative) (same : length negative ≡ length types) where
+module _ (accum : TypeSpec) (negative : List Bool) (types : Types) (terms : Terms) (i : ℕ) (inside : i < length negative) (same : length negative ≡ length types) where
   left_is : (n : Bool) (d : Bool) → get_or negative i d ≡ n → drop i negative ≡ n ∷ drop (i + 1) negative
   left_is n d e = drop_more negative i d inside ∙ ap (λ (m : Bool). m ∷ drop (i + 1) negative) e
 
@@ -71,17 +71,17 @@ module _ (negative : List Bool) (types : Types) (terms : Terms) (i : ℕ) (insid
       ∙ before
 
   -- a type that isn't known
-  pub sum_stops : known_at types i ≡ None → (d : Bool) → joined (take i terms) (terms_of (drop i negative) (drop i types)) ≡ terms_of negative types → None ≡ full_type (FullRule.FullSum negative) types
+  pub sum_stops : known_at types i ≡ None → (d : Bool) → joined (take i terms) (terms_of (drop i negative) (drop i types)) ≡ terms_of negative types → None ≡ full_type (FullRule.FullSum negative accum) types
   sum_stops unknown d before =
       let none : terms_of negative types ≡ None = sym before ∙ ap (λ (signs : List Bool). joined (take i terms) (terms_of signs (drop i types))) (left_is (get_or negative i d) d refl) ∙ ap (λ (ts : Types). joined (take i terms) (terms_of (get_or negative i d ∷ drop (i + 1) negative) ts)) (types_are None unknown) in
-      sym (full_of_terms negative types same ∙ ap (λ (o : Option Terms). with_known o full_sum_of) none)
+      sym (full_of_terms accum negative types same ∙ ap (λ (o : Option Terms). with_known o (sum_named accum)) none)
 
 -- all terms
-pub sum_ends : (negative : List Bool) (types : Types) (front : Terms) (i : ℕ) → length negative ≤ i → length negative ≡ length types → joined front (terms_of (drop i negative) (drop i types)) ≡ terms_of negative types
-    → full_sum_of front ≡ full_type (FullRule.FullSum negative) types
-sum_ends negative types front i past same before =
+pub sum_ends : (accum : TypeSpec) (negative : List Bool) (types : Types) (front : Terms) (i : ℕ) → length negative ≤ i → length negative ≡ length types → joined front (terms_of (drop i negative) (drop i types)) ≡ terms_of negative types
+    → sum_named accum front ≡ full_type (FullRule.FullSum negative accum) types
+sum_ends accum negative types front i past same before =
     let all : terms_of negative types ≡ Some front = sym before ∙ ap (λ (signs : List Bool). joined front (terms_of signs (drop i types))) (drop_all i negative past) ∙ ap (λ (xs : Terms). Some xs) (append-nil front) in
-    sym (full_of_terms negative types same ∙ ap (λ (o : Option Terms). with_known o full_sum_of) all)
+    sym (full_of_terms accum negative types same ∙ ap (λ (o : Option Terms). with_known o (sum_named accum)) all)
 
 -- valid terms
 pub valid_more : (terms : Terms) (i : ℕ) (n : Bool) (type : FxType) → i < length terms → IsType type → All (λ term. IsType term.1) (take i terms) → All (λ term. IsType term.1) (take (i + 1) (set terms i (n, type)))

@@ -65,7 +65,7 @@ full_types_are sums unions = record {
 }
 
 full_ready : (kind : Kind) (inputs outputs : ℕ) → HasPorts kind inputs outputs → (row_of kind).parameters → is_full_ready (row_of kind).types.full inputs ≡ true
-full_ready (Sum negative) inputs outputs ports has = both_true (eq-eqb (length negative) inputs (sym ports.0)) (both_true (le-leb 1 (length negative) (omega (arith, has.0))) (le-leb (length negative) 32 has.1))
+full_ready (Sum negative accum) inputs outputs ports has = both_true (eq-eqb (length negative) inputs (sym ports.0)) (both_true (le-leb 1 (length negative) (omega (arith, has.0.0))) (both_true (le-leb (length negative) 32 has.0.1) (spec_is accum has.2)))
 full_ready (Gain value param) inputs outputs ports has = spec_is param has.2
 full_ready _ inputs outputs ports has = refl
 

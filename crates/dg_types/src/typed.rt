@@ -28,7 +28,8 @@ pub struct BlockTypes {
     /// The type of the outputs of each block; Logical where it has no output and nothing gives it
     /// one.
     pub results: FxTypes,
-    /// The type of the coefficients of each Gain, and Logical at every other block.
+    /// The type of the coefficients of each Gain and of the accumulator of each Sum that has one, and
+    /// Logical at every other block.
     pub params: FxTypes,
 }
 

@@ -1,6 +1,6 @@
 //! The type that a block takes from those of its inputs: one function for each choice of a kind's
 //! row.
-ghost use Rattle.std.specs.Prelude.{◌≡◌, ◌≤◌, All, length, true};
+ghost use Rattle.std.specs.Prelude.{◌≡◌, ◌≤◌, All, length, None, true};
 ghost use Rattle.fx_type.specs.FullTypeOf.{full_sum_of};
 ghost use Rattle.fx_type.specs.FxType.{IsType};
 ghost use Rattle.dg_model.specs.Attributes.{coefficient_type as coefficient_type_of};
@@ -8,7 +8,7 @@ ghost use Rattle.dg_model.specs.GainParam.{param_type_of};
 ghost use Rattle.dg_model.specs.KindRow.{FullRule as FullRuleOf, IsSpec};
 ghost use Rattle.dg_model.specs.Library.{row_of};
 ghost use Rattle.dg_model.specs.Periods.{known_at};
-ghost use Rattle.dg_model.specs.TypeRounds.{with_known, full_type as full_type_of, own_type as own_type_of, taken_type as taken_type_of};
+ghost use Rattle.dg_model.specs.TypeRounds.{with_known, specified_type, stepped as stepped_of, sum_named as sum_named_of, full_type as full_type_of, internal_type as internal_type_of, own_type as own_type_of, taken_type as taken_type_of};
 ghost use Rattle.dg_types.specs.inner.TypedInputs.{source_types, IsKnownValid, CanRead, is_ready, is_full_ready, paired_of};
 
 use crate::linked::Source;
@@ -66,13 +66,49 @@ fn pair_type(how: Pairing, left: FxType, right: FxType) -> Option<FxType>
     }
 }
 
-/// The full sum of all inputs.
-fn sum_at(negative: &[bool], values: &[Option<FxType>], sources: &[Source]) -> Option<FxType>
+/// The type of an accumulator, where each of its steps has a full sum that is valid.
+fn stepped(accum: FxType, terms: &[(bool, FxType)]) -> Option<FxType>
+    requires accum { IsType accum }
+    requires valid { All (λ term. IsType term.1) terms.now }
+    ensures { result ≡ stepped_of accum terms.now }
+{
+    for (negative, kind) in terms {
+        if sum_of(&[(false, accum), (*negative, *kind)]).is_none() {
+            return None;
+        }
+    }
+    Some(accum)
+}
+
+/// What a sum of known terms names: its full sum, or the type in which it is added up.
+fn sum_named(accum: TypeSpec, terms: &[(bool, FxType)]) -> Option<FxType>
+    requires accum { IsSpec accum }
+    requires valid { All (λ term. IsType term.1) terms.now }
+    requires some { 1 ≤ length terms.now }
+    requires few { length terms.now ≤ 32 }
+    ensures { result ≡ sum_named_of accum terms.now }
+{
+    match accum {
+        TypeSpec::Fixed(kind) => stepped(kind, terms),
+        TypeSpec::Internal => sum_of(terms),
+        TypeSpec::SameFirst => stepped(terms[0].1, terms),
+        TypeSpec::Auto => None,
+    }
+}
+
+/// What the sum of all inputs names.
+fn sum_at(
+    negative: &[bool],
+    accum: TypeSpec,
+    values: &[Option<FxType>],
+    sources: &[Source],
+) -> Option<FxType>
     requires read { CanRead values.now sources.now }
     requires all { length negative.now ≡ length sources.now }
     requires some { 1 ≤ length negative.now }
     requires few { length negative.now ≤ 32 }
-    ensures { result ≡ full_type_of (FullRuleOf.FullSum negative.now)
+    requires accum { IsSpec accum }
+    ensures { result ≡ full_type_of (FullRuleOf.FullSum negative.now accum)
         (source_types values.now sources.now) }
 {
     let mut terms = [(false, FxType::Logical); 32];
@@ -82,7 +118,7 @@ fn sum_at(negative: &[bool], values: &[Option<FxType>], sources: &[Source]) -> O
         };
         terms[input] = (*subtracted, kind);
     }
-    sum_of(&terms[..negative.len()])
+    sum_named(accum, &terms[..negative.len()])
 }
 
 /// The full product of input 1 and coefficients.
@@ -137,12 +173,40 @@ pub fn full_type(kind: &Kind, values: &[Option<FxType>], sources: &[Source]) -> 
 {
     match kind.full() {
         FullRule::NoFull => None,
-        FullRule::FullSum { negative } => sum_at(negative, values, sources),
+        FullRule::FullSum { negative, accum } => sum_at(negative, accum, values, sources),
         FullRule::FullScaled { value, param } => scaled_at(value, param, values, sources),
         FullRule::FullProduct => paired_at(Pairing::Product, values, sources, 1),
         FullRule::UnionOfTwo => paired_at(Pairing::Union, values, sources, 1),
         FullRule::UnionOfEnds => paired_at(Pairing::Union, values, sources, 2),
     }
+}
+
+/// The type that a specification of a coefficient or of an accumulator takes of input 1, or writes
+/// out; none under the internal rule.
+fn chosen_type(spec: TypeSpec, first: Option<FxType>) -> Option<FxType>
+    ensures { result ≡ specified_type spec None first None }
+{
+    match spec {
+        TypeSpec::Fixed(kind) => Some(kind),
+        TypeSpec::SameFirst => first,
+        TypeSpec::Internal | TypeSpec::Auto => None,
+    }
+}
+
+/// The type that the internal rule gives: that of the accumulator, where a sum has one, and else
+/// what the equation names.
+fn internal_type(kind: &Kind, values: &[Option<FxType>], sources: &[Source]) -> Option<FxType>
+    requires read { CanRead values.now sources.now }
+    requires ready { is_full_ready (row_of kind.now).types.full (length sources.now) ≡ true }
+    ensures { result ≡ internal_type_of (row_of kind.now).types.full
+        (source_types values.now sources.now) }
+{
+    if let FullRule::FullSum { accum, .. } = kind.full() {
+        if !matches!(accum, TypeSpec::Internal) {
+            return chosen_type(accum, input_at(values, sources, 0));
+        }
+    }
+    full_type(kind, values, sources)
 }
 
 /// The type that a kind has of itself.
@@ -167,13 +231,14 @@ pub fn taken_type(block: &Block, values: &[Option<FxType>], sources: &[Source]) 
 {
     match block.result {
         TypeSpec::Fixed(kind) => Some(kind),
-        TypeSpec::Internal => full_type(&block.kind, values, sources),
+        TypeSpec::Internal => internal_type(&block.kind, values, sources),
         TypeSpec::SameFirst => input_at(values, sources, 0),
         TypeSpec::Auto => own_type(&block.kind, values, sources),
     }
 }
 
-/// The type of a block's coefficients, where it has any and the type of its input is known.
+/// The type of a block's coefficients or accumulator, where it has any and the type of its first
+/// input is known.
 pub fn coefficient_type(
     kind: &Kind,
     values: &[Option<FxType>],
@@ -191,10 +256,8 @@ pub fn coefficient_type(
             };
             param_type(value, param, input)
         }
-        FullRule::NoFull
-        | FullRule::FullSum { .. }
-        | FullRule::FullProduct
-        | FullRule::UnionOfTwo
-        | FullRule::UnionOfEnds => None,
+        FullRule::FullSum { accum, .. } => chosen_type(accum, input_at(values, sources, 0)),
+        FullRule::NoFull | FullRule::FullProduct | FullRule::UnionOfTwo | FullRule::UnionOfEnds =>
+            None,
     }
 }

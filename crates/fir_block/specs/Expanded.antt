@@ -79,7 +79,7 @@ abbrev pub sum_block : Fir → FirBlock
 sum_block fir = record {
   name = codes "sum";
   block =
-      record (plain_block (Sum (replicate (length fir.coefficients) false)) fir.result
+      record (plain_block (Sum (replicate (length fir.coefficients) false) Internal) fir.result
       (length fir.coefficients)) {
         rounding = fir.rounding;
         saturate = fir.saturate;

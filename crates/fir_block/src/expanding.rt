@@ -150,7 +150,10 @@ fn put_sum(alloc: Global, blocks: &mut FirBlocks, fir: &Fir) -> Result<(), OutOf
 {
     let count = fir.coefficients.as_slice().len();
     let negative = Flags::from_vec(vec![in alloc; false; count]?);
-    let kind = Kind::Sum { negative };
+    let kind = Kind::Sum {
+        negative,
+        accum: TypeSpec::Internal,
+    };
     let name = Text::copy(alloc, b"sum")?;
     let block = Block {
         rounding: fir.rounding,

@@ -14,6 +14,7 @@
 //! | `decimal TYPE \|TEXT` | sign, digits, exponent and stored integer, or why there are none |
 //! | `sum_type N SIGN TYPE ..`, `product_type A B`, `union_type A B` | the full type, or `TooWide` |
 //! | `sum N SIGN TYPE V .. END` | the result of the operation, N up to 3 |
+//! | `accumulated SIGN TYPE V SIGN TYPE V SIGN TYPE V ACCUMULATOR END` | the same, of a sum in steps |
 //! | `gain TYPE V TYPE C END`, `product TYPE V TYPE V END` | the same |
 //! | `switch TYPE V TYPE V TYPE V CRITERION T END` | the same |
 //! | `relational TYPE V RELATION TYPE V` | the same |
@@ -25,6 +26,7 @@
 //! these nets are. Behind the word `output` only the first two of an operation are printed.
 #![tactic(auto)]
 
+mod accumulated;
 mod bits;
 mod nets;
 mod operations;
@@ -88,6 +90,7 @@ const COMMANDS: &[(&str, Command)] = &[
     ("union_type", Command::UnionType),
     ("output", Command::Output),
     ("sum", Command::Whole(Operation::Sum)),
+    ("accumulated", Command::Whole(Operation::Accumulated)),
     ("gain", Command::Whole(Operation::Gain)),
     ("product", Command::Whole(Operation::Product)),
     ("switch", Command::Whole(Operation::Switch)),

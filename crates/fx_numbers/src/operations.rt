@@ -3,6 +3,7 @@ ghost use Rattle.std.specs.Prelude.{[], ◌∷◌, IfOk};
 ghost use Rattle.fx_type.specs.FxType.{IsType, InRange};
 ghost use Rattle.dg_model.specs.Operation.{HasArity, HasSigns, HasParameters, HasResultType, HasFullType};
 
+use crate::accumulated::accumulated;
 use crate::nets::{Answer, operation_answer};
 use crate::words::{End, Operand, read_end, read_operand, read_term, word_value};
 use anyhow::{Error, Result};
@@ -16,6 +17,7 @@ use tests_rows::Row;
 #[derive(Clone, Copy)]
 pub enum Operation {
     Sum,
+    Accumulated,
     Gain,
     Product,
     Switch,
@@ -30,6 +32,7 @@ pub enum Operation {
 pub fn carried_out(alloc: Global, operation: Operation, words: &mut Row<'_>) -> Result<Answer> {
     match operation {
         Operation::Sum => sum(alloc, words),
+        Operation::Accumulated => accumulated(alloc, words),
         Operation::Gain => gain(alloc, words),
         Operation::Product => product(alloc, words),
         Operation::Switch => switch(alloc, words),
@@ -85,7 +88,7 @@ fn of_two(alloc: Global, op: Op, signs: &[bool], a: Operand, b: Operand, end: En
 }
 
 /// An operation of three inputs.
-fn of_three(
+pub fn of_three(
     alloc: Global,
     op: Op,
     signs: &[bool],
@@ -135,7 +138,7 @@ fn sum_of_one(alloc: Global, words: &mut Row<'_>) -> Result<Answer> {
     let (p, a) = read_term(words)?;
     let end = read_end(words)?;
     match full_sum(&[(p, a.kind)]) {
-        Ok(_full) => of_one(alloc, Op::Sum, &[p], a, end),
+        Ok(_full) => of_one(alloc, Op::Sum { accum: None }, &[p], a, end),
         Err(TooWide) => Err(Error::msg("too wide")),
     }
 }
@@ -145,7 +148,7 @@ fn sum_of_two(alloc: Global, words: &mut Row<'_>) -> Result<Answer> {
     let (q, b) = read_term(words)?;
     let end = read_end(words)?;
     match full_sum(&[(p, a.kind), (q, b.kind)]) {
-        Ok(_full) => of_two(alloc, Op::Sum, &[p, q], a, b, end),
+        Ok(_full) => of_two(alloc, Op::Sum { accum: None }, &[p, q], a, b, end),
         Err(TooWide) => Err(Error::msg("too wide")),
     }
 }
@@ -156,7 +159,7 @@ fn sum_of_three(alloc: Global, words: &mut Row<'_>) -> Result<Answer> {
     let (r, c) = read_term(words)?;
     let end = read_end(words)?;
     match full_sum(&[(p, a.kind), (q, b.kind), (r, c.kind)]) {
-        Ok(_full) => of_three(alloc, Op::Sum, &[p, q, r], a, b, c, end),
+        Ok(_full) => of_three(alloc, Op::Sum { accum: None }, &[p, q, r], a, b, c, end),
         Err(TooWide) => Err(Error::msg("too wide")),
     }
 }

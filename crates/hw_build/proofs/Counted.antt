@@ -51,7 +51,7 @@ use Rattle.hw_build.proofs.Turning.{contains_front, pipeline_by_call, pipeline_b
 
 -- a block behind which registers may stand shows one port
 pub pipelining_shows : (kind : Kind) (inputs outputs : ℕ) → IsTrue (row_of kind).hardware.pipelines → HasPorts kind inputs outputs → shown_ports kind outputs ≡ 1
-pipelining_shows (Sum negative) inputs outputs is ports = ports.1
+pipelining_shows (Sum negative accum) inputs outputs is ports = ports.1
 pipelining_shows (Gain value param) inputs outputs is ports = ports.1
 pipelining_shows Product inputs outputs is ports = ports.1
 pipelining_shows (Switch criterion threshold) inputs outputs is ports = ports.1

@@ -179,7 +179,7 @@ module _ (diagram : Diagram) (places : Places) (place_of : ℕ → ℕ) (hubs : 
       operands_are (Outport number) operands is other fits keeps offered = worked_all operands (subst (λ (k : Kind). AreRepeated diagram (attributes_of diagram) block k b.inputs b.outputs) (sym is) fits) offered
       operands_are (Constant value) operands is other fits keeps offered = subst (AreEach IsOperand []) (sym offered) (each_none IsOperand)
       operands_are Ground operands is other fits keeps offered = subst (AreEach IsOperand []) (sym offered) (each_none IsOperand)
-      operands_are (Sum negative) operands is other fits keeps offered = worked_all operands (subst (λ (k : Kind). AreRepeated diagram (attributes_of diagram) block k b.inputs b.outputs) (sym is) fits) offered
+      operands_are (Sum negative accum) operands is other fits keeps offered = worked_all operands (subst (λ (k : Kind). AreRepeated diagram (attributes_of diagram) block k b.inputs b.outputs) (sym is) fits) offered
       operands_are (Gain value param) operands is other fits keeps offered = worked_all operands (subst (λ (k : Kind). AreRepeated diagram (attributes_of diagram) block k b.inputs b.outputs) (sym is) fits) offered
       operands_are Product operands is other fits keeps offered = worked_all operands (subst (λ (k : Kind). AreRepeated diagram (attributes_of diagram) block k b.inputs b.outputs) (sym is) fits) offered
       operands_are (Switch criterion threshold) operands is other fits keeps offered = worked_all operands (subst (λ (k : Kind). AreRepeated diagram (attributes_of diagram) block k b.inputs b.outputs) (sym is) fits) offered

@@ -49,7 +49,7 @@ module _ (diagram : Diagram) (timing : Timing) (places : Places) (closed hubs : 
     made_shared (Outport number) is has = absurd has
     made_shared (Constant value) is has = absurd has
     made_shared Ground is has = absurd has
-    made_shared (Sum negative) is has = absurd has
+    made_shared (Sum negative accum) is has = absurd has
     made_shared (Gain value param) is has =
         let one : b.inputs ≡ 1 = (subst (λ (k : Kind). HasPorts k b.inputs b.outputs) is ports).0 in
         let left : type_into diagram (attributes_of diagram) block 1 ≡ type_of (types_into diagram (attributes_of diagram) block b.inputs) 0 = sym (ap (λ (n : ℕ). type_of (types_into diagram (attributes_of diagram) block n) 0) one) in

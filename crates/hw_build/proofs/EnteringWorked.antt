@@ -88,7 +88,7 @@ module _ (before after : Circuit) (operation : Operation) (operands : List ℕ) 
 module _ (element : ℕ) (param control : FxType) (op : Op) where
   multiply_is : (first : ℕ) (kind : Kind) → IsOpOf kind element param control op → number_behind first (multiply_of op) ≡ multiply_at first kind
   multiply_is first (Outport number) is = ap (λ (o : Op). number_behind first (multiply_of o)) is
-  multiply_is first (Sum negative) is = ap (λ (o : Op). number_behind first (multiply_of o)) is
+  multiply_is first (Sum negative accum) is = ap (λ (o : Op). number_behind first (multiply_of o)) is
   multiply_is first (Gain value spec) is = ap (λ (o : Op). number_behind first (multiply_of o)) is.2
   multiply_is first Product is = ap (λ (o : Op). number_behind first (multiply_of o)) is
   multiply_is first (Switch criterion threshold) is = ap (λ (o : Op). number_behind first (multiply_of o)) is.2
@@ -104,7 +104,7 @@ module _ (element : ℕ) (param control : FxType) (op : Op) where
 
   pub types_carried : (diagram : Diagram) (block : ℕ) (b : Block) (port : ℕ) (kind : Kind) → IsOpOf kind element param control op → operand_types diagram (attributes_of diagram) block b port kind ≡ types_into diagram (attributes_of diagram) block b.inputs
   types_carried diagram block b port (Outport number) is = refl
-  types_carried diagram block b port (Sum negative) is = refl
+  types_carried diagram block b port (Sum negative accum) is = refl
   types_carried diagram block b port (Gain value spec) is = refl
   types_carried diagram block b port Product is = refl
   types_carried diagram block b port (Switch criterion threshold) is = refl
@@ -120,7 +120,7 @@ module _ (element : ℕ) (param control : FxType) (op : Op) where
     offered_is (Outport number) is offered = offered
     offered_is (Constant value) is offered = absurd is
     offered_is Ground is offered = absurd is
-    offered_is (Sum negative) is offered = offered
+    offered_is (Sum negative accum) is offered = offered
     offered_is (Gain value spec) is offered = offered
     offered_is Product is offered = offered
     offered_is (Switch criterion threshold) is offered = offered
@@ -143,7 +143,7 @@ module _ (element : ℕ) (param control : FxType) (op : Op) where
     made_carried (Outport number) is slot made = made
     made_carried (Constant value) is slot made = absurd is
     made_carried Ground is slot made = absurd is
-    made_carried (Sum negative) is slot made = made
+    made_carried (Sum negative accum) is slot made = made
     made_carried (Gain value spec) is slot made = gain_alone diagram timing places closed hubs now block b port element value spec (slot refl) made
     made_carried Product is slot made = product_alone diagram timing places closed hubs now block b port element (slot refl) made
     made_carried (Switch criterion threshold) is slot made = made

@@ -39,7 +39,7 @@ use Rattle.fx_io.proofs.Places.{held, get_some}
 
 second_stays : (diagram : Diagram) (offered : ℕ → ℕ → ℕ → ℕ) (a b c d : Circuit) (block element number : ℕ) (rule : FullRule) → Extends a b → Extends c d → IsSecond diagram offered b c block element rule number → IsSecond diagram offered a d block element rule number
 second_stays diagram offered a b c d block element number FullRule.NoFull before after is = is
-second_stays diagram offered a b c d block element number (FullRule.FullSum negative) before after is = is
+second_stays diagram offered a b c d block element number (FullRule.FullSum negative accum) before after is = is
 second_stays diagram offered a b c d block element number (FullRule.FullScaled value spec) before after is = coefficient_stays a b c d value element ((attributes_of diagram).param_at block) number before after is
 second_stays diagram offered a b c d block element number FullRule.FullProduct before after is = is
 second_stays diagram offered a b c d block element number FullRule.UnionOfTwo before after is = is
@@ -132,7 +132,7 @@ module _ (diagram : Diagram) (checked : IsChecked diagram) (plan : Resolved) (of
     right_by : (rule : FullRule) → (is_product rule ≡ true → 2 ≤ b.inputs) → IsSecond diagram offered before after block element rule number
         → HasWord after.nets number (width_of (right_type diagram (attributes_of diagram) block rule)) (is_signed (right_type diagram (attributes_of diagram) block rule))
     right_by FullRule.NoFull two second = absurd second
-    right_by (FullRule.FullSum negative) two second = absurd second
+    right_by (FullRule.FullSum negative accum) two second = absurd second
     right_by (FullRule.FullScaled value spec) two second = record { net = constant_net ((attributes_of diagram).param_at block) second.value; is = second.is; wide = refl; sign = refl }
     right_by FullRule.FullProduct two second =
         subst (λ (n : ℕ). HasWord after.nets n (width_of (type_into diagram (attributes_of diagram) block 2)) (is_signed (type_into diagram (attributes_of diagram) block 2))) (sym second)

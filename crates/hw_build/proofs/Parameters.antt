@@ -45,7 +45,7 @@ own_width diagram block port inputs outputs element list (Inport number width) i
 own_width diagram block port inputs outputs element list (Outport number) is ports from to below = absurd (none_is list [] is)
 own_width diagram block port inputs outputs element list (Constant value) is ports from to below = first_port diagram block port outputs element ports.1 from to below
 own_width diagram block port inputs outputs element list Ground is ports from to below = absurd (none_is list [] is)
-own_width diagram block port inputs outputs element list (Sum negative) is ports from to below = absurd (none_is list [] is)
+own_width diagram block port inputs outputs element list (Sum negative accum) is ports from to below = absurd (none_is list [] is)
 own_width diagram block port inputs outputs element list (Gain value param) is ports from to below = first_port diagram block port outputs element ports.1 from to below
 own_width diagram block port inputs outputs element list Product is ports from to below = absurd (none_is list [] is)
 own_width diagram block port inputs outputs element list (Switch criterion threshold) is ports from to below = first_port diagram block port outputs element ports.1 from to below

@@ -148,7 +148,7 @@ module _ (storing : StoringGivesOne) (prepare : OperationsPrepare) (valid : Type
         second_low : (k : ℕ) (one : Asked) (b : Block) → slice_get operations k ≡ Some one → slice_get diagram.blocks (o_at k).block ≡ Some b → (rule : FullRule) → (is_product rule ≡ true → 2 ≤ b.inputs) → IsSecond diagram offered before mid (o_at k).block (o_at k).element rule one.right
             → (one.right < length mid.nets) × (early one.right ≤ own)
         second_low k one b at block FullRule.NoFull two second = absurd second
-        second_low k one b at block (FullRule.FullSum negative) two second = absurd second
+        second_low k one b at block (FullRule.FullSum negative accum) two second = absurd second
         second_low k one b at block (FullRule.FullScaled value spec) two second =
             let quiet = quiet_low before mid level 1 one.right (constant_net ((attributes_of diagram).param_at (o_at k).block) second.value) second.is second.new refl in
             (slice_get_within mid.nets one.right (constant_net ((attributes_of diagram).param_at (o_at k).block) second.value) second.is, omega (arith, quiet))
@@ -221,7 +221,7 @@ module _ (storing : StoringGivesOne) (prepare : OperationsPrepare) (valid : Type
               → InLater closed hubs after (HasAll diagram places closed hubs after o b (span_at (timing_by diagram plan times) period o.block) (slot_of diagram (attributes_of diagram) plan times number o) served.left served.right
               (in_left diagram plan times places closed hubs mid after early_enough mid_cycles (operands_of operations) shared.appends number o b one period (shared.first + one.unit) result (asked period moves) served one.right refl))
           has_by period moves FullRule.NoFull e second = absurd second
-          has_by period moves (FullRule.FullSum negative) e second = absurd second
+          has_by period moves (FullRule.FullSum negative accum) e second = absurd second
           has_by period moves (FullRule.FullScaled value spec) e second =
               gain_has diagram places closed hubs after o b (span_at (timing_by diagram plan times) period o.block) (slot_of diagram (attributes_of diagram) plan times number o) served.left served.right
               (in_left diagram plan times places closed hubs mid after early_enough mid_cycles (operands_of operations) shared.appends number o b one period (shared.first + one.unit) result (asked period moves) served one.right refl)

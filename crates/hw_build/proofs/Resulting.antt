@@ -37,7 +37,7 @@ stored_later closed more hubs now later list element type number less goes is = 
 module _ (diagram : Diagram) (plan : Resolved) (times : Times) (places : Places) where
   second_later : (closed more hubs : ℕ) (now later : Circuit) (block element number : ℕ) (rule : FullRule) → closed ≤ more → GoesOn closed hubs now later → IsSecondNet diagram plan times places closed hubs now block element rule number → IsSecondNet diagram plan times places more hubs later block element rule number
   second_later closed more hubs now later block element number FullRule.NoFull less goes is = is
-  second_later closed more hubs now later block element number (FullRule.FullSum negative) less goes is = is
+  second_later closed more hubs now later block element number (FullRule.FullSum negative accum) less goes is = is
   second_later closed more hubs now later block element number (FullRule.FullScaled value spec) less goes is = stored_later closed more hubs now later value element ((attributes_of diagram).param_at block) number less goes is
   second_later closed more hubs now later block element number FullRule.FullProduct less goes is = is
   second_later closed more hubs now later block element number FullRule.UnionOfTwo less goes is = is

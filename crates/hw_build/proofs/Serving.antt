@@ -69,7 +69,7 @@ multiplies_shown _ inputs outputs has e = absurd (false≢true e)
 
 abbrev pub is_product : FullRule → Bool
 is_product FullRule.NoFull = false
-is_product (FullRule.FullSum negative) = false
+is_product (FullRule.FullSum negative accum) = false
 is_product (FullRule.FullScaled value param) = false
 is_product FullRule.FullProduct = true
 is_product FullRule.UnionOfTwo = false
@@ -159,7 +159,7 @@ module _ (operands : OperandsAreServed) (widths : WidthsAreOfEdges) where
           → (t period : ℕ) → (attributes_of diagram).period_at o.block ≡ Some period → t % period ≡ 0 → t < n → clock_of diagram plan times number o t < clocks
           → (rule : FullRule) → (is_product rule ≡ true → 2 ≤ b.inputs) → (v : ℤ) → IsSecondOf diagram places rows o.block o.element (clock_of diagram plan times number o t) rule v → IsSecond diagram table o.block o.element t rule v
       second_is stimulus n clocks table rows design t period is hit less early FullRule.NoFull two v of = of
-      second_is stimulus n clocks table rows design t period is hit less early (FullRule.FullSum negative) two v of = of
+      second_is stimulus n clocks table rows design t period is hit less early (FullRule.FullSum negative accum) two v of = of
       second_is stimulus n clocks table rows design t period is hit less early (FullRule.FullScaled value param) two v of = of
       second_is stimulus n clocks table rows design t period is hit less early FullRule.FullProduct two v of = of ∙ operand_at stimulus n clocks table rows design t period 2 is hit less early (omega arith) (two refl)
       second_is stimulus n clocks table rows design t period is hit less early FullRule.UnionOfTwo two v of = of

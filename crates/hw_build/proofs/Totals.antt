@@ -103,7 +103,7 @@ shows_one diagram a block (Inport number width) inputs outputs ports = inl (port
 shows_one diagram a block (Outport number) inputs outputs ports = inr (record { pipelines = refl; delay = refl; kept = refl })
 shows_one diagram a block (Constant value) inputs outputs ports = inl (ports.1, refl)
 shows_one diagram a block Ground inputs outputs ports = inl (ports.1, refl)
-shows_one diagram a block (Sum negative) inputs outputs ports = inl (ports.1, refl)
+shows_one diagram a block (Sum negative accum) inputs outputs ports = inl (ports.1, refl)
 shows_one diagram a block (Gain value param) inputs outputs ports = inl (ports.1, refl)
 shows_one diagram a block Product inputs outputs ports = inl (ports.1, refl)
 shows_one diagram a block (Switch criterion threshold) inputs outputs ports = inl (ports.1, refl)

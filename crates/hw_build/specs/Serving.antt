@@ -76,7 +76,7 @@ others netlist = flat_map (λ net. own_factors net.kind) netlist.nets
 -- the second operand of an element at a hit: what the second input carries, or the coefficient
 abbrev pub IsSecond : Diagram → Table → ℕ → ℕ → ℕ → FullRule → ℤ → Type 0
 IsSecond diagram table block element t FullRule.NoFull v = ⊥
-IsSecond diagram table block element t (FullRule.FullSum negative) v = ⊥
+IsSecond diagram table block element t (FullRule.FullSum negative accum) v = ⊥
 IsSecond diagram table block element t (FullRule.FullScaled value param) v = StoresEntry value element ((attributes_of diagram).param_at block) v
 IsSecond diagram table block element t FullRule.FullProduct v = v ≡ value_into diagram (attributes_of diagram) table block 2 element t
 IsSecond diagram table block element t FullRule.UnionOfTwo v = ⊥

@@ -71,7 +71,7 @@ pub fn multiply_behind(net: &Netlist, op: Op) -> Result<Option<u32>, OutOfMemory
             // word: the number of a net, of 32 bits
             None => Err(OutOfMemory),
         },
-        Op::Sum
+        Op::Sum { .. }
         | Op::Switch { .. }
         | Op::Relational { .. }
         | Op::Logic { .. }

@@ -11,7 +11,7 @@ use crate::entry::{Entry, Made, plain};
 use crate::firsts::list_of;
 use crate::lowering::{multiply_behind, parameter_value};
 use crate::site::Site;
-use dg_model::{Block, Kind, Op, OpCall};
+use dg_model::{Block, Kind, Op, OpCall, accumulator};
 use dg_tables::{Place, operations_prepare};
 use fx_type::FxType;
 use hw_lower::lower;
@@ -28,7 +28,12 @@ pub fn op_of<'a>(site: Site<'a>) -> Option<Op>
     operations_prepare();
     let list = list_of(&site.one.kind);
     match &site.one.kind {
-        Kind::Sum { .. } => Some(Op::Sum),
+        Kind::Sum { accum, .. } => {
+            let own = site.design.checked.param(site.place.block);
+            Some(Op::Sum {
+                accum: accumulator(*accum, own),
+            })
+        }
         Kind::Gain { .. } => {
             let param = site.design.checked.param(site.place.block);
             let coefficient = parameter_value(site, list, param);

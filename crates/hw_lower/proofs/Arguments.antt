@@ -77,7 +77,7 @@ inputs-there plan types begins valid = record {
 
 -- no operation has more than 32 inputs
 pub few-inputs : (op : Op) (n : ℕ) → HasArity op n → n ≤ 32
-few-inputs Sum n has = has.1
+few-inputs (Sum accum) n has = has.1
 few-inputs (Gain coefficient param) n has = omega (arith, has)
 few-inputs Product n has = omega (arith, has)
 few-inputs (Switch criterion threshold) n has = omega (arith, has)

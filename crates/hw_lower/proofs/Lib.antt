@@ -1,3 +1,4 @@
+mod Added
 pub mod Arguments
 pub mod Chained
 pub mod Conversions

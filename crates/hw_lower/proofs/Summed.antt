@@ -123,3 +123,21 @@ total-is signs types full numbers k total same is_full past is values are =
     let whole : IsWrapped (signed_sum (frac_of full) terms values) (width_of full) (is_signed full) total = rw (take_all k terms count, take_all k values few) at (is values are) in
     let range : InRange full (signed_sum (frac_of full) terms values) = is_full.holds (signed_sum (frac_of full) terms values) (possible (frac_of full) signs types values are.in_range.in_range are.in_range.count) in
     wrapped-is (signed_sum (frac_of full) terms values) (width_of full) (is_signed full) total (type-word full is_full.valid) (range-word full (signed_sum (frac_of full) terms values) range) whole
+
+-- two terms, the first of which is never subtracted
+pub two-total : (k0 k1 : FxType) (negative : Bool) (full : FxType) (x0 x1 t s : ℤ) → IsFullSum ((false, k0) ∷ (negative, k1) ∷ []) full → InRange k0 x0 → InRange k1 x1
+    → IsWrapped (aligned (frac_of full) k0 x0) (width_of full) (is_signed full) t → IsWrapped (t +ℤ negated_if negative (aligned (frac_of full) k1 x1)) (width_of full) (is_signed full) s
+    → s ≡ signed_sum (frac_of full) ((false, k0) ∷ (negative, k1) ∷ []) (x0 ∷ x1 ∷ [])
+two-total k0 k1 negative full x0 x1 t s is_full r0 r1 p q =
+    let sum : ℤ = signed_sum (frac_of full) ((false, k0) ∷ (negative, k1) ∷ []) (x0 ∷ x1 ∷ []) in
+    let first : ℤ = aligned (frac_of full) k0 x0 in
+    let second : ℤ = term_of (frac_of full) negative k1 x1 in
+    let whole = wrapped-total t first second s (width_of full) (is_signed full) p q in
+    let same : first +ℤ second ≡ sum = omega (arith, ints) in
+    let range : InRange full sum = is_full.holds sum (possible (frac_of full) (false ∷ negative ∷ []) (k0 ∷ k1 ∷ []) (x0 ∷ x1 ∷ []) each refl) in
+    wrapped-is sum (width_of full) (is_signed full) s (type-word full is_full.valid) (range-word full sum range) (subst (λ (z : ℤ). IsWrapped z (width_of full) (is_signed full) s) same whole)
+  where
+    each : (input : ℕ) → input < 2 → InRange (type_of (k0 ∷ k1 ∷ []) input) (value_of (x0 ∷ x1 ∷ []) input)
+    each zero inside = r0
+    each (suc zero) inside = r1
+    each (suc (suc k)) inside = absurd (omega (arith, inside))

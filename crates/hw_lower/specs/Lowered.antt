@@ -47,7 +47,7 @@ pub record IsComb (after : Circuit) (number : ℕ) (op : NetOp) : Type 0 where
 
 -- which of the appended nets is the Multiply of an operation, if it has one
 abbrev pub multiply_of : Op → Option ℕ
-multiply_of Sum = None
+multiply_of (Sum accum) = None
 multiply_of (Gain coefficient param) = Some 1
 multiply_of Product = Some 0
 multiply_of (Switch criterion threshold) = None

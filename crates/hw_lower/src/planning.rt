@@ -1,24 +1,24 @@
 //! The plan of each operation.
 ghost use Rattle.std.specs.Prelude.{◌≡◌, ◌≤ℤ◌, ◌<◌, ◌≤◌, pos, negsuc, length, zip, MatchBool};
-ghost use Rattle.std.specs.Prelude.{Some};
+ghost use Rattle.std.specs.Prelude.{Some, [], ◌∷◌, false};
 ghost use Rattle.fx_type.specs.declared.kind.FxType.{FxType};
 ghost use Rattle.fx_type.specs.FxType.{IsType, InRange, frac_of};
 ghost use Rattle.fx_type.specs.FullType.{IsFullSum, IsFullProduct};
 ghost use Rattle.fx_type.specs.Conversion.{Converts};
 ghost use Rattle.dg_model.specs.Operation.{operation_of, without_frac, type_of, value_of};
-ghost use Rattle.dg_model.specs.declared.op.Op.TheVariants.{Convert};
-ghost use Rattle.dg_model.specs.Operation.{signed_sum, meets, Gives, IsConverted, OpGives};
+ghost use Rattle.dg_model.specs.declared.op.Op.TheVariants.{Convert, Sum};
+ghost use Rattle.dg_model.specs.Operation.{signed_sum, meets, Gives, IsConverted, IsStep, OpGives};
 ghost use Rattle.hw_lower.specs.inner.Planned.{IsAt, IsMade, word_of};
 ghost use Rattle.hw_lower.specs.inner.Spread.{CanPlan, OfArguments, IsPlanned, IsScaled};
 ghost use Rattle.hw_lower.specs.Lowered.{multiply_of};
 
-use crate::aligning::{Side, argument_of, side_of};
+use crate::aligning::{Side, align, argument_of, side_of};
 use crate::comparing::{Branches, switch};
 use crate::gates::gate;
-use crate::plan::{Operand, Plan, Word, multiply, put_alone, word_of};
+use crate::plan::{Operand, Plan, Word, constant, multiply, put_alone, word_of};
 use crate::relating::compare_arguments;
 use crate::settling::convert;
-use crate::sums::sum_arguments;
+use crate::sums::{add_term, sum_arguments};
 use dg_model::{Criterion, Op, OpCall, sum_type, without_frac};
 use fx_type::FxType;
 use hw_net::NetOp;
@@ -68,6 +68,48 @@ fn plan_sum(plan: &mut Plan, call: &OpCall) -> Operand
     let full = sum_type(call.signs, call.types);
     let exact = sum_arguments(plan, call.signs, call.types, full);
     convert_to_result(plan, call, exact, full.frac())
+}
+
+/// What an accumulator of a type has after one argument more: the exact sum of both, converted to
+/// that type.
+fn plan_step(plan: &mut Plan, call: &OpCall, before: Side, negative: bool, side: Side) -> Operand
+    requires before { IsAt plan.old before.from }
+    requires at { IsAt plan.old side.from }
+    requires accum { IsType before.kind }
+    requires kind { IsType side.kind }
+    requires full { (full : FxType)
+        × IsFullSum ((false, before.kind) ∷ (negative, side.kind) ∷ []) full }
+    ensures { IsMade plan.old plan.new (word_of before.kind) (λ numbers.
+        InRange before.kind (numbers before.from.place)
+        → InRange side.kind (numbers side.from.place)
+        → IsStep (operation_of call.now) before.kind (negative, side.kind)
+        (numbers side.from.place) (numbers before.from.place) (numbers result.place)) result }
+{
+    let full = sum_type(&[false, negative], &[before.kind, side.kind]);
+    let (frac, word) = (full.frac(), word_of(full));
+    let total = align(plan, before, frac, word);
+    let exact = add_term(plan, total, negative, side, frac, word);
+    convert(plan, exact, frac, before.kind, call.rounding, call.saturate)
+}
+
+/// A Sum that is added up in a type.
+fn plan_accumulated(plan: &mut Plan, call: &OpCall, accum: FxType) -> Operand
+    requires can { CanPlan plan.old (operation_of call.now) }
+    requires is_sum { call.now.op ≡ Sum (Some accum) }
+    ensures { IsMade plan.old plan.new (word_of call.now.result) (λ numbers.
+        OfArguments call.now.types.now numbers (λ values.
+        OpGives (operation_of call.now) values (numbers result.place))) result }
+{
+    let mut total = constant(plan, 0, word_of(accum));
+    for input in 0..call.types.len() {
+        let before = Side {
+            kind: accum,
+            from: total,
+        };
+        let side = side_of(call.types, input);
+        total = plan_step(plan, call, before, call.signs[input], side);
+    }
+    convert_to_result(plan, call, total, accum.frac())
 }
 
 /// The word of a product.
@@ -196,7 +238,8 @@ pub fn plan_operation(plan: &mut Plan, call: &OpCall) -> Operand
         OpGives (operation_of call.now) values (numbers result.place))) result }
 {
     match call.op {
-        Op::Sum => plan_sum(plan, call),
+        Op::Sum { accum: None } => plan_sum(plan, call),
+        Op::Sum { accum: Some(accum) } => plan_accumulated(plan, call, accum),
         Op::Gain { coefficient, param } => plan_gain(plan, call, coefficient, param),
         Op::Product => plan_product(plan, call),
         Op::Switch {

@@ -13,7 +13,7 @@ use fx_type::FxType;
 use hw_net::NetOp;
 
 /// A sum with one more term.
-fn add_term(
+pub fn add_term(
     plan: &mut Plan,
     total: Operand,
     negative: bool,

@@ -59,7 +59,7 @@ output-is (Outport own) number e = record { moves = refl; plain = refl; one = λ
 output-is (Inport own width) number e = absurd (cc e)
 output-is (Constant value) number e = absurd (cc e)
 output-is Ground number e = absurd (cc e)
-output-is (Sum negative) number e = absurd (cc e)
+output-is (Sum negative accum) number e = absurd (cc e)
 output-is (Gain value param) number e = absurd (cc e)
 output-is Product number e = absurd (cc e)
 output-is (Switch criterion threshold) number e = absurd (cc e)

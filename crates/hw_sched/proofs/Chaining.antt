@@ -1,7 +1,7 @@
 -- A diagram whose registers are counted by hand: input u, a gain of it with 8 registers, and four sums of both, each to an output.
 use Rattle.std.proofs.Common.{◌≡◌, false, [], ◌∷◌, refl}
 use Rattle.fx_type.specs.declared.decimal.Decimal.{Decimal}
-use Rattle.fx_type.specs.declared.spec.TypeSpec.TheVariants.{Auto}
+use Rattle.fx_type.specs.declared.spec.TypeSpec.TheVariants.{Internal, Auto}
 use Rattle.dg_model.specs.declared.diagram.Diagram.{Diagram}
 use Rattle.dg_model.specs.declared.kind.Kind.TheVariants.{Inport, Outport, Gain, Sum}
 use Rattle.dg_model.specs.declared.resolved.Resolved.{Resolved}
@@ -14,7 +14,7 @@ use Rattle.hw_sched.proofs.Worked.{block_of, edge_of, scalars}
 abbrev pub fans : Decimal → Diagram
 fans one = record {
   blocks = block_of (Inport 1 0) 0 1 ∷ block_of (Gain (one ∷ []) Auto) 1 1
-      ∷ block_of (Sum (false ∷ false ∷ [])) 2 1 ∷ block_of (Sum (false ∷ false ∷ [])) 2 1 ∷ block_of (Sum (false ∷ false ∷ [])) 2 1 ∷ block_of (Sum (false ∷ false ∷ [])) 2 1
+      ∷ block_of (Sum (false ∷ false ∷ []) Internal) 2 1 ∷ block_of (Sum (false ∷ false ∷ []) Internal) 2 1 ∷ block_of (Sum (false ∷ false ∷ []) Internal) 2 1 ∷ block_of (Sum (false ∷ false ∷ []) Internal) 2 1
       ∷ block_of (Outport 1) 1 0 ∷ block_of (Outport 2) 1 0 ∷ block_of (Outport 3) 1 0 ∷ block_of (Outport 4) 1 0 ∷ [];
   edges = edge_of 0 1 1 ∷ edge_of 1 2 1 ∷ edge_of 0 2 2 ∷ edge_of 1 3 1 ∷ edge_of 0 3 2 ∷ edge_of 1 4 1 ∷ edge_of 0 4 2 ∷ edge_of 1 5 1 ∷ edge_of 0 5 2
       ∷ edge_of 2 6 1 ∷ edge_of 3 7 1 ∷ edge_of 4 8 1 ∷ edge_of 5 9 1 ∷ [];

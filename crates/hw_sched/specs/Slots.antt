@@ -59,7 +59,7 @@ pub record OperationKind : Type 0 where
 -- the type of the second operand: a coefficient's or that of input 2
 abbrev pub right_type : Diagram → Attributes → ℕ → FullRule → FxType
 right_type diagram attributes place FullRule.NoFull = Logical
-right_type diagram attributes place (FullRule.FullSum negative) = Logical
+right_type diagram attributes place (FullRule.FullSum negative accum) = Logical
 right_type diagram attributes place (FullRule.FullScaled value param) = attributes.param_at place
 right_type diagram attributes place FullRule.FullProduct = type_into diagram attributes place 2
 right_type diagram attributes place FullRule.UnionOfTwo = Logical

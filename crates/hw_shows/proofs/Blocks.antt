@@ -215,8 +215,8 @@ module _ {diagram : Diagram} {attributes : Attributes} {rank : ℕ → ℕ} {sti
           carried_out s block b shown.block_is showing (suc k) within port element t c below early due (now refl) (elements_read diagram attributes block b.inputs b.outputs (Outport number) port element shown.port_from to below_width widths) made
       by_kind (Constant value) is ports widths below_width to parameters now at_slot made = subst (λ (v : ℤ). StoresEntry value element (attributes.type_at block 1) v) (sym (made.steady_at.at c (omega arith))) made.stored
       by_kind Ground is ports widths below_width to parameters now at_slot made = made.at c (omega arith)
-      by_kind (Sum negative) is ports widths below_width to parameters now at_slot made =
-          carried_out s block b shown.block_is showing (suc k) within port element t c below early due (now refl) (elements_read diagram attributes block b.inputs b.outputs (Sum negative) port element shown.port_from to below_width widths) made
+      by_kind (Sum negative accum) is ports widths below_width to parameters now at_slot made =
+          carried_out s block b shown.block_is showing (suc k) within port element t c below early due (now refl) (elements_read diagram attributes block b.inputs b.outputs (Sum negative accum) port element shown.port_from to below_width widths) made
       by_kind (Gain value spec) is ports widths below_width to parameters now at_slot made =
           gain (now refl) (at_slot refl) (elements_read diagram attributes block b.inputs b.outputs (Gain value spec) port element shown.port_from to below_width widths) value spec is ports.0 (timing.slot block element) refl made
       by_kind Product is ports widths below_width to parameters now at_slot made =

@@ -157,7 +157,7 @@ module _ (diagram : Diagram) (attributes : Attributes) (timing : Timing) (clocks
       IsParameter value element (attributes.type_at block 1) (waves.entry block port element)
   IsMadeAs Ground block b port element =
       AreSame clocks (waves.entry block port element) (steady (pos 0))
-  IsMadeAs (Sum negative) block b port element = IsCarriedOut block b port element
+  IsMadeAs (Sum negative accum) block b port element = IsCarriedOut block b port element
   IsMadeAs (Gain value param) block b port element =
       IsScaled block b port element value (timing.slot block element)
   IsMadeAs Product block b port element =

@@ -19,7 +19,7 @@ use Rattle.mdl_build.specs.declared.settings.Settings.{Settings}
 use Rattle.mdl_build.specs.Blocks.{AreRead, HasSettings, is_single}
 use Rattle.mdl_build.specs.Library.{ParameterRow, parameters_of}
 use Rattle.mdl_build.specs.Lookup.{text_of}
-use Rattle.mdl_build.specs.Settings.{ReadsAs, IsTypeOr, IsTypeOrFirst, IsGivenType, IsCoefficient, IsListOrEmpty, IsPartsText, IsOperands, unset, with_setting}
+use Rattle.mdl_build.specs.Settings.{ReadsAs, IsTypeOr, IsTypeOrFirst, IsGivenType, IsCoefficient, IsChosen, IsListOrEmpty, IsPartsText, IsOperands, unset, with_setting}
 use Rattle.mdl_build.proofs.Found.{differ}
 use Rattle.std.proofs.lemmas.Option.{same_Some}
 
@@ -50,6 +50,7 @@ IsClear Reader.TypeOrAuto default = IsNoType default
 IsClear Reader.TypeOrFirst default = AreWords (codes "Inherit: Same as first input") default
 IsClear Reader.TypeOrInput default = AreWords (codes "Inherit: Same as input") default
 IsClear Reader.CoefficientType default = AreWords (codes "Inherit: Same as input") default
+IsClear Reader.AccumulatorType default = AreWords (codes "Inherit: Same as first input") default
 IsClear Reader.Type default = ⊤
 IsClear Reader.Truth default = ⊤
 IsClear Reader.SampleTime default = ⊤
@@ -100,7 +101,7 @@ clear Outport = (tt, (auto_none, (tt, (tt, (tt, tt)))))
 clear Constant = (tt, (from_value_none, (tt, tt)))
 clear Ground = tt
 clear Terminator = tt
-clear Sum = (tt, (tt, (or_first, (tt, (tt, (tt, tt))))))
+clear Sum = (tt, (or_first, (or_first, (tt, (tt, (tt, tt))))))
 clear Gain = (tt, (or_input, (tt, (or_input, (tt, (tt, (tt, tt)))))))
 clear Product = (tt, (tt, (or_first, (tt, (tt, (tt, tt))))))
 clear UnitDelay = (tt, (tt, tt))
@@ -145,20 +146,23 @@ module _ (values : ValuesAreOne) where
   one_or_first first default text are one other (inr is) (inl too) = absurd (not_first first default text one are too.text_is is)
   one_or_first first default text are one other (inr is) (inr too) = one_type_or default Internal text are.default_none one other is too
 
-  one_coefficient : (default text : List ℕ) → AreWords (codes "Inherit: Same as input") default → (one other : TypeSpec) → IsCoefficient default text one → IsCoefficient default text other → one ≡ other
-  one_coefficient default text are (Fixed one) (Fixed other) is too = ap Fixed (values.types text one other is too)
-  one_coefficient default text are (Fixed one) Internal is too = absurd (are.default_none one (subst (λ (t : List ℕ). IsTypeText t one) too is))
-  one_coefficient default text are (Fixed one) SameFirst is too = absurd (are.first_none one (subst (λ (t : List ℕ). IsTypeText t one) too is))
-  one_coefficient default text are (Fixed one) Auto is too = absurd too
-  one_coefficient default text are Internal (Fixed other) is too = absurd (are.default_none other (subst (λ (t : List ℕ). IsTypeText t other) is too))
-  one_coefficient default text are Internal Internal is too = refl
-  one_coefficient default text are Internal SameFirst is too = absurd (are.apart (sym is ∙ too))
-  one_coefficient default text are Internal Auto is too = absurd too
-  one_coefficient default text are SameFirst (Fixed other) is too = absurd (are.first_none other (subst (λ (t : List ℕ). IsTypeText t other) is too))
-  one_coefficient default text are SameFirst Internal is too = absurd (are.apart (sym too ∙ is))
-  one_coefficient default text are SameFirst SameFirst is too = refl
-  one_coefficient default text are SameFirst Auto is too = absurd too
-  one_coefficient default text are Auto other is too = absurd is
+  one_coefficient : (default same text : List ℕ) → AreWords same default → (one other : TypeSpec) → IsCoefficient default same text one → IsCoefficient default same text other → one ≡ other
+  one_coefficient default same text are (Fixed one) (Fixed other) is too = ap Fixed (values.types text one other is too)
+  one_coefficient default same text are (Fixed one) Internal is too = absurd (are.default_none one (subst (λ (t : List ℕ). IsTypeText t one) too is))
+  one_coefficient default same text are (Fixed one) SameFirst is too = absurd (are.first_none one (subst (λ (t : List ℕ). IsTypeText t one) too is))
+  one_coefficient default same text are (Fixed one) Auto is too = absurd too
+  one_coefficient default same text are Internal (Fixed other) is too = absurd (are.default_none other (subst (λ (t : List ℕ). IsTypeText t other) is too))
+  one_coefficient default same text are Internal Internal is too = refl
+  one_coefficient default same text are Internal SameFirst is too = absurd (are.apart (sym is ∙ too))
+  one_coefficient default same text are Internal Auto is too = absurd too
+  one_coefficient default same text are SameFirst (Fixed other) is too = absurd (are.first_none other (subst (λ (t : List ℕ). IsTypeText t other) is too))
+  one_coefficient default same text are SameFirst Internal is too = absurd (are.apart (sym too ∙ is))
+  one_coefficient default same text are SameFirst SameFirst is too = refl
+  one_coefficient default same text are SameFirst Auto is too = absurd too
+  one_coefficient default same text are Auto other is too = absurd is
+
+  one_chosen : (default same text : List ℕ) → AreWords same default → (one other : Setting) → IsChosen default same text one → IsChosen default same text other → one ≡ other
+  one_chosen default same text are one other is too = is.2 ∙ ap Setting.Coefficient (one_coefficient default same text are is.0 too.0 is.1 too.1) ∙ sym too.2
 
   one_or_empty : (text : List ℕ) (one other : List Decimal) → IsListOrEmpty text one → IsListOrEmpty text other → one ≡ other
   one_or_empty text one other (inl is) (inl too) = is.1 ∙ sym too.1
@@ -189,7 +193,8 @@ module _ (values : ValuesAreOne) where
   reads_one single Reader.TypeOrAuto default text here one other is too = one_type_or default Auto text here one other is too
   reads_one single Reader.TypeOrFirst default text here one other is too = one_or_first (codes "Inherit: Same as first input") default text here one other is too
   reads_one single Reader.TypeOrInput default text here one other is too = one_or_first (codes "Inherit: Same as input") default text here one other is too
-  reads_one single Reader.CoefficientType default text here one other is too = is.2 ∙ ap Setting.Coefficient (one_coefficient default text here is.0 too.0 is.1 too.1) ∙ sym too.2
+  reads_one single Reader.CoefficientType default text here one other is too = one_chosen default (codes "Inherit: Same as input") text here one other is too
+  reads_one single Reader.AccumulatorType default text here one other is too = one_chosen default (codes "Inherit: Same as first input") text here one other is too
   reads_one single Reader.Type default text here one other is too = one_given text one other is too
   reads_one single Reader.Truth default text here one other is too = is.1 ∙ sym too.1
   reads_one single Reader.SampleTime default text here one other is too = is.2 ∙ ap Setting.Period (values.sample_times text is.0 too.0 is.1 too.1) ∙ sym too.2

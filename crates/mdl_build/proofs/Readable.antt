@@ -26,10 +26,12 @@ readable_Constant items place standing settings h =
 
 pub readable_Sum : (items : List Item) (place : ℕ) (standing : Standing) (settings : Settings) → HasSettings items Sum place settings → HasReadable (part_of standing Sum settings)
 readable_Sum items place standing settings h =
+    let p1 = h.2.1 in
     let r2 = choice_of _ _ _ _ h.2.2.1 in
     let p5 = h.2.2.2.2.2.1 in
-    rw (h.2.2.2.2.2.2, h.1.2, h.2.1.1, r2.3, h.2.2.2.1.2, h.2.2.2.2.1.2, p5.2)
-    (record { ports = (refl, refl); parameters = signs_size _ h.1.0 h.1.1; types = r2.2; result = r2.1; rounding = tt; period = may_declare _ p5.0 p5.1 })
+    let a = coefficient_of (codes "Inherit: Inherit via internal rule") (codes "Inherit: Same as first input") (text_of items Sum place (row (codes "AccumDataTypeStr") (codes "Inherit: Inherit via internal rule") Reader.AccumulatorType)) p1.0 p1.1 in
+    rw (h.2.2.2.2.2.2, h.1.2, p1.2, r2.3, h.2.2.2.1.2, h.2.2.2.2.1.2, p5.2)
+    (record { ports = (refl, refl); parameters = (signs_size _ h.1.0 h.1.1, a.0, a.1); types = r2.2; result = r2.1; rounding = tt; period = may_declare _ p5.0 p5.1 })
 
 pub readable_Gain : (items : List Item) (place : ℕ) (standing : Standing) (settings : Settings) → HasSettings items Gain place settings → HasReadable (part_of standing Gain settings)
 readable_Gain items place standing settings h =
@@ -37,7 +39,7 @@ readable_Gain items place standing settings h =
     let p1 = h.2.1 in
     let r3 = choice_of _ _ _ _ h.2.2.2.1 in
     let p6 = h.2.2.2.2.2.2.1 in
-    let c = coefficient_of (codes "Inherit: Inherit via internal rule") (text_of items Gain place (row (codes "ParamDataTypeStr") (codes "Inherit: Inherit via internal rule") Reader.CoefficientType)) p1.0 p1.1 in
+    let c = coefficient_of (codes "Inherit: Inherit via internal rule") (codes "Inherit: Same as input") (text_of items Gain place (row (codes "ParamDataTypeStr") (codes "Inherit: Inherit via internal rule") Reader.CoefficientType)) p1.0 p1.1 in
     rw (h.2.2.2.2.2.2.2, p0.2, p1.2, h.2.2.1.1, r3.3, h.2.2.2.2.1.2, h.2.2.2.2.2.1.2, p6.2)
     (record { ports = (refl, refl); parameters = (p0.1.size, c.0, c.1); types = r3.2; result = r3.1; rounding = tt; period = may_declare _ p6.0 p6.1 })
 

@@ -52,11 +52,11 @@ choice_of default first text setting read = elim read [
   | inr other ↦ elim other [ inl internal ↦ (Internal, tt, tt, internal.setting_is) | inr given ↦ (Fixed given.0, tt, type_valid text given.0 given.1, given.2) ]
 ]
 
-pub coefficient_of : (default text : List ℕ) (spec : TypeSpec) → IsCoefficient default text spec → IsChoice spec × IsSpec spec
-coefficient_of default text (Fixed type) read = (tt, type_valid text type read)
-coefficient_of default text Internal read = (tt, tt)
-coefficient_of default text SameFirst read = (tt, tt)
-coefficient_of default text Auto read = absurd read
+pub coefficient_of : (default same text : List ℕ) (spec : TypeSpec) → IsCoefficient default same text spec → IsChoice spec × IsSpec spec
+coefficient_of default same text (Fixed type) read = (tt, type_valid text type read)
+coefficient_of default same text Internal read = (tt, tt)
+coefficient_of default same text SameFirst read = (tt, tt)
+coefficient_of default same text Auto read = absurd read
 
 -- periods
 pub period_above : (text : List ℕ) (period : Decimal) → IsPeriodText text period → IsPeriod period

@@ -96,7 +96,8 @@ type_row Ground = type_as 3 (codes "Ground") []
 type_row Terminator = type_as 4 (codes "Terminator") []
 type_row Sum = type_as 5 (codes "Sum") (
     row (codes "Inputs") (codes "++") Reader.Signs ∷
-    fixed (codes "AccumDataTypeStr") (codes "Inherit: Inherit via internal rule") ∷
+    row (codes "AccumDataTypeStr")
+    (codes "Inherit: Inherit via internal rule") Reader.AccumulatorType ∷
     type_or_first ∷ settling
     )
 type_row Gain = type_as 6 (codes "Gain") (

@@ -54,7 +54,8 @@ part_of standing BlockType.Ground settings = Part.Plain (block_with settings.sai
 part_of standing BlockType.Terminator settings =
     Part.Plain (block_with settings.said Kind.Terminator 1 0)
 part_of standing BlockType.Sum settings =
-    Part.Plain (block_with settings.said (Kind.Sum settings.signs) settings.said.number 1)
+    Part.Plain (block_with settings.said (Kind.Sum settings.signs settings.said.coefficient)
+    settings.said.number 1)
 part_of standing BlockType.Gain settings =
     Part.Plain (block_with settings.said (Kind.Gain settings.list settings.said.coefficient) 1 1)
 part_of standing BlockType.Product settings = Part.Plain (block_with settings.said Kind.Product 2 1)

@@ -96,12 +96,19 @@ IsTypeOr word choice text setting = IsChoiceWord word choice text setting ⊎ Is
 abbrev pub IsTypeOrFirst : List ℕ → List ℕ → List ℕ → Setting → Type 0
 IsTypeOrFirst default first text setting = IsChoiceWord first SameFirst text setting ⊎ IsTypeOr default Internal text setting
 
--- how the type of a coefficient is chosen
-abbrev pub IsCoefficient : List ℕ → List ℕ → TypeSpec → Type 0
-IsCoefficient default text (Fixed type) = IsTypeText text type
-IsCoefficient default text Internal = text ≡ default
-IsCoefficient default text SameFirst = text ≡ codes "Inherit: Same as input"
-IsCoefficient default text Auto = ⊥
+-- how the type of a coefficient or of an accumulator is chosen, where this word takes it of the
+-- first input
+abbrev pub IsCoefficient : List ℕ → List ℕ → List ℕ → TypeSpec → Type 0
+IsCoefficient default same text (Fixed type) = IsTypeText text type
+IsCoefficient default same text Internal = text ≡ default
+IsCoefficient default same text SameFirst = text ≡ same
+IsCoefficient default same text Auto = ⊥
+
+-- the same as a setting
+abbrev pub IsChosen : List ℕ → List ℕ → List ℕ → Setting → Type 0
+IsChosen default same text setting =
+    (spec : TypeSpec) × IsCoefficient default same text spec
+    × (setting ≡ Setting.Coefficient spec)
 
 -- a list, or `[]`, which is 0
 abbrev pub IsListOrEmpty : List ℕ → List Decimal → Type 0
@@ -135,7 +142,9 @@ ReadsAs single Reader.TypeOrAuto default text setting = IsTypeOr default Auto te
 ReadsAs single Reader.TypeOrFirst default text setting = IsTypeOrFirst default (codes "Inherit: Same as first input") text setting
 ReadsAs single Reader.TypeOrInput default text setting = IsTypeOrFirst default (codes "Inherit: Same as input") text setting
 ReadsAs single Reader.CoefficientType default text setting =
-    (spec : TypeSpec) × IsCoefficient default text spec × (setting ≡ Setting.Coefficient spec)
+    IsChosen default (codes "Inherit: Same as input") text setting
+ReadsAs single Reader.AccumulatorType default text setting =
+    IsChosen default (codes "Inherit: Same as first input") text setting
 ReadsAs single Reader.Type default text setting = IsGivenType text setting
 ReadsAs single Reader.Truth default text setting = IsTruth default text × (setting ≡ Setting.Unsaid)
 ReadsAs single Reader.SampleTime default text setting =

@@ -52,6 +52,9 @@ pub enum Reader {
     TypeOrInput,
     /// The same, for a coefficient.
     CoefficientType,
+    /// A type, the default, which is the internal rule, or `Inherit: Same as first input`, for an
+    /// accumulator.
+    AccumulatorType,
     /// A type alone.
     Type,
     /// The default, or a text that begins with `Inherit: Logical`; both are `boolean`.
@@ -164,7 +167,7 @@ const SUM: &[Parameter] = &[
     Parameter(
         "AccumDataTypeStr",
         "Inherit: Inherit via internal rule",
-        Reader::Default,
+        Reader::AccumulatorType,
     ),
     TYPE_OR_FIRST,
     ROUNDING,

@@ -84,10 +84,10 @@ fn constant(value: Decimals) -> Kind
 }
 
 /// A sum, of which these inputs are subtracted.
-fn sum(negative: Flags) -> Kind
-    ensures { result ≡ Kind.Sum negative }
+fn sum(negative: Flags, accum: TypeSpec) -> Kind
+    ensures { result ≡ Kind.Sum negative accum }
 {
-    Kind::Sum { negative }
+    Kind::Sum { negative, accum }
 }
 
 /// A list of all inputs.
@@ -178,7 +178,10 @@ pub fn part_of(
         BlockType::Constant => plain(said, constant(settings.take_list(alloc)), 0, 1),
         BlockType::Ground => plain(said, Kind::Ground, 0, 1),
         BlockType::Terminator => plain(said, Kind::Terminator, 1, 0),
-        BlockType::Sum => plain(said, sum(settings.take_signs(alloc)), said.number, 1),
+        BlockType::Sum => {
+            let negative = settings.take_signs(alloc);
+            plain(said, sum(negative, said.coefficient), said.number, 1)
+        }
         BlockType::Gain => {
             let value = settings.take_list(alloc);
             plain(said, gain(value, said.coefficient), 1, 1)

@@ -2,7 +2,7 @@
 ghost use Rattle.std.specs.Prelude.{true, false, []};
 ghost use Rattle.mdl_values.specs.Reads.{Finds};
 ghost use Rattle.mdl_build.specs.declared.library.Reader.{Reader};
-ghost use Rattle.mdl_build.specs.Settings.{ReadsAs, IsTypeOr, IsTypeOrFirst};
+ghost use Rattle.mdl_build.specs.Settings.{IsChosen, IsTypeOr, IsTypeOrFirst, ReadsAs};
 
 use crate::settings::Setting;
 use fx_type::TypeSpec;
@@ -61,14 +61,14 @@ pub fn type_or_first(text: &[u8], default: &[u8], first: &[u8]) -> Option<Settin
     }
 }
 
-/// How the type of a coefficient is chosen.
-pub fn coefficient(text: &[u8], default: &[u8]) -> Option<Setting>
-    ensures { Finds (ReadsAs false Reader.CoefficientType default.now text.now) result }
+/// How the type of a coefficient or of an accumulator is chosen.
+pub fn coefficient(text: &[u8], default: &[u8], same: &[u8]) -> Option<Setting>
+    ensures { Finds (IsChosen default.now same.now text.now) result }
 {
     if text == default {
         return Some(Setting::Coefficient(TypeSpec::Internal));
     }
-    if text == b"Inherit: Same as input".as_slice() {
+    if text == same {
         return Some(Setting::Coefficient(TypeSpec::SameFirst));
     }
     match read_type(text) {

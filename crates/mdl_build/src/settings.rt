@@ -18,7 +18,7 @@ pub enum Setting {
     Width(u32),
     /// How the type of its output is chosen.
     Result(TypeSpec),
-    /// How the type of its coefficient is chosen.
+    /// How the type of its coefficient or of its accumulator is chosen.
     Coefficient(TypeSpec),
     /// How its period is chosen.
     Period(PeriodSpec),
@@ -54,7 +54,7 @@ pub struct Said {
     pub width: u32,
     /// How the type of its output is chosen.
     pub result: TypeSpec,
-    /// How the type of its coefficient is chosen.
+    /// How the type of its coefficient or of its accumulator is chosen.
     pub coefficient: TypeSpec,
     /// How its period is chosen.
     pub period: PeriodSpec,

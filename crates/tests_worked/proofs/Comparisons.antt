@@ -1,5 +1,5 @@
 -- Relations, criteria, gates and the ends of types, each below, at and above its bound.
-use Rattle.std.proofs.Common.{ℤ, pos, negsuc, Bool, true, false, List, [], ◌∷◌, refl, arith}
+use Rattle.std.proofs.Common.{ℤ, pos, negsuc, Bool, true, false, None, List, [], ◌∷◌, refl, arith}
 use Rattle.std.proofs.Math.Dec.{T, lit≤}
 use Rattle.std.proofs.lemmas.Int.{ints}
 use lib.Signed.{le_z, le_z_yes, lt_z_yes}
@@ -120,10 +120,10 @@ negated : Gives (Logic Not) (int8 ∷ []) Logical false (pos 0 ∷ []) (pos 1) �
 negated = (refl, refl)
 
 -- ---- how many inputs
-several : HasArity Sum 1 × HasArity Sum 32 × HasArity (Logic And) 2 × HasArity (Logic Nxor) 32 × HasArity (Logic Not) 1
+several : HasArity (Sum None) 1 × HasArity (Sum None) 32 × HasArity (Logic And) 2 × HasArity (Logic Nxor) 32 × HasArity (Logic Not) 1
 several = ((lit≤ tt, lit≤ tt), (lit≤ tt, lit≤ tt), (lit≤ tt, lit≤ tt), (lit≤ tt, lit≤ tt), refl)
 
-not_so_many : (¬ HasArity Sum 0) × (¬ HasArity Sum 33) × (¬ HasArity (Logic Or) 1) × (¬ HasArity (Logic Xor) 33) × (¬ HasArity (Logic Not) 2)
+not_so_many : (¬ HasArity (Sum None) 0) × (¬ HasArity (Sum None) 33) × (¬ HasArity (Logic Or) 1) × (¬ HasArity (Logic Xor) 33) × (¬ HasArity (Logic Not) 2)
 not_so_many = (
   λ has. absurd (omega (arith, has.0)),
   λ has. absurd (omega (arith, has.1)),

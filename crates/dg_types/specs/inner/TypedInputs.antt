@@ -67,8 +67,9 @@ is_valid_spec Auto = true
 -- a Sum has 1 to 32 terms, one for each input, and a Gain's coefficients a valid type
 abbrev pub is_full_ready : FullRule → ℕ → Bool
 is_full_ready FullRule.NoFull inputs = true
-is_full_ready (FullRule.FullSum negative) inputs =
-    (length negative == inputs) && (nat_le 1 (length negative) && nat_le (length negative) 32)
+is_full_ready (FullRule.FullSum negative accum) inputs =
+    (length negative == inputs) && (nat_le 1 (length negative) && (nat_le (length negative) 32
+    && is_valid_spec accum))
 is_full_ready (FullRule.FullScaled value param) inputs = is_valid_spec param
 is_full_ready FullRule.FullProduct inputs = true
 is_full_ready FullRule.UnionOfTwo inputs = true

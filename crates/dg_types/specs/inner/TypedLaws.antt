@@ -1,6 +1,6 @@
 -- The type that a block takes hangs on its sources alone, and is valid.
 use Rattle.std.proofs.Common.{◌≡◌, ℕ, zero, suc, ◌+◌, ◌<◌, Bool, true, false, cond, List, [], ◌∷◌, length, map, All, Some, get_or, ℤ, pos, negsuc, ◌+ℤ◌, refl, sym, ap, ◌∙◌, arith, inl, inr}
-use Rattle.std.specs.Prelude.{slice_get, unwrap_or, Option, None, ◌&&◌, ◌||◌, nat_le, int_le, zip}
+use Rattle.std.specs.Prelude.{slice_get, unwrap_or, Option, None, ◌&&◌, ◌||◌, ◌==◌, nat_le, int_le, zip}
 use Rattle.std.proofs.lemmas.Bool.{and_parts, leb-true, cases_lt}
 use Rattle.std.proofs.lemmas.Int.{ints}
 use Rattle.std.proofs.lemmas.List.{get_or_past}
@@ -11,6 +11,7 @@ use Rattle.fx_type.specs.declared.spec.TypeSpec.{TypeSpec}
 use Rattle.fx_type.specs.declared.spec.TypeSpec.TheVariants.{Fixed, Internal, SameFirst, Auto}
 use Rattle.fx_type.specs.declared.decimal.Decimal.{Decimal}
 use Rattle.fx_type.specs.FxType.{IsType, is_signed, width_of, frac_of}
+use Rattle.fx_type.specs.FullType.{Terms}
 use Rattle.fx_type.specs.FullTypeOf.{is_word, full_sum_of, full_product_of, union_of}
 use Rattle.dg_model.specs.declared.kind.Kind.{Kind}
 use Rattle.dg_model.specs.declared.kind.Kind.TheVariants.{Ground}
@@ -23,7 +24,7 @@ use Rattle.dg_waves.specs.inner.Waves.{is_in}
 use Rattle.fx_type.specs.declared.kind.FxType.{FxType}
 use Rattle.dg_model.specs.declared.diagram.Block.{Block}
 use Rattle.dg_model.specs.Periods.{known_or, known_at}
-use Rattle.dg_model.specs.TypeRounds.{Types, with_known, all_known, type_of_next, explicit_type, specified_type, full_type, own_type}
+use Rattle.dg_model.specs.TypeRounds.{Types, with_known, all_known, type_of_next, explicit_type, specified_type, stepped, stepped_first, sum_named, full_type, internal_type, own_type}
 use Rattle.dg_types.specs.declared.linked.Source.{Source}
 use Rattle.dg_types.specs.declared.linked.Form.{Form}
 use Rattle.dg_types.specs.inner.Linked.{AreLinked}
@@ -151,13 +152,37 @@ terms_valid (n ∷ signs) (x ∷ xs) valid zero d inside = valid 0 x (omega arit
 terms_valid (n ∷ signs) (x ∷ xs) valid (suc k) d inside =
     terms_valid signs xs (λ j e i. valid (suc j) e (omega arith)) k d (omega arith)
 
-sum_valid : FullTypesAreValid → (negative : List Bool) (o : Option (List FxType)) → AllValid o
-    → IsKnownValid (with_known o (λ known. full_sum_of (zip negative known)))
+-- an accumulator's type is valid where each step's is
+kept_valid : (o : Option FxType) (accum : Option FxType) → IsKnownValid accum
+    → IsKnownValid (with_known o (λ full. accum))
+kept_valid None accum valid = tt
+kept_valid (Some full) accum valid = valid
+
+stepped_valid : (accum : FxType) (terms : Terms) → IsType accum → IsKnownValid (stepped accum terms)
+stepped_valid accum [] valid = valid
+stepped_valid accum (term ∷ terms) valid =
+    kept_valid (full_sum_of ((false, accum) ∷ term ∷ [])) (stepped accum terms)
+    (stepped_valid accum terms valid)
+
+first_valid : (terms : Terms) → All (λ term. IsType term.1) terms → IsKnownValid (stepped_first terms)
+first_valid [] valid = tt
+first_valid (term ∷ terms) valid = stepped_valid term.1 (term ∷ terms) (valid 0 term (omega arith))
+
+named_by : FullTypesAreValid → (accum : TypeSpec) → IsKnownValid (explicit_type accum) → (terms : Terms)
+    → All (λ term. IsType term.1) terms → IsKnownValid (sum_named accum terms)
+named_by full (Fixed type) is terms valid = stepped_valid type terms is
+named_by full Internal is terms valid =
+    given (full_sum_of terms) (λ type e. full.sums terms type valid e)
+named_by full SameFirst is terms valid = first_valid terms valid
+named_by full Auto is terms valid = tt
+
+named_valid : FullTypesAreValid → (accum : TypeSpec) → IsKnownValid (explicit_type accum)
+    → (negative : List Bool) (o : Option (List FxType)) → AllValid o
+    → IsKnownValid (with_known o (λ known. sum_named accum (zip negative known)))
 unfolding AllValid
-sum_valid full negative None valid = tt
-sum_valid full negative (Some types) valid =
-    given (full_sum_of (zip negative types))
-    (λ type e. full.sums (zip negative types) type (terms_valid negative types valid) e)
+named_valid full accum is negative None valid = tt
+named_valid full accum is negative (Some types) valid =
+    named_by full accum is (zip negative types) (terms_valid negative types valid)
 
 product_test : (test : Bool) (type : FxType) → test ≡ is_valid_type type
     → IsKnownValid (cond test (Some type) None)
@@ -194,18 +219,42 @@ gain_valid : (value : List Decimal) (param : TypeSpec) (o : Option FxType)
 gain_valid value param None = tt
 gain_valid value param (Some input) = scaled_valid input (param_type_of value param input)
 
-full_valid : FullTypesAreValid → (rule : FullRule) (types : Types) → All IsKnownValid types
-    → IsKnownValid (full_type rule types)
-full_valid full FullRule.NoFull types valid = tt
-full_valid full (FullRule.FullSum negative) types valid =
-    sum_valid full negative (all_known types) (all_valid types valid)
-full_valid full (FullRule.FullScaled value param) types valid =
+-- the type that an accumulator writes out is valid
+IsWritten : FullRule → Type 0
+IsWritten FullRule.NoFull = Unit {0}
+IsWritten (FullRule.FullSum negative accum) = IsKnownValid (explicit_type accum)
+IsWritten (FullRule.FullScaled value param) = Unit {0}
+IsWritten FullRule.FullProduct = Unit {0}
+IsWritten FullRule.UnionOfTwo = Unit {0}
+IsWritten FullRule.UnionOfEnds = Unit {0}
+
+written : (rule : FullRule) (inputs : ℕ) → is_full_ready rule inputs ≡ true → IsWritten rule
+unfolding IsWritten
+written FullRule.NoFull inputs ready = tt
+written (FullRule.FullSum negative accum) inputs ready =
+    let few = nat_le (length negative) 32 && is_valid_spec accum in
+    let counted = nat_le 1 (length negative) && few in
+    spec_valid accum (and_parts (nat_le (length negative) 32) (is_valid_spec accum)
+    (and_parts (nat_le 1 (length negative)) few
+    (and_parts (length negative == inputs) counted ready).1).1).1
+written (FullRule.FullScaled value param) inputs ready = tt
+written FullRule.FullProduct inputs ready = tt
+written FullRule.UnionOfTwo inputs ready = tt
+written FullRule.UnionOfEnds inputs ready = tt
+
+full_valid : FullTypesAreValid → (rule : FullRule) → IsWritten rule → (types : Types)
+    → All IsKnownValid types → IsKnownValid (full_type rule types)
+unfolding IsWritten
+full_valid full FullRule.NoFull is types valid = tt
+full_valid full (FullRule.FullSum negative accum) is types valid =
+    named_valid full accum is negative (all_known types) (all_valid types valid)
+full_valid full (FullRule.FullScaled value param) is types valid =
     gain_valid value param (known_at types 0)
-full_valid full FullRule.FullProduct types valid = pair_valid (known_at types 0) (known_at types 1)
-full_valid full FullRule.UnionOfTwo types valid =
+full_valid full FullRule.FullProduct is types valid = pair_valid (known_at types 0) (known_at types 1)
+full_valid full FullRule.UnionOfTwo is types valid =
     union_valid full (known_at types 0) (known_at types 1) (known_valid types valid 0)
     (known_valid types valid 1)
-full_valid full FullRule.UnionOfEnds types valid =
+full_valid full FullRule.UnionOfEnds is types valid =
     union_valid full (known_at types 0) (known_at types 2) (known_valid types valid 0)
     (known_valid types valid 2)
 
@@ -235,15 +284,34 @@ by_spec Internal internal first own e i f o = i
 by_spec SameFirst internal first own e i f o = f
 by_spec Auto internal first own e i f o = o
 
+internal_valid : FullTypesAreValid → (rule : FullRule) → IsWritten rule → (types : Types)
+    → All IsKnownValid types → IsKnownValid (internal_type rule types)
+unfolding IsWritten
+internal_valid full FullRule.NoFull is types valid = tt
+internal_valid full (FullRule.FullSum negative accum) is types valid =
+    by_spec accum (full_type (FullRule.FullSum negative accum) types) (known_at types 0) None is
+    (named_valid full accum is negative (all_known types) (all_valid types valid))
+    (known_valid types valid 0) tt
+internal_valid full (FullRule.FullScaled value param) is types valid =
+    full_valid full (FullRule.FullScaled value param) is types valid
+internal_valid full FullRule.FullProduct is types valid =
+    full_valid full FullRule.FullProduct is types valid
+internal_valid full FullRule.UnionOfTwo is types valid =
+    full_valid full FullRule.UnionOfTwo is types valid
+internal_valid full FullRule.UnionOfEnds is types valid =
+    full_valid full FullRule.UnionOfEnds is types valid
+
 next_valid : FullTypesAreValid → (o : Option Block) (types : Types)
-    → ((block : Block) → o ≡ Some block → is_valid_spec block.result ≡ true)
+    → ((block : Block) → o ≡ Some block → (is_valid_spec block.result ≡ true)
+    × IsWritten (row_of block.kind).types.full)
     → All IsKnownValid types → IsKnownValid (type_of_next o types)
 next_valid full None types ready valid = tt
 next_valid full (Some block) types ready valid =
-    by_spec block.result (full_type (row_of block.kind).types.full types) (known_at types 0)
+    by_spec block.result (internal_type (row_of block.kind).types.full types) (known_at types 0)
     (own_type (row_of block.kind).types.own types)
-    (spec_valid block.result (ready block refl))
-    (full_valid full (row_of block.kind).types.full types valid) (known_valid types valid 0)
+    (spec_valid block.result (ready block refl).0)
+    (internal_valid full (row_of block.kind).types.full (ready block refl).1 types valid)
+    (known_valid types valid 0)
     (own_valid (row_of block.kind).types.own types (own_is block.kind) valid)
 
 or_valid : (own other : Option FxType) → IsKnownValid own → IsKnownValid other
@@ -259,7 +327,8 @@ typed_stays blocks sources values block ready full valid =
     (type_of_next (slice_get blocks block) (source_types values (get_or sources block [])))
     (known_valid values valid block)
     (next_valid full (slice_get blocks block) (source_types values (get_or sources block []))
-    (λ b at. (and_parts (is_valid_spec b.result)
+    (λ b at. let both = and_parts (is_valid_spec b.result)
     (is_full_ready (row_of b.kind).types.full (length (get_or sources block [])))
-    (ready.ready block b at)).0)
+    (ready.ready block b at) in
+    (both.0, written (row_of b.kind).types.full (length (get_or sources block [])) both.1))
     (sources_valid values (get_or sources block []) valid))

@@ -62,7 +62,7 @@ module _ (diagram : Diagram) (places : Places) (block : ℕ) (b : Block) (port e
   AreOffered (Outport number) operands = operands ≡ offered_args places block b element
   AreOffered (Constant value) operands = operands ≡ []
   AreOffered Ground operands = operands ≡ []
-  AreOffered (Sum negative) operands = operands ≡ offered_args places block b element
+  AreOffered (Sum negative accum) operands = operands ≡ offered_args places block b element
   AreOffered (Gain value param) operands = operands ≡ offered_args places block b element
   AreOffered Product operands = operands ≡ offered_args places block b element
   AreOffered (Switch criterion threshold) operands = operands ≡ offered_args places block b element
@@ -94,7 +94,7 @@ operand_types diagram attributes block b port (Outport number) =
     types_into diagram attributes block b.inputs
 operand_types diagram attributes block b port (Constant value) = []
 operand_types diagram attributes block b port Ground = []
-operand_types diagram attributes block b port (Sum negative) =
+operand_types diagram attributes block b port (Sum negative accum) =
     types_into diagram attributes block b.inputs
 operand_types diagram attributes block b port (Gain value param) =
     types_into diagram attributes block b.inputs
@@ -128,7 +128,7 @@ HasFirst diagram block element (Inport number width) first = ⊤
 HasFirst diagram block element (Outport number) first = ⊤
 HasFirst diagram block element (Constant value) first = ⊤
 HasFirst diagram block element Ground first = ⊤
-HasFirst diagram block element (Sum negative) first = ⊤
+HasFirst diagram block element (Sum negative accum) first = ⊤
 HasFirst diagram block element (Gain value param) first = ⊤
 HasFirst diagram block element Product first = ⊤
 HasFirst diagram block element (Switch criterion threshold) first = ⊤
@@ -200,7 +200,7 @@ hands_on enable driver _ = false
 -- whether a kind carries out an operation, on the element itself of each of its inputs
 abbrev pub works : Kind → Bool
 works (Outport number) = true
-works (Sum negative) = true
+works (Sum negative accum) = true
 works (Gain value param) = true
 works Product = true
 works (Switch criterion threshold) = true
@@ -282,7 +282,7 @@ module _ (diagram : Diagram) (timing : Timing) (places : Places) (closed hubs : 
   HasProductAs slot (Outport number) = ⊥
   HasProductAs slot (Constant value) = ⊥
   HasProductAs slot Ground = ⊥
-  HasProductAs slot (Sum negative) = ⊥
+  HasProductAs slot (Sum negative accum) = ⊥
   HasProductAs slot (Gain value param) =
       (coefficient : ℤ)
       × StoresEntry value element ((attributes_of diagram).param_at block) coefficient

@@ -68,7 +68,7 @@ module _ (diagram : Diagram) (offered : ℕ → ℕ → ℕ → ℕ) (before aft
   -- the second operand of an element: a coefficient, or what the second port is offered
   abbrev pub IsSecond : ℕ → ℕ → FullRule → ℕ → Type 0
   IsSecond block element FullRule.NoFull number = ⊥
-  IsSecond block element (FullRule.FullSum negative) number = ⊥
+  IsSecond block element (FullRule.FullSum negative accum) number = ⊥
   IsSecond block element (FullRule.FullScaled value spec) number =
       IsCoefficient before after value element ((attributes_of diagram).param_at block) number
   IsSecond block element FullRule.FullProduct number = number ≡ offered block 2 element

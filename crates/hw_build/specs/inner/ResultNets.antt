@@ -73,7 +73,7 @@ module _ (diagram : Diagram) (plan : Resolved) (times : Times) (places : Places)
   -- offered
   abbrev pub IsSecondNet : ℕ → ℕ → FullRule → ℕ → Type 0
   IsSecondNet block element FullRule.NoFull number = ⊥
-  IsSecondNet block element (FullRule.FullSum negative) number = ⊥
+  IsSecondNet block element (FullRule.FullSum negative accum) number = ⊥
   IsSecondNet block element (FullRule.FullScaled value spec) number =
       IsStored closed hubs now value element ((attributes_of diagram).param_at block) number
   IsSecondNet block element FullRule.FullProduct number = number ≡ places.offered block 2 element

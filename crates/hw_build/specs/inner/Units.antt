@@ -22,7 +22,7 @@ use Rattle.hw_build.specs.inner.Growth.{InLater}
 -- coefficient
 abbrev pub IsSecondOf : Diagram → Places → Rows → ℕ → ℕ → ℕ → FullRule → ℤ → Type 0
 IsSecondOf diagram places rows block element clock FullRule.NoFull v = ⊥
-IsSecondOf diagram places rows block element clock (FullRule.FullSum negative) v = ⊥
+IsSecondOf diagram places rows block element clock (FullRule.FullSum negative accum) v = ⊥
 IsSecondOf diagram places rows block element clock (FullRule.FullScaled value param) v =
     StoresEntry value element ((attributes_of diagram).param_at block) v
 IsSecondOf diagram places rows block element clock FullRule.FullProduct v =

@@ -71,10 +71,15 @@ stored_converted-requires c =
     let x = read c.args.call.now.types.now c.args.inputs.now 0 c.requires.prepared.types c.requires.values (omega (arith, one)) in
     record { from = x.0; in_range = x.1; result = c.requires.prepared.result }
 
-pub returns-in-Sum : goal.returns-in-Sum
-returns-in-Sum c =
+pub returns-in-Sum-None : goal.returns-in-Sum-None
+returns-in-Sum-None c =
     let r = to_z-of_z w128 c.sum.result (record { sfits = c.sum.type_inv }) in
     rw r c.sum.ensures
+
+pub returns-in-Sum-Some : goal.returns-in-Sum-Some
+returns-in-Sum-Some c =
+    let r = to_z-of_z w128 c.accumulated.result (record { sfits = c.accumulated.type_inv }) in
+    rw r c.accumulated.ensures
 
 pub returns-in-Gain : goal.returns-in-Gain
 returns-in-Gain c =

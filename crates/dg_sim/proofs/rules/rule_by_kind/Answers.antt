@@ -108,7 +108,7 @@ works-requires c = record {
   paired = c.requires.paired;
   worked =
       elim c.in-Sum.is [
-        | inl here ↦ ap is_worked here.1
+        | inl here ↦ ap is_worked here.2
         | inr more ↦ elim more [
           | inl here ↦ ap is_worked here.2
           | inr more ↦ elim more [

@@ -23,6 +23,9 @@ gain c = c.in-Gain.is ∙ ap (λ (list : List Decimal). Gain list c.in-Gain.para
 switch : (c : In-Switch) → c.args.site.one.now.kind ≡ Switch c.in-Switch.criterion c.list_of-list.result.now
 switch c = c.in-Switch.is ∙ ap (Switch c.in-Switch.criterion) (list_is c.args.site.one.now.kind (Switch c.in-Switch.criterion c.in-Switch.threshold) c.list_of-list.result.now c.list_of-list.ensures c.in-Switch.is)
 
+pub param-own-requires : goal.param-own-requires
+param-own-requires c = slice_get_within c.args.site.design.checked.now.diagram.blocks c.args.site.place.block c.args.site.one.now c.requires.shown.block_is
+
 pub param-param-requires : goal.param-param-requires
 param-param-requires c = slice_get_within c.args.site.design.checked.now.diagram.blocks c.args.site.place.block c.args.site.one.now c.requires.shown.block_is
 

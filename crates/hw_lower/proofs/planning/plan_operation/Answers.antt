@@ -1,4 +1,4 @@
-use Rattle.std.proofs.Common.{◌≡◌, ◌*ℤ◌, ℕ, ℤ, Bool, List, rules, length, subst, to_z, of_z, arith, refl}
+use Rattle.std.proofs.Common.{◌≡◌, ◌*ℤ◌, ℕ, ℤ, Bool, List, Some, None, rules, length, subst, to_z, of_z, arith, refl}
 use Rattle.std.specs.Int.{w128}
 use Rattle.std.proofs.lemmas.Int.{to_z-of_z}
 use Rattle.fx_type.specs.declared.kind.FxType.{FxType}
@@ -26,8 +26,17 @@ full_of signs types is has = subst (λ (o : Op). HasFullType o signs types) is h
 result_of : {op known : Op} (types : List FxType) (result : FxType) → op ≡ known → HasResultType op types result → HasResultType known types result
 result_of types result is has = subst (λ (o : Op). HasResultType o types result) is has
 
-pub returns-in-Sum : goal.returns-in-Sum
-returns-in-Sum c = plan-plain (operation_of c.args.call.now) Sum c.args.call.now.result c.in-Sum.is refl refl c.plan_sum.ensures
+pub returns-in-Sum-None : goal.returns-in-Sum-None
+returns-in-Sum-None c =
+    let is : c.args.call.now.op ≡ Sum None = search rules in
+    plan-plain (operation_of c.args.call.now) (Sum None) c.args.call.now.result is refl refl c.plan_sum.ensures
+
+pub returns-in-Sum-Some : goal.returns-in-Sum-Some
+returns-in-Sum-Some c =
+    let is : c.args.call.now.op ≡ Sum (Some c.in-Sum-Some.accum) = search rules in
+    plan-of (operation_of c.args.call.now) (Sum (Some c.in-Sum-Some.accum)) is
+    (made-plain (λ numbers. OfArguments c.args.call.now.types.now numbers (λ values. Gives (Sum (Some c.in-Sum-Some.accum)) (operation_of c.args.call.now) c.args.call.now.types.now values (numbers c.plan_accumulated.result.place))) c.plan_accumulated.ensures
+    (λ numbers p values are. subst (λ (o : Op). Gives o (operation_of c.args.call.now) c.args.call.now.types.now values (numbers c.plan_accumulated.result.place)) is (p values are)))
 
 pub returns-in-Switch : goal.returns-in-Switch
 returns-in-Switch c =
@@ -111,16 +120,18 @@ pub plan_conversion-requires-clause-can : goal.plan_conversion-requires-clause-c
 plan_conversion-requires-clause-can c = c.requires
 
 pub plan_sum-requires-clause-signs : goal.plan_sum-requires-clause-signs
-plan_sum-requires-clause-signs c = subst (λ (o : Op). HasSigns o c.args.call.now.signs.now (length c.args.call.now.types.now)) c.in-Sum.is c.requires.prepared.signs
+plan_sum-requires-clause-signs c = subst (λ (o : Op). HasSigns o c.args.call.now.signs.now (length c.args.call.now.types.now)) c.in-Sum-None.is c.requires.prepared.signs
 
 pub plan_sum-requires-clause-some : goal.plan_sum-requires-clause-some
-plan_sum-requires-clause-some c = (arity_of (length c.args.call.now.types.now) c.in-Sum.is c.requires.prepared.arity).0
+plan_sum-requires-clause-some c = (arity_of (length c.args.call.now.types.now) c.in-Sum-None.is c.requires.prepared.arity).0
 
 pub plan_sum-requires-clause-few : goal.plan_sum-requires-clause-few
-plan_sum-requires-clause-few c = (arity_of (length c.args.call.now.types.now) c.in-Sum.is c.requires.prepared.arity).1
+plan_sum-requires-clause-few c = (arity_of (length c.args.call.now.types.now) c.in-Sum-None.is c.requires.prepared.arity).1
 
 pub plan_sum-requires-clause-full : goal.plan_sum-requires-clause-full
-plan_sum-requires-clause-full c = full_of c.args.call.now.signs.now c.args.call.now.types.now c.in-Sum.is c.requires.prepared.full_type
+plan_sum-requires-clause-full c =
+    let is : c.args.call.now.op ≡ Sum None = search rules in
+    full_of {known = Sum None} c.args.call.now.signs.now c.args.call.now.types.now is c.requires.prepared.full_type
 
 pub plan_gain-requires-clause-single : goal.plan_gain-requires-clause-single
 plan_gain-requires-clause-single c = arity_of (length c.args.call.now.types.now) c.in-Gain.is c.requires.prepared.arity

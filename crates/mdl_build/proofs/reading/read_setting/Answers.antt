@@ -35,6 +35,11 @@ returns-in-CoefficientType c =
     reads_as c.args.single Reader.CoefficientType c.args.parameter.2 c.as_bytes-default.result.now c.args.parameter.1.now c.args.text.now c.coefficient.result c.in-CoefficientType.ensures
     (c.as_bytes-default.ensures.value ∙ c.default.ensures) c.coefficient.ensures
 
+pub returns-in-AccumulatorType : goal.returns-in-AccumulatorType
+returns-in-AccumulatorType c =
+    reads_as c.args.single Reader.AccumulatorType c.args.parameter.2 c.as_bytes-default.result.now c.args.parameter.1.now c.args.text.now c.coefficient-in-AccumulatorType.result c.in-AccumulatorType.ensures
+    (c.as_bytes-default.ensures.value ∙ c.default.ensures) c.coefficient-in-AccumulatorType.ensures
+
 pub returns-in-Conversion : goal.returns-in-Conversion
 returns-in-Conversion c =
     reads_as c.args.single Reader.Conversion c.args.parameter.2 c.as_bytes-default.result.now c.args.parameter.1.now c.args.text.now c.conversion.result c.in-Conversion.ensures
