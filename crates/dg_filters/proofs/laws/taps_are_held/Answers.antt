@@ -1,0 +1,5 @@
+use Rattle.dg_filters.proofs.Tapped.{taps_held}
+use Rattle.dg_filters.proofs.laws.taps_are_held.Goals as goal
+
+pub returns : goal.returns
+returns c = taps_held
