@@ -15,7 +15,7 @@ memory_line = codes "out of memory\n"
 -- the line of status 2
 abbrev pub usage_line : List ℕ
 usage_line =
-    codes "usage: check MODEL PLAN, simulate MODEL STIM, generate MODEL PLAN, replay VERILOG STIM, explore MODEL RANGE, sample NUMBER, stream MODEL PLAN\n"
+    codes "usage: check MODEL PLAN, simulate MODEL STIM, generate MODEL PLAN, replay VERILOG STIM, sample NUMBER, explore MODEL RANGE, stream MODEL PLAN\n"
 
 -- the line of status 3
 abbrev pub unread_line : List ℕ → List ℕ

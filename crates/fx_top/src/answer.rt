@@ -89,7 +89,7 @@ impl Answer<'_> {
             Answer::Usage => say(
                 err,
                 &[
-                    b"usage: check MODEL PLAN, simulate MODEL STIM, generate MODEL PLAN, replay VERILOG STIM, explore MODEL RANGE, sample NUMBER, stream MODEL PLAN\n",
+                    b"usage: check MODEL PLAN, simulate MODEL STIM, generate MODEL PLAN, replay VERILOG STIM, sample NUMBER, explore MODEL RANGE, stream MODEL PLAN\n",
                 ],
             ),
             Answer::CannotRead { file } => say(err, &[file.as_bytes(), b": cannot be read\n"]),
