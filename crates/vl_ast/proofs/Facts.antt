@@ -184,7 +184,7 @@ module _ (m : Module) (driven : undriven m ≡ None) (once : doubly m ≡ None) 
   in-port port h = Contains-append_left ports' (flat_map item_mentions m.items) (Declares (port_declared port)) (map-in (λ port. Declares (port_declared port)) m.ports port h)
 
   -- items that drive one name are one
-  later-item : (c c' : Bool) (name : List ℕ) (i j : ModItem) (cut : Cut m.items i) → Contains cut.before j
+  pub later-item : (c c' : Bool) (name : List ℕ) (i j : ModItem) (cut : Cut m.items i) → Contains cut.before j
       → Contains (item_mentions i) (Drives c name) → Contains (item_mentions j) (Drives c' name) → ⊥
   later-item c c' name i j cut h di dj =
       let inner = cut-at (item_mentions i) (Drives c name) di in

@@ -44,7 +44,7 @@ net_range : (words end : List Token) (signed : Bool) (name : List ℕ) (range : 
 net_range words end signed name range w =
     AllWritable-front range _ (AllWritable-back (signed_tokens signed) _ (AllWritable-back words _ (AllWritable-front (declaration_tokens words signed range name) end w)))
 
-written_as : (ts us : List Token) → ts ≡ us → AreWritable ts → AreWritable us
+pub written_as : (ts us : List Token) → ts ≡ us → AreWritable ts → AreWritable us
 written_as ts us e w = let P : List Token → Type 0 = λ vs. AreWritable vs in subst P e w
 
 net_item_kept : (word : List ℕ) (signed : Bool) (width : ℕ) (name : List ℕ) (range ts : List Token) → IsRange width range → ts ≡ declaration_tokens (Key word ∷ []) signed range name ++ Sign (codes ";") ∷ [] →
@@ -54,7 +54,7 @@ net_item_kept word signed width name range ts ranged is w =
     let kept = range_kept width range ranged (net_range (Key word ∷ []) (Sign (codes ";") ∷ []) signed name range v) in
     (kept.0, net_kept (Key word ∷ []) (Sign (codes ";") ∷ []) signed width name range v kept.1)
 
-item_kept : (item : ModItem) (ts : List Token) → IsItemText item ts → AreWritable ts → IsItemText item (item_tokens item) × AreWritable (item_tokens item)
+pub item_kept : (item : ModItem) (ts : List Token) → IsItemText item ts → AreWritable ts → IsItemText item (item_tokens item) × AreWritable (item_tokens item)
 item_kept (Wire signed width name) ts is w =
     let kept = net_item_kept (codes "wire") signed width name is.0 ts is.1 is.2 w in
     ((range_tokens width, kept.0, refl), kept.1)
@@ -68,7 +68,7 @@ append_nil : (ts : List Token) → ts ++ [] ≡ ts
 append_nil [] = refl
 append_nil (t ∷ ts) = ap (λ us. t ∷ us) (append_nil ts)
 
-port_kept : (port : Port) (ts : List Token) → IsPortText port ts → AreWritable ts → IsPortText port (port_tokens port) × AreWritable (port_tokens port)
+pub port_kept : (port : Port) (ts : List Token) → IsPortText port ts → AreWritable ts → IsPortText port (port_tokens port) × AreWritable (port_tokens port)
 port_kept port ts is w =
     let words = port_words port.input in
     let v = written_as ts _ is.2 w in
@@ -80,7 +80,7 @@ port_kept port ts is w =
     )
 
 -- what holds of each part of a list, where these tokens stand before each
-all_kept : {A : Type 0} (R : A → List Token → Type 0) (tokens : A → List Token) (before : List Token) → ((x : A) (ts : List Token) → R x ts → AreWritable ts → R x (tokens x) × AreWritable (tokens x)) →
+pub all_kept : {A : Type 0} (R : A → List Token → Type 0) (tokens : A → List Token) (before : List Token) → ((x : A) (ts : List Token) → R x ts → AreWritable ts → R x (tokens x) × AreWritable (tokens x)) →
     (xs : List A) (tss : List (List Token)) → AllZip R xs tss → AreWritable (flat_map (λ ts. before ++ ts) tss) → AllZip R xs (map tokens xs) × AreWritable (flat_map (λ ts. before ++ ts) (map tokens xs))
 all_kept R tokens before kept [] [] each w = (tt, tt)
 all_kept R tokens before kept [] (ts ∷ tss) each w = absurd each
@@ -91,7 +91,7 @@ all_kept R tokens before kept (x ∷ xs) (ts ∷ tss) each w =
     let more = all_kept R tokens before kept xs tss each.1 (AllWritable-back (before ++ ts) _ w) in
     ((here.0, more.0), AllWritable-append (before ++ tokens x) _ (AllWritable-append before (tokens x) (AllWritable-front before ts first) here.1) more.1)
 
-list_kept : (ports : List Port) (tss : List (List Token)) → AllZip IsPortText ports tss → AreWritable (joined comma tss) →
+pub list_kept : (ports : List Port) (tss : List (List Token)) → AllZip IsPortText ports tss → AreWritable (joined comma tss) →
     AllZip IsPortText ports (map port_tokens ports) × AreWritable (joined comma (map port_tokens ports))
 list_kept [] [] each w = (tt, tt)
 list_kept [] (ts ∷ tss) each w = absurd each
@@ -103,14 +103,14 @@ list_kept (port ∷ ports) (ts ∷ tss) each w =
 
 -- the layout
 
-item_lays : (item : ModItem) → AreWritable (item_tokens item) → (tail : List Token) (rest : List ℕ) → ((b : Bool) → Lays b tail (codes "\n" ++ rest)) →
+pub item_lays : (item : ModItem) → AreWritable (item_tokens item) → (tail : List Token) (rest : List ℕ) → ((b : Bool) → Lays b tail (codes "\n" ++ rest)) →
     (after : Bool) → Lays after (item_tokens item ++ tail) (codes "\n" ++ (item_text item ++ rest))
 item_lays (Wire signed width name) w = net_item_lays (codes "wire") signed width name w
 item_lays (Reg signed width name) w = net_item_lays (codes "reg") signed width name w
 item_lays (Assign name value) w = assign_lays name value w
 item_lays (Always name first condition value) w = always_lays name first condition value w
 
-items_lay : (items : List ModItem) → AreWritable (flat_map (λ ts. ts) (map item_tokens items)) → (tail : List Token) (rest : List ℕ) → ((b : Bool) → Lays b tail (codes "\n" ++ rest)) →
+pub items_lay : (items : List ModItem) → AreWritable (flat_map (λ ts. ts) (map item_tokens items)) → (tail : List Token) (rest : List ℕ) → ((b : Bool) → Lays b tail (codes "\n" ++ rest)) →
     (b : Bool) → Lays b (flat_map (λ ts. ts) (map item_tokens items) ++ tail) (codes "\n" ++ (flat_map item_text items ++ rest))
 items_lay [] w tail rest next b = next b
 items_lay (item ∷ items) w tail rest next b =
@@ -170,7 +170,7 @@ ports_lay (port ∷ ports) w tail rest next b =
     (port_lays port (AllWritable-front (port_tokens port) others w.1) (others ++ tail) after (ports_lay ports (AllWritable-back (port_tokens port) others w.1) tail rest next)))
     (append_assoc (codes ",\n" ++ port_text port) (flat_map (λ more. codes ",\n" ++ more) (map port_text ports)) rest) b
 
-list_lays : (ports : List Port) → ports ≢ [] → AreWritable (joined comma (map port_tokens ports)) → (tail : List Token) (rest : List ℕ) → ((b : Bool) → Lays b tail rest) →
+pub list_lays : (ports : List Port) → ports ≢ [] → AreWritable (joined comma (map port_tokens ports)) → (tail : List Token) (rest : List ℕ) → ((b : Bool) → Lays b tail rest) →
     Lays false (joined comma (map port_tokens ports) ++ tail) (codes "\n" ++ (joined (codes ",\n") (map port_text ports) ++ rest))
 list_lays [] some w tail rest next = absurd (some refl)
 list_lays (port ∷ ports) some w tail rest next =

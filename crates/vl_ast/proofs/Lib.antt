@@ -1,6 +1,9 @@
 pub mod Agree
 pub mod Alone
 pub mod Chains
+pub mod Copied
+pub mod CutLayouts
+pub mod DrivenOnce
 pub mod Facts
 mod Faults
 pub mod Forms

@@ -20,3 +20,7 @@ pub mod Windows
 pub mod Header
 pub mod Items
 pub mod Listing
+pub mod Copies
+pub mod Instances
+pub mod Drivers
+pub mod Layouts

@@ -9,9 +9,12 @@ ghost use Rattle.vl_ast.specs.declared.modules.Module.{Module};
 ghost use Rattle.vl_ast.specs.Conditions.{BreaksNone, IsAcyclic, no_reset, too_wide};
 ghost use Rattle.vl_ast.specs.Context.{Net, Operand, in_context, own_length, length_step, is_signed, sign_step};
 ghost use Rattle.vl_ast.specs.Control.{is_stallable};
+ghost use Rattle.vl_ast.specs.Copies.{MultiplicationsJoin, NameIsCopied, NameMultipliesNone};
 ghost use Rattle.vl_ast.specs.Driven.{Driven, IsEnabled, IsResetLast};
+ghost use Rattle.vl_ast.specs.Drivers.{OneDriver};
 ghost use Rattle.vl_ast.specs.Gated.{HasAllOf, IsFresh, IsOpened, gated};
 ghost use Rattle.vl_ast.specs.Grammar.{IsModuleText, Spells};
+ghost use Rattle.vl_ast.specs.Layouts.{LayoutJoins, LayoutParts, LayoutStands};
 ghost use Rattle.vl_ast.specs.Nets.{names_read};
 ghost use Rattle.vl_ast.specs.Room.{AreSame, CanBeDriven, HasRoom, HasRows, RunsDriven, StartFits};
 ghost use Rattle.vl_ast.specs.Runs.{Runs};
@@ -186,3 +189,28 @@ pub fn opened_modules()
 {
     meaning_by_layer();
 }
+
+/// A layout can be cut behind each of its tokens, and two that fit are one. Behind a key word of three
+/// bytes or more any bytes may follow.
+pub fn layouts_part()
+    ensures parts { LayoutParts }
+    ensures joins { LayoutJoins }
+    ensures stands { LayoutStands }
+{}
+
+/// In a module that breaks none of the first three conditions, each declared name that needs a driver
+/// has exactly one.
+pub fn one_driver()
+    ensures { OneDriver }
+{}
+
+/// A name that is assigned another of its width takes its bits, and no multiplication is in it.
+pub fn name_is_copied()
+    ensures copied { NameIsCopied }
+    ensures bare { NameMultipliesNone }
+{}
+
+/// The multiplications of items, and then those of more.
+pub fn multiplications_join()
+    ensures { MultiplicationsJoin }
+{}

@@ -9,10 +9,13 @@
 //! and an edge to the next), `Room` (what fits), `Conditions` (the six conditions), `Attributes`,
 //! `Control` (ports that carry no numbers), `Windows` (which rows count, and what a name shows over
 //! them), `Driven` (how a module is reset and driven), `Stalls` (rows that don't count), `Gated`
-//! (registers that stand still), `Listing` (lists that grow at their end) and `Multiplications`.
+//! (registers that stand still), `Listing` (lists that grow at their end), `Multiplications`, `Layouts`
+//! (a layout cut behind a token), `Drivers` (which item drives a name) and `Copies` (what the assignment
+//! of a name gives).
 #![tactic(auto)]
 
 mod attributes;
+mod designs;
 mod expressions;
 mod laws;
 mod making;
@@ -21,11 +24,13 @@ mod operators;
 mod words;
 
 pub use attributes::{clocks_of, cycles_of, latency_of, lateness_of, period_of, step_of};
+pub use designs::{Instance, Instances, Link, Links, Modules};
 pub use expressions::{BinOp, Expr, Exprs, ShiftOp, Sized, UnOp};
 pub use laws::{
     agreement, can_be_driven, counted_rows_run, counted_rows_show, gated_modules, gated_rows_run,
-    meaning_by_layer, numbers_are_writable, one_run, opened_modules, parts_run, rows_are_clocks,
-    sound_modules_spell, spelling_spells, steps_run, tokens_spell,
+    layouts_part, meaning_by_layer, multiplications_join, name_is_copied, numbers_are_writable,
+    one_driver, one_run, opened_modules, parts_run, rows_are_clocks, sound_modules_spell,
+    spelling_spells, steps_run, tokens_spell,
 };
 pub use making::{
     Listing, Made, begin, binary, binary_of, both, choose, choose_of, concat, finish, in_box,
