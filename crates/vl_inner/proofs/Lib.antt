@@ -3,3 +3,4 @@ pub mod Meanings
 pub mod Products
 pub mod Reading
 pub mod Shallow
+mod Same

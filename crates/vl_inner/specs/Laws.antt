@@ -46,3 +46,7 @@ RenamedMultiplies =
     (rename : Renaming) (nets other : List ℕ → Net) (i : ModItem)
     → length (item_multiplications nets (renamed_item rename i))
     ≡ length (item_multiplications other i)
+
+-- an item over its own names is itself
+abbrev pub RenamedIsSame : Type 0
+RenamedIsSame = (i : ModItem) → renamed_item (λ name. name) i ≡ i

@@ -1,5 +1,5 @@
 //! Laws of expressions and items over other names. The functions do nothing.
-ghost use Rattle.vl_inner.specs.Laws.{RenamedIsOfGrammar, RenamedMeans, RenamedMultiplies, RenamedReads};
+ghost use Rattle.vl_inner.specs.Laws.{RenamedIsOfGrammar, RenamedIsSame, RenamedMeans, RenamedMultiplies, RenamedReads};
 
 /// An expression over other names means what it means over its own, where the same is declared of both.
 pub fn renamed_means()
@@ -19,4 +19,9 @@ pub fn renamed_is_of_grammar()
 /// It has as many multiplications.
 pub fn renamed_multiplies()
     ensures { RenamedMultiplies }
+{}
+
+/// Over its own names it is itself.
+pub fn renamed_is_same()
+    ensures { RenamedIsSame }
 {}

@@ -1,12 +1,12 @@
-//! Items of a module over the names that its own have in another.
+//! Items of a module over the names that its own have elsewhere.
 ghost use Rattle.std.specs.Prelude.{◌≡◌, ◌∷◌, [], ℕ, List, map, IfOk};
 ghost use Rattle.vl_ast.specs.declared.expressions.Expr.{Expr};
 ghost use Rattle.vl_ast.specs.declared.expressions.Expr.TheViews.{out-Expr};
 ghost use Rattle.vl_ast.specs.Listing.{Holds, Lists};
-ghost use Rattle.vl_inner.specs.Names.{inner_name};
+ghost use Rattle.vl_inner.specs.Names.{name_by};
 ghost use Rattle.vl_inner.specs.Renamed.{renamed, renamed_condition, renamed_item, with_name, with_part};
 
-use crate::names::inner_name;
+use crate::names::{Naming, name_by};
 use fx_io::Text;
 use std::alloc::Global;
 use vl_ast::{
@@ -42,68 +42,77 @@ fn over_part(alloc: Global, e: &Expr, part: Made<Expr>) -> Made<Expr>
     }
 }
 
-/// An expression over the names that the module's have in the other. The recursion is as deep as the
-/// expression nests.
+/// An expression over the names that the module's have so. The recursion is as deep as the expression
+/// nests.
 #[cycle(renaming)]
-fn renamed_expr(alloc: Global, head: &[u8], e: &Expr) -> Made<Expr>
-    ensures { IfOk result (λ made. made ≡ renamed (inner_name head.now) e.now) }
+fn renamed_expr(alloc: Global, naming: Naming<'_>, e: &Expr) -> Made<Expr>
+    ensures { IfOk result (λ made. made ≡ renamed (name_by naming.entry) e.now) }
 {
     match e {
         Expr::Name(name) | Expr::Bit(name, _) | Expr::Part(name, _, _) => {
-            over_name(e, inner_name(alloc, head, name.bytes()))
+            over_name(e, name_by(alloc, naming, name.bytes()))
         }
         Expr::Literal(number) => Ok(Expr::Literal(*number)),
-        Expr::Concat(parts) => concat(renamed_parts(alloc, head, parts.as_slice())),
+        Expr::Concat(parts) => concat(renamed_parts(alloc, naming, parts.as_slice())),
         Expr::Repeat(_, part)
         | Expr::AsSigned(part)
         | Expr::AsUnsigned(part)
         | Expr::Unary(_, part)
-        | Expr::Shift(_, part, _) => over_part(alloc, e, renamed_expr(alloc, head, part.get())),
+        | Expr::Shift(_, part, _) => over_part(alloc, e, renamed_expr(alloc, naming, part.get())),
         Expr::Binary(op, left, right) => {
-            let left = renamed_expr(alloc, head, left.get());
-            binary(alloc, *op, left, renamed_expr(alloc, head, right.get()))
+            let left = renamed_expr(alloc, naming, left.get());
+            binary(alloc, *op, left, renamed_expr(alloc, naming, right.get()))
         }
         Expr::Choose(test, chosen, other) => {
-            let test = renamed_expr(alloc, head, test.get());
-            let chosen = renamed_expr(alloc, head, chosen.get());
-            choose(alloc, test, chosen, renamed_expr(alloc, head, other.get()))
+            let test = renamed_expr(alloc, naming, test.get());
+            let chosen = renamed_expr(alloc, naming, chosen.get());
+            choose(
+                alloc,
+                test,
+                chosen,
+                renamed_expr(alloc, naming, other.get()),
+            )
         }
     }
 }
 
 #[cycle(renaming)]
-fn renamed_parts(alloc: Global, head: &[u8], parts: &[Expr]) -> Listing<Expr>
-    ensures { Holds result (map (renamed (inner_name head.now)) parts.now) }
+fn renamed_parts(alloc: Global, naming: Naming<'_>, parts: &[Expr]) -> Listing<Expr>
+    ensures { Holds result (map (renamed (name_by naming.entry)) parts.now) }
 {
     let mut out = begin(alloc);
     for part in parts {
-        put_expression(&mut out, renamed_expr(alloc, head, part));
+        put_expression(&mut out, renamed_expr(alloc, naming, part));
     }
     out
 }
 
-fn renamed_condition(alloc: Global, head: &[u8], condition: &Option<Expr>) -> Made<Option<Expr>>
+fn renamed_condition(
+    alloc: Global,
+    naming: Naming<'_>,
+    condition: &Option<Expr>,
+) -> Made<Option<Expr>>
     ensures { IfOk result (λ made. made
-        ≡ renamed_condition (inner_name head.now) condition.now) }
+        ≡ renamed_condition (name_by naming.entry) condition.now) }
 {
     match condition {
         None => Ok(None),
-        Some(condition) => some_condition(renamed_expr(alloc, head, condition)),
+        Some(condition) => some_condition(renamed_expr(alloc, naming, condition)),
     }
 }
 
-/// Puts an item of the module, which stands in the other by this name, behind the others.
-pub fn put_renamed(alloc: Global, out: &mut Listing<ModItem>, head: &[u8], item: &ModItem)
-    ensures { Lists out.old out.new (renamed_item (inner_name head.now) item.now ∷ []) }
+/// Puts an item of the module, its names called so, behind the others.
+pub fn put_renamed(alloc: Global, out: &mut Listing<ModItem>, naming: Naming<'_>, item: &ModItem)
+    ensures { Lists out.old out.new (renamed_item (name_by naming.entry) item.now ∷ []) }
 {
-    let name = inner_name(alloc, head, item.name());
+    let name = name_by(alloc, naming, item.name());
     match item {
         ModItem::Wire { signed, width, .. } => put_declaration(out, false, *signed, *width, name),
         ModItem::Reg { signed, width, .. } => put_declaration(out, true, *signed, *width, name),
         ModItem::Assign { value, .. } => put_assignment(
             out,
             name,
-            renamed_expr(alloc, head, value),
+            renamed_expr(alloc, naming, value),
         ),
         ModItem::Always {
             first,
@@ -114,8 +123,8 @@ pub fn put_renamed(alloc: Global, out: &mut Listing<ModItem>, head: &[u8], item:
             out,
             name,
             *first,
-            renamed_condition(alloc, head, condition),
-            renamed_expr(alloc, head, value),
+            renamed_condition(alloc, naming, condition),
+            renamed_expr(alloc, naming, value),
         ),
     }
 }

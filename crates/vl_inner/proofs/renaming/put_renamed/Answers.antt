@@ -2,26 +2,26 @@ use Rattle.std.proofs.Common.{◌≡◌, ◌∙◌, ◌∷◌, [], IfOk, ℕ, Li
 use Rattle.vl_ast.specs.declared.modules.ModItem.{ModItem}
 use Rattle.vl_ast.specs.Conditions.{item_name}
 use Rattle.vl_ast.proofs.Listed.{lists-as}
-use Rattle.vl_inner.specs.Names.{inner_name}
+use Rattle.vl_inner.specs.Names.{name_by}
 use Rattle.vl_inner.specs.Renamed.{renamed_item}
 use Rattle.vl_inner.proofs.renaming.put_renamed.Goals as goal
 
 pub returns-in-Wire : goal.returns-in-Wire
 returns-in-Wire c =
-    let name = subst (λ (text : List ℕ). IfOk c.inner_name-name.result (λ made. made ≡ inner_name c.args.head.now text)) (c.name.ensures ∙ ap item_name c.in-Wire.is) c.inner_name-name.ensures in
-    lists-as (ap (λ (item : ModItem). renamed_item (inner_name c.args.head.now) item ∷ []) (sym c.in-Wire.is)) (c.put_declaration.ensures _ name)
+    let name = subst (λ (text : List ℕ). IfOk c.name_by-name.result (λ made. made ≡ name_by c.args.naming text)) (c.name.ensures ∙ ap item_name c.in-Wire.is) c.name_by-name.ensures in
+    lists-as (ap (λ (item : ModItem). renamed_item (name_by c.args.naming) item ∷ []) (sym c.in-Wire.is)) (c.put_declaration.ensures _ name)
 
 pub returns-in-Reg : goal.returns-in-Reg
 returns-in-Reg c =
-    let name = subst (λ (text : List ℕ). IfOk c.inner_name-name.result (λ made. made ≡ inner_name c.args.head.now text)) (c.name.ensures ∙ ap item_name c.in-Reg.is) c.inner_name-name.ensures in
-    lists-as (ap (λ (item : ModItem). renamed_item (inner_name c.args.head.now) item ∷ []) (sym c.in-Reg.is)) (c.put_declaration-in-Reg.ensures _ name)
+    let name = subst (λ (text : List ℕ). IfOk c.name_by-name.result (λ made. made ≡ name_by c.args.naming text)) (c.name.ensures ∙ ap item_name c.in-Reg.is) c.name_by-name.ensures in
+    lists-as (ap (λ (item : ModItem). renamed_item (name_by c.args.naming) item ∷ []) (sym c.in-Reg.is)) (c.put_declaration-in-Reg.ensures _ name)
 
 pub returns-in-Assign : goal.returns-in-Assign
 returns-in-Assign c =
-    let name = subst (λ (text : List ℕ). IfOk c.inner_name-name.result (λ made. made ≡ inner_name c.args.head.now text)) (c.name.ensures ∙ ap item_name c.in-Assign.is) c.inner_name-name.ensures in
-    lists-as (ap (λ (item : ModItem). renamed_item (inner_name c.args.head.now) item ∷ []) (sym c.in-Assign.is)) (c.put_assignment.ensures _ _ name c.renamed_expr.ensures)
+    let name = subst (λ (text : List ℕ). IfOk c.name_by-name.result (λ made. made ≡ name_by c.args.naming text)) (c.name.ensures ∙ ap item_name c.in-Assign.is) c.name_by-name.ensures in
+    lists-as (ap (λ (item : ModItem). renamed_item (name_by c.args.naming) item ∷ []) (sym c.in-Assign.is)) (c.put_assignment.ensures _ _ name c.renamed_expr.ensures)
 
 pub returns-in-Always : goal.returns-in-Always
 returns-in-Always c =
-    let name = subst (λ (text : List ℕ). IfOk c.inner_name-name.result (λ made. made ≡ inner_name c.args.head.now text)) (c.name.ensures ∙ ap item_name c.in-Always.is) c.inner_name-name.ensures in
-    lists-as (ap (λ (item : ModItem). renamed_item (inner_name c.args.head.now) item ∷ []) (sym c.in-Always.is)) (c.put_clocked.ensures _ _ _ _ refl name c.renamed_condition.ensures c.renamed_expr-in-Always.ensures)
+    let name = subst (λ (text : List ℕ). IfOk c.name_by-name.result (λ made. made ≡ name_by c.args.naming text)) (c.name.ensures ∙ ap item_name c.in-Always.is) c.name_by-name.ensures in
+    lists-as (ap (λ (item : ModItem). renamed_item (name_by c.args.naming) item ∷ []) (sym c.in-Always.is)) (c.put_clocked.ensures _ _ _ _ refl name c.renamed_condition.ensures c.renamed_expr-in-Always.ensures)
