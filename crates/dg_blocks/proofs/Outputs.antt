@@ -1,10 +1,10 @@
 -- A prepared operation gives what the operation gives.
-use Rattle.std.proofs.Common.{◌≡◌, ℕ, ◌+◌, ◌^◌, ◌≤◌, Bool, true, false, cond, ℤ, pos, ◌*ℤ◌, ◌≤ℤ◌, List, length, MatchBool, FitsSigned, sym, ◌∙◌, subst, arith, pow_mono}
+use Rattle.std.proofs.Common.{◌≡◌, ℕ, ◌^◌, ◌≤◌, Bool, true, false, cond, ℤ, pos, ◌*ℤ◌, ◌≤ℤ◌, List, length, MatchBool, FitsSigned, sym, ◌∙◌, subst, arith, pow_mono}
 use Rattle.std.specs.Prelude.{zip}
 use Rattle.std.specs.Int.{w64}
 use Rattle.std.proofs.lemmas.Int.{ints}
 use Rattle.fx_type.specs.declared.kind.FxType.{FxType}
-use Rattle.fx_type.specs.FxType.{width_of, frac_of}
+use Rattle.fx_type.specs.FxType.{frac_of}
 use Rattle.fx_type.specs.Conversion.{Converts}
 use Rattle.fx_type.proofs.Ranges.{frac_bounds}
 use Rattle.dg_model.specs.declared.kind.Criterion.{Criterion}
@@ -13,8 +13,8 @@ use Rattle.dg_model.specs.declared.op.Op.TheVariants.{Product, Gain, Switch}
 use Rattle.dg_model.specs.Operation.{Operation, HasArity, HasSigns, HasFullType, HasParameters, CanCarryOut, IsConverted, OpGives, Gives, meets, signed_sum, type_of, value_of}
 use Rattle.dg_blocks.specs.declared.narrow.Narrow.{Narrow}
 use Rattle.dg_blocks.specs.declared.prepared.Prepared.TheVariants.{Converted, Times, Scaled, Summed, Chosen}
-use Rattle.dg_blocks.specs.Narrow.{IsNarrow, IsWithin, IsSmall}
-use Rattle.dg_blocks.specs.Prepared.{IsPrepared, IsSummable}
+use Rattle.dg_blocks.specs.Narrow.{IsNarrow, IsWithin, HasRoom, magnitude_of}
+use Rattle.dg_blocks.specs.Prepared.{IsPrepared, IsSummable, product_bits}
 use Rattle.dg_blocks.proofs.Narrowed.{range_within, product_within, whole_fits}
 use Rattle.dg_blocks.proofs.Weighted.{whole_within}
 
@@ -33,18 +33,22 @@ taken_gives true operation v w r a b narrow e is h = h a is
 taken_gives false operation v w r a b narrow e is h = h b (subst (λ (f : ℤ). IsNarrow narrow f operation.result operation.rounding operation.saturate) (sym e) is)
 
 module _ (operation : Operation) (inputs : List ℤ) (can : CanCarryOut operation inputs) (narrow : Narrow) where
+  -- as many bits as the conversion was prepared for
+  abbrev pub HasPlace : ℤ → Type 0
+  HasPlace v = (bits : ℕ) × HasRoom narrow bits × IsWithin bits v
+
   module _ (is : IsPrepared (Converted narrow) operation) where
     arity : length operation.types ≡ 1
     arity = subst (λ (op : Op). HasArity op (length operation.types)) is.0 can.prepared.arity
 
-    within : IsWithin (width_of (type_of operation.types 0)) (value_of inputs 0)
+    within : IsWithin (magnitude_of (type_of operation.types 0)) (value_of inputs 0)
     within = range_within (type_of operation.types 0) (value_of inputs 0) (can.prepared.types 0 _ (omega (arith, arity))) (can.values.in_range 0 (omega (arith, arity)))
 
     pub converted_fits : FitsSigned w64 (value_of inputs 0)
-    converted_fits = whole_fits (width_of (type_of operation.types 0)) (value_of inputs 0) is.1.1.bits_below within
+    converted_fits = whole_fits (magnitude_of (type_of operation.types 0)) (value_of inputs 0) is.1.1.bits_below within
 
-    pub converted_small : IsSmall (value_of inputs 0 *ℤ narrow.scale)
-    converted_small = is.1.1.small (value_of inputs 0) within
+    pub converted_room : HasPlace (value_of inputs 0)
+    converted_room = (magnitude_of (type_of operation.types 0), is.1.1, within)
 
     pub converted_gives : (r : ℤ) → Converts (value_of inputs 0) (type_of operation.types 0) operation.result operation.rounding operation.saturate r → OpGives operation inputs r
     converted_gives r h = subst (λ (op : Op). Gives op operation operation.types inputs r) (sym is.0) h
@@ -53,26 +57,26 @@ module _ (operation : Operation) (inputs : List ℤ) (can : CanCarryOut operatio
     pair : length operation.types ≡ 2
     pair = subst (λ (op : Op). HasArity op (length operation.types)) is.0 can.prepared.arity
 
-    left : IsWithin (width_of (type_of operation.types 0)) (value_of inputs 0)
+    left : IsWithin (magnitude_of (type_of operation.types 0)) (value_of inputs 0)
     left = range_within (type_of operation.types 0) (value_of inputs 0) (can.prepared.types 0 _ (omega (arith, pair))) (can.values.in_range 0 (omega (arith, pair)))
 
-    right : IsWithin (width_of (type_of operation.types 1)) (value_of inputs 1)
+    right : IsWithin (magnitude_of (type_of operation.types 1)) (value_of inputs 1)
     right = range_within (type_of operation.types 1) (value_of inputs 1) (can.prepared.types 1 _ (omega (arith, pair))) (can.values.in_range 1 (omega (arith, pair)))
 
-    product : IsWithin (width_of (type_of operation.types 0) + width_of (type_of operation.types 1)) (value_of inputs 0 *ℤ value_of inputs 1)
-    product = product_within (width_of (type_of operation.types 0)) (width_of (type_of operation.types 1)) (value_of inputs 0) (value_of inputs 1) left right
+    product : IsWithin (product_bits (type_of operation.types 0) (type_of operation.types 1)) (value_of inputs 0 *ℤ value_of inputs 1)
+    product = product_within (magnitude_of (type_of operation.types 0)) (magnitude_of (type_of operation.types 1)) (value_of inputs 0) (value_of inputs 1) left right
 
     pub left_fits : FitsSigned w64 (value_of inputs 0)
-    left_fits = whole_fits (width_of (type_of operation.types 0)) (value_of inputs 0) (omega (arith, is.1.1.bits_below)) left
+    left_fits = whole_fits (magnitude_of (type_of operation.types 0)) (value_of inputs 0) (omega (arith, is.1.1.bits_below)) left
 
     pub right_fits : FitsSigned w64 (value_of inputs 1)
-    right_fits = whole_fits (width_of (type_of operation.types 1)) (value_of inputs 1) (omega (arith, is.1.1.bits_below)) right
+    right_fits = whole_fits (magnitude_of (type_of operation.types 1)) (value_of inputs 1) (omega (arith, is.1.1.bits_below)) right
 
     pub times_fits : FitsSigned w64 (value_of inputs 0 *ℤ value_of inputs 1)
     times_fits = whole_fits _ (value_of inputs 0 *ℤ value_of inputs 1) is.1.1.bits_below product
 
-    pub times_small : IsSmall ((value_of inputs 0 *ℤ value_of inputs 1) *ℤ narrow.scale)
-    times_small = is.1.1.small (value_of inputs 0 *ℤ value_of inputs 1) product
+    pub times_room : HasPlace (value_of inputs 0 *ℤ value_of inputs 1)
+    times_room = (product_bits (type_of operation.types 0) (type_of operation.types 1), is.1.1, product)
 
     full : HasFullType Product operation.signs operation.types
     full = subst (λ (op : Op). HasFullType op operation.signs operation.types) is.0 can.prepared.full_type
@@ -89,26 +93,26 @@ module _ (operation : Operation) (inputs : List ℤ) (can : CanCarryOut operatio
     parameters : HasParameters (Gain coefficient is.0) operation.types
     parameters = subst (λ (op : Op). HasParameters op operation.types) is.1 can.prepared.parameters
 
-    input_within : IsWithin (width_of (type_of operation.types 0)) (value_of inputs 0)
+    input_within : IsWithin (magnitude_of (type_of operation.types 0)) (value_of inputs 0)
     input_within = range_within (type_of operation.types 0) (value_of inputs 0) (can.prepared.types 0 _ (omega (arith, single))) (can.values.in_range 0 (omega (arith, single)))
 
-    coefficient_within : IsWithin (width_of is.0) coefficient
+    coefficient_within : IsWithin (magnitude_of is.0) coefficient
     coefficient_within = range_within is.0 coefficient parameters.0 parameters.1
 
-    scaled_within : IsWithin (width_of (type_of operation.types 0) + width_of is.0) (value_of inputs 0 *ℤ coefficient)
-    scaled_within = product_within (width_of (type_of operation.types 0)) (width_of is.0) (value_of inputs 0) coefficient input_within coefficient_within
+    scaled_within : IsWithin (product_bits (type_of operation.types 0) is.0) (value_of inputs 0 *ℤ coefficient)
+    scaled_within = product_within (magnitude_of (type_of operation.types 0)) (magnitude_of is.0) (value_of inputs 0) coefficient input_within coefficient_within
 
     pub input_fits : FitsSigned w64 (value_of inputs 0)
-    input_fits = whole_fits (width_of (type_of operation.types 0)) (value_of inputs 0) (omega (arith, is.2.1.bits_below)) input_within
+    input_fits = whole_fits (magnitude_of (type_of operation.types 0)) (value_of inputs 0) (omega (arith, is.2.1.bits_below)) input_within
 
     pub coefficient_fits : FitsSigned w64 coefficient
-    coefficient_fits = whole_fits (width_of is.0) coefficient (omega (arith, is.2.1.bits_below)) coefficient_within
+    coefficient_fits = whole_fits (magnitude_of is.0) coefficient (omega (arith, is.2.1.bits_below)) coefficient_within
 
     pub scaled_fits : FitsSigned w64 (value_of inputs 0 *ℤ coefficient)
     scaled_fits = whole_fits _ (value_of inputs 0 *ℤ coefficient) is.2.1.bits_below scaled_within
 
-    pub scaled_small : IsSmall ((value_of inputs 0 *ℤ coefficient) *ℤ narrow.scale)
-    scaled_small = is.2.1.small (value_of inputs 0 *ℤ coefficient) scaled_within
+    pub scaled_room : HasPlace (value_of inputs 0 *ℤ coefficient)
+    scaled_room = (product_bits (type_of operation.types 0) is.0, is.2.1, scaled_within)
 
     gain_full : HasFullType (Gain coefficient is.0) operation.signs operation.types
     gain_full = subst (λ (op : Op). HasFullType op operation.signs operation.types) is.1 can.prepared.full_type
@@ -134,8 +138,8 @@ module _ (operation : Operation) (inputs : List ℤ) (can : CanCarryOut operatio
     pub sum_frac : frac ≤ℤ pos 128
     sum_frac = subst (λ (f : ℤ). f ≤ℤ pos 128) is.3 (frac_bounds is.0 is.2.valid).1
 
-    pub sum_small : IsSmall (signed_sum frac (zip operation.signs operation.types) inputs *ℤ narrow.scale)
-    sum_small = is.5.1.small (signed_sum frac (zip operation.signs operation.types) inputs) (whole_within frac operation.signs operation.types inputs summable)
+    pub sum_room : HasPlace (signed_sum frac (zip operation.signs operation.types) inputs)
+    sum_room = (magnitude_of is.0, is.5.1, whole_within frac operation.signs operation.types inputs summable)
 
     pub sum_gives : (r : ℤ) → ((from : FxType) → IsNarrow narrow (frac_of from) operation.result operation.rounding operation.saturate → Converts (signed_sum frac (zip operation.signs operation.types) inputs) from operation.result operation.rounding operation.saturate r) → OpGives operation inputs r
     sum_gives r h =
@@ -153,14 +157,14 @@ module _ (operation : Operation) (inputs : List ℤ) (can : CanCarryOut operatio
     chosen_within : (test : Bool) → IsWithin is.3 (cond test (value_of inputs 0) (value_of inputs 2))
     chosen_within test =
         taken_within test is.3 (value_of inputs 0) (value_of inputs 2)
-        (more_bits (width_of (type_of operation.types 0)) is.3 (value_of inputs 0) is.4 (range_within (type_of operation.types 0) (value_of inputs 0) (can.prepared.types 0 _ (omega (arith, three))) (can.values.in_range 0 (omega (arith, three)))))
-        (more_bits (width_of (type_of operation.types 2)) is.3 (value_of inputs 2) is.5 (range_within (type_of operation.types 2) (value_of inputs 2) (can.prepared.types 2 _ (omega (arith, three))) (can.values.in_range 2 (omega (arith, three)))))
+        (more_bits (magnitude_of (type_of operation.types 0)) is.3 (value_of inputs 0) is.4 (range_within (type_of operation.types 0) (value_of inputs 0) (can.prepared.types 0 _ (omega (arith, three))) (can.values.in_range 0 (omega (arith, three)))))
+        (more_bits (magnitude_of (type_of operation.types 2)) is.3 (value_of inputs 2) is.5 (range_within (type_of operation.types 2) (value_of inputs 2) (can.prepared.types 2 _ (omega (arith, three))) (can.values.in_range 2 (omega (arith, three)))))
 
     pub chosen_fits : (test : Bool) (v : ℤ) → v ≡ cond test (value_of inputs 0) (value_of inputs 2) → FitsSigned w64 v
     chosen_fits test v e = whole_fits is.3 v is.7.1.bits_below (subst (IsWithin is.3) (sym e) (chosen_within test))
 
-    pub chosen_small : (test : Bool) (v : ℤ) → v ≡ cond test (value_of inputs 0) (value_of inputs 2) → IsSmall (v *ℤ narrow.scale)
-    chosen_small test v e = is.7.1.small v (subst (IsWithin is.3) (sym e) (chosen_within test))
+    pub chosen_room : (test : Bool) (v : ℤ) → v ≡ cond test (value_of inputs 0) (value_of inputs 2) → HasPlace v
+    chosen_room test v e = (is.3, is.7.1, subst (IsWithin is.3) (sym e) (chosen_within test))
 
     pub chosen_gives : (op : Op) → operation.op ≡ op → (criterion : Criterion) (threshold r : ℤ) → op ≡ Switch criterion threshold
         → ((from : FxType) → IsNarrow narrow (frac_of from) operation.result operation.rounding operation.saturate → Converts (cond (meets criterion threshold (value_of inputs 1)) (value_of inputs 0) (value_of inputs 2)) from operation.result operation.rounding operation.saturate r) → OpGives operation inputs r

@@ -1,13 +1,27 @@
 //! Conversion in 64 bits.
-ghost use Rattle.std.specs.Prelude.{◌≡◌, Bool, true, false, IfSome, ℤ, pos, negsuc, ◌*ℤ◌, ◌≤ℤ◌, ◌^◌, ◌≤◌, FitsSigned};
+ghost use Rattle.std.specs.Prelude.{◌≡◌, ℕ, Bool, true, false, IfSome, ℤ, pos, negsuc, ◌*ℤ◌, ◌≤ℤ◌, ◌^◌, ◌≤◌, FitsSigned};
 ghost use Rattle.std.specs.Int.{int_gap, w64};
 ghost use Rattle.fx_type.specs.declared.kind.FxType.{FxType};
 ghost use Rattle.fx_type.specs.declared.rounding.Rounding.{Rounding};
 ghost use Rattle.fx_type.specs.FxType.{IsType, frac_of};
 ghost use Rattle.fx_type.specs.Conversion.{twice, Converts, Settles};
-ghost use Rattle.dg_blocks.specs.Narrow.{IsSmall, IsBias, bias_for, IsTie, IsShifted, HasEnds, HasRoom, IsNarrow};
+ghost use Rattle.dg_blocks.specs.declared.narrow.Way.TheVariants.{Exact};
+ghost use Rattle.dg_blocks.specs.Narrow.{IsSmall, IsModest, IsBias, bias_for, IsTie, IsShifted, HasEnds, IsWay, ReachesBelow, HasRoom, IsWithin, IsNarrow};
 
 use fx_type::{FxType, Rounding};
+
+/// How a number is converted (own).
+#[derive(Clone, Copy)]
+pub enum Way {
+    /// By a shift up alone: no bit falls away, and every number is in range.
+    Exact,
+    /// With one bias for both signs, a shift down, and the lowest bits.
+    Wraps,
+    /// With one bias for both signs, a shift down, and the nearest end.
+    Ends,
+    /// With all that a mode may ask for.
+    Any,
+}
 
 /// What a conversion needs of its types.
 #[derive(Clone, Copy)]
@@ -19,9 +33,8 @@ pub struct Narrow {
     even: bool,
     low: i64,
     high: i64,
-    width: u8,
-    signed: bool,
     saturate: bool,
+    way: Way,
 }
 
 /// The same number in 64 bits.
@@ -93,7 +106,8 @@ fn biased_shift(v: i64, down: u32, bias: i64, even: bool) -> i64
     requires small { IsSmall v }
     requires down { down ≤ 60 }
     requires bias { (pos 0 ≤ℤ bias) × (bias ≤ℤ pos (2 ^ 60)) }
-    ensures { IsShifted v bias even (2 ^ down) result }
+    ensures shifted { IsShifted v bias even (2 ^ down) result }
+    ensures modest { IsModest result }
 {
     let above = v + bias + tie(even, v >> down);
     above >> down
@@ -122,10 +136,39 @@ impl Narrow {
             even: false,
             low: fx_num::lowest(width, signed) as i64,
             high: fx_num::highest(width, signed) as i64,
-            width,
-            signed,
             saturate,
+            way: Way::Any,
         })
+    }
+
+    /// The way that the bias and the shift up allow.
+    fn rounding_way(self) -> Way
+        ensures way { IsWay result self }
+        ensures rounds { result ≡ Exact → ⊥ }
+    {
+        if self.even {
+            return Way::Any;
+        }
+        if self.scale != 1 {
+            return Way::Any;
+        }
+        if self.below != self.bias {
+            return Way::Any;
+        }
+        if self.saturate { Way::Ends } else { Way::Wraps }
+    }
+
+    /// The way without a shift down, of numbers that have up to so many bits once they are shifted up.
+    fn whole_way(self, bits: u32) -> Way
+        requires { bits ≤ 61 }
+        ensures way { self.down ≡ 0 → IsWay result self }
+        ensures reaches { result ≡ Exact → ReachesBelow self.low bits }
+    {
+        if self.low <= -(1 << bits) {
+            Way::Exact
+        } else {
+            self.rounding_way()
+        }
     }
 
     /// The conversion to a type of a number of up to so many bits, in units of 2 to the `-frac`, where
@@ -146,6 +189,7 @@ impl Narrow {
                 return None;
             }
             narrow.scale = 1 << up;
+            narrow.way = narrow.whole_way(bits + up);
             return Some(narrow);
         }
         let Some(down) = gap(to.frac(), frac) else {
@@ -162,11 +206,31 @@ impl Narrow {
         narrow.bias = bias;
         narrow.below = below;
         narrow.even = even;
+        narrow.way = narrow.rounding_way();
         Some(narrow)
     }
 
-    /// The conversion of `v`, a number in the units that this was prepared for.
+    /// The conversion of `v`, a number in the units that this was prepared for, with up to as many
+    /// bits.
+    #[inline(always)]
     pub fn convert(self, v: i64) -> i64
+        requires narrow { (frac : ℤ) × (to : FxType) × (mode : Rounding) × (saturate : Bool)
+            × IsNarrow self frac to mode saturate }
+        requires room { (bits : ℕ) × HasRoom self bits × IsWithin bits v }
+        ensures { (from to : FxType) (mode : Rounding) (saturate : Bool)
+            → IsNarrow self (frac_of from) to mode saturate
+            → Converts v from to mode saturate result }
+    {
+        match self.way {
+            Way::Exact => v * self.scale,
+            Way::Wraps => self.wrapped(biased_shift(v, self.down, self.bias, false)),
+            Way::Ends => self.nearest(biased_shift(v, self.down, self.bias, false)),
+            Way::Any => self.settled(v),
+        }
+    }
+
+    /// The same, with all that a mode may ask for.
+    fn settled(self, v: i64) -> i64
         requires narrow { (frac : ℤ) × (to : FxType) × (mode : Rounding) × (saturate : Bool)
             × IsNarrow self frac to mode saturate }
         requires small { IsSmall (v *ℤ self.scale) }
@@ -187,29 +251,33 @@ impl Narrow {
 
     /// What the result type stores for a whole number.
     fn stored_value(self, r: i64) -> i64
-        requires { (to : FxType) × (saturate : Bool) × HasEnds self to saturate }
+        requires ends { (to : FxType) × (saturate : Bool) × HasEnds self to saturate }
+        requires modest { IsModest r }
         ensures { (to : FxType) (saturate : Bool) → HasEnds self to saturate
             → Settles to saturate r result }
     {
-        if r < self.low {
-            self.outside(r, self.low)
-        } else if r > self.high {
-            self.outside(r, self.high)
+        if self.saturate {
+            self.nearest(r)
         } else {
-            r
+            self.wrapped(r)
         }
     }
 
-    /// The same, of a number that is out of range: the end that is nearest, or the congruent number.
-    fn outside(self, r: i64, end: i64) -> i64
-        requires ends { (to : FxType) × (saturate : Bool) × HasEnds self to saturate }
+    /// The number of the result type that is nearest.
+    fn nearest(self, r: i64) -> i64
         ensures { (to : FxType) (saturate : Bool) → HasEnds self to saturate
-            → Settles to true r end → Settles to saturate r result }
+            → Settles to true r result }
     {
-        if self.saturate {
-            end
-        } else {
-            fx_num::wrap(i128::from(r), self.width, self.signed) as i64
-        }
+        r.max(self.low).min(self.high)
+    }
+
+    /// The number of the result type with the same lowest bits.
+    fn wrapped(self, r: i64) -> i64
+        requires ends { (to : FxType) × (saturate : Bool) × HasEnds self to saturate }
+        requires modest { IsModest r }
+        ensures { (to : FxType) (saturate : Bool) → HasEnds self to saturate
+            → Settles to false r result }
+    {
+        ((r - self.low) & (self.high - self.low)) + self.low
     }
 }

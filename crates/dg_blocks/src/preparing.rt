@@ -1,12 +1,13 @@
 //! What the types of an operation allow.
-ghost use Rattle.std.specs.Prelude.{◌≡◌, ◌+◌, false, ℤ, ◌+ℤ◌, IfSome};
+ghost use Rattle.std.specs.Prelude.{◌≡◌, ◌≤◌, false, ℤ, ◌+ℤ◌, IfSome};
 ghost use Rattle.fx_type.specs.declared.kind.FxType.{FxType};
-ghost use Rattle.fx_type.specs.FxType.{IsType, width_of, frac_of};
+ghost use Rattle.fx_type.specs.FxType.{IsType, frac_of};
 ghost use Rattle.fx_type.specs.FullType.{IsFullProduct};
 ghost use Rattle.dg_model.specs.declared.kind.Criterion.{Criterion};
 ghost use Rattle.dg_model.specs.declared.op.Op.TheVariants.{Sum, Gain, Product, Switch, Convert};
 ghost use Rattle.dg_model.specs.Operation.{operation_of, CanPrepare};
-ghost use Rattle.dg_blocks.specs.Prepared.{IsReady, IsPrepared};
+ghost use Rattle.dg_blocks.specs.Narrow.{magnitude_of};
+ghost use Rattle.dg_blocks.specs.Prepared.{IsReady, IsPrepared, product_bits};
 
 use crate::exact::product_frac;
 use crate::narrow::{Narrow, short};
@@ -15,6 +16,16 @@ use crate::short_sums::are_short;
 use dg_model::{OpCall, sum_type};
 use fx_type::FxType;
 
+/// How many bits a type's stored integers have beside a sign.
+fn magnitude(kind: FxType) -> u32
+    requires { IsType kind }
+    ensures is { result ≡ magnitude_of kind }
+    ensures small { result ≤ 127 }
+{
+    let width = u32::from(kind.width());
+    if kind.is_signed() { width - 1 } else { width }
+}
+
 /// The conversion of a product of stored integers of two types.
 fn product_narrow(call: &OpCall, a: FxType, b: FxType) -> Option<Narrow>
     requires left { IsType a }
@@ -22,9 +33,9 @@ fn product_narrow(call: &OpCall, a: FxType, b: FxType) -> Option<Narrow>
     requires full { (full : FxType) × IsFullProduct a b full }
     requires result { IsType call.now.result }
     ensures { IfSome result (λ narrow. IsReady (operation_of call.now) narrow
-        (width_of a + width_of b) (frac_of a +ℤ frac_of b)) }
+        (product_bits a b) (frac_of a +ℤ frac_of b)) }
 {
-    let bits = u32::from(a.width()) + u32::from(b.width());
+    let bits = magnitude(a) + magnitude(b) + 1;
     let frac = product_frac(a, b);
     Narrow::new(bits, frac, call.result, call.rounding, call.saturate)
 }
@@ -36,7 +47,7 @@ pub fn prepared_sum(call: &OpCall) -> Prepared
     ensures { IsPrepared result (operation_of call.now) }
 {
     let full = sum_type(call.signs, call.types);
-    let bits = u32::from(full.width());
+    let bits = magnitude(full);
     let frac = full.frac();
     if !are_short(frac, call.types) {
         return Prepared::Wide;
@@ -82,7 +93,7 @@ pub fn prepared_switch(call: &OpCall) -> Prepared
     if first.frac() != third.frac() {
         return Prepared::Wide;
     }
-    let bits = u32::from(first.width().max(third.width()));
+    let bits = magnitude(first).max(magnitude(third));
     let frac = first.frac();
     match Narrow::new(bits, frac, call.result, call.rounding, call.saturate) {
         Some(narrow) => Prepared::Chosen(narrow),
@@ -97,7 +108,7 @@ pub fn prepared_conversion(call: &OpCall) -> Prepared
     ensures { IsPrepared result (operation_of call.now) }
 {
     let a = call.types[0];
-    let bits = u32::from(a.width());
+    let bits = magnitude(a);
     match Narrow::new(bits, a.frac(), call.result, call.rounding, call.saturate) {
         Some(narrow) => Prepared::Converted(narrow),
         None => Prepared::Wide,

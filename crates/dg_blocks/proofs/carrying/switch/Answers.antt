@@ -2,7 +2,7 @@ use Rattle.std.proofs.Common.{◌≡◌, cond, FitsSigned, to_z, of_z, refl, ari
 use Rattle.std.specs.Int.{w64, w128}
 use Rattle.std.proofs.lemmas.Int.{ints, to_z-of_z}
 use Rattle.dg_model.specs.Operation.{operation_of, meets, value_of}
-use Rattle.dg_blocks.proofs.Outputs.{chosen_fits, chosen_small, chosen_gives}
+use Rattle.dg_blocks.proofs.Outputs.{chosen_fits, chosen_room, chosen_gives}
 use Rattle.dg_blocks.proofs.carrying.switch.Goals as goal
 
 pub short-v-requires : goal.short-v-requires
@@ -10,12 +10,12 @@ short-v-requires c =
     let own = to_z-of_z w128 c.switch_input.result (record { sfits = c.switch_input.type_inv }) in
     rw own (chosen_fits (operation_of c.args.call.now) c.args.inputs.now c.requires.can c.args.narrow c.requires.prepared _ c.switch_input.result c.switch_input.ensures)
 
-pub convert-requires-clause-small : goal.convert-requires-clause-small
-convert-requires-clause-small c =
+pub convert-requires-clause-room : goal.convert-requires-clause-room
+convert-requires-clause-room c =
     let own = to_z-of_z w128 c.switch_input.result (record { sfits = c.switch_input.type_inv }) in
     let short = to_z-of_z w64 c.short-v.result (record { sfits = c.short-v.type_inv }) in
     let same : c.short-v.result ≡ c.switch_input.result = rw own at c.short-v.ensures in
-    rw (short, same) (chosen_small (operation_of c.args.call.now) c.args.inputs.now c.requires.can c.args.narrow c.requires.prepared _ c.switch_input.result c.switch_input.ensures)
+    rw (short, same) (chosen_room (operation_of c.args.call.now) c.args.inputs.now c.requires.can c.args.narrow c.requires.prepared _ c.switch_input.result c.switch_input.ensures)
 
 pub returns : goal.returns
 returns c =

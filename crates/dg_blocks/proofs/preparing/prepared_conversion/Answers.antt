@@ -1,7 +1,7 @@
 use Rattle.std.proofs.Common.{◌≡◌, ◌∙◌, ℕ, length, to_z, of_z, subst, arith}
 use Rattle.std.specs.Int.{w16}
 use Rattle.std.proofs.lemmas.Int.{to_z-of_z}
-use Rattle.fx_type.specs.FxType.{IsType, frac_of, width_of}
+use Rattle.fx_type.specs.FxType.{IsType, frac_of}
 use Rattle.fx_type.proofs.Ranges.{frac_bounds}
 use Rattle.dg_model.specs.declared.op.Op.{Op}
 use Rattle.dg_model.specs.Operation.{HasArity, type_of}
@@ -29,5 +29,4 @@ new-requires-clause-to c = c.requires.can.result
 pub returns-in-Some : goal.returns-in-Some
 returns-in-Some c =
     let f = frac_is (goal.at.returns-in-Some c).After-frac in
-    let bits : c.from-bits.result ≡ width_of (type_of c.args.call.now.types.now 0) = c.from-bits.ensures ∙ c.width.ensures in
-    (c.requires.is_convert, (rw f at c.in-Some.ensures.is, subst (λ (n : ℕ). HasRoom c.in-Some.narrow n) bits c.in-Some.ensures.room))
+    (c.requires.is_convert, (rw f at c.in-Some.ensures.is, subst (λ (n : ℕ). HasRoom c.in-Some.narrow n) c.magnitude-bits.ensures.is c.in-Some.ensures.room))

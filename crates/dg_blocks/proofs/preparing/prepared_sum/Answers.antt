@@ -1,7 +1,7 @@
 use Rattle.std.proofs.Common.{◌≡◌, ◌∙◌, ◌≤ℤ◌, ℕ, to_z, of_z, refl, sym, subst, arith, pos, negsuc, length}
 use Rattle.std.specs.Int.{w16}
 use Rattle.std.proofs.lemmas.Int.{to_z-of_z}
-use Rattle.fx_type.specs.FxType.{width_of, frac_of}
+use Rattle.fx_type.specs.FxType.{frac_of}
 use Rattle.fx_type.proofs.Ranges.{frac_bounds}
 use Rattle.dg_model.specs.declared.op.Op.{Op}
 use Rattle.dg_model.specs.Operation.{HasArity, HasSigns, HasFullType}
@@ -35,16 +35,15 @@ are_short-requires c =
 pub new-requires : goal.new-requires
 new-requires c =
     let bounds = full_bounds (goal.at.new-requires c).After-frac-frac in
-    record { bits = omega (arith, c.from-bits.ensures, c.width.type_inv); low = bounds.0; high = bounds.1; to = c.requires.can.result }
+    record { bits = omega (arith, c.magnitude-bits.ensures.small); low = bounds.0; high = bounds.1; to = c.requires.can.result }
 
 pub returns-in-Some : goal.returns-in-Some
 returns-in-Some c =
-    let f = full_frac (goal.at.returns-in-Some c).After-frac-frac in
-    let bits : c.from-bits.result ≡ width_of c.sum_type-full.result = c.from-bits.ensures ∙ c.width.ensures in (
+    let f = full_frac (goal.at.returns-in-Some c).After-frac-frac in (
       c.sum_type-full.result,
       c.requires.is_sum,
       c.sum_type-full.ensures,
       sym f,
       c.if-not-are_short.ensures refl,
-      (c.in-Some.ensures.is, subst (λ (n : ℕ). HasRoom c.in-Some.narrow n) bits c.in-Some.ensures.room),
+      (c.in-Some.ensures.is, subst (λ (n : ℕ). HasRoom c.in-Some.narrow n) c.magnitude-bits.ensures.is c.in-Some.ensures.room),
     )

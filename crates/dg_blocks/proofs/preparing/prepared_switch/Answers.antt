@@ -35,9 +35,9 @@ returns-in-Some c =
       switch.0,
       switch.1,
       switch.2,
-      c.from-bits.result,
-      omega (arith, c.from-bits.ensures, c.max.ensures, c.width.ensures),
-      omega (arith, c.from-bits.ensures, c.max.ensures, c.width-2.ensures),
+      c.max-bits.result,
+      omega (arith, c.max-bits.ensures, c.magnitude.ensures.is),
+      omega (arith, c.max-bits.ensures, c.magnitude-2.ensures.is),
       sym same,
       (rw f at c.in-Some.ensures.is, c.in-Some.ensures.room),
     )

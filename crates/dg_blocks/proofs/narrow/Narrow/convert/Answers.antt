@@ -1,46 +1,52 @@
-use Rattle.std.proofs.Common.{◌≡◌, ◌^◌, ℤ, ◌*ℤ◌, FitsSigned, to_z, of_z, arith, rules}
+use Rattle.std.proofs.Common.{◌≡◌, Bool, true, false, ◌*ℤ◌, ◌^◌, FitsSigned, subst, sym, ◌∙◌, arith, rules}
 use Rattle.std.specs.Int.{w64}
 use Rattle.std.proofs.lemmas.Int.{ints, to_z-of_z}
-use Rattle.dg_blocks.specs.Narrow.{IsShifted, IsSmall, bias_for}
-use Rattle.dg_blocks.proofs.Narrowed.{narrow_converts, bias_range}
+use Rattle.fx_type.specs.Conversion.{Settles}
+use Rattle.dg_blocks.specs.declared.narrow.Way.{Way}
+use Rattle.dg_blocks.specs.Narrow.{IsWay, IsShifted}
+use Rattle.dg_blocks.proofs.Narrowed.{exact_converts, plain_converts}
 use Rattle.dg_blocks.proofs.narrow.Narrow.convert.Goals as goal
 
--- the scaled number, as the code has it
-scaled_is : (v scale : ℤ) → FitsSigned w64 v → FitsSigned w64 scale → IsSmall (v *ℤ scale) → to_z w64 (of_z w64 (to_z w64 (of_z w64 v) *ℤ to_z w64 (of_z w64 scale))) ≡ v *ℤ scale
-scaled_is v scale f g small =
-    let p : FitsSigned w64 (v *ℤ scale) = omega (arith, ints, small.low, small.high) in
-    rw (to_z-of_z w64 v f, to_z-of_z w64 scale g) (to_z-of_z w64 (v *ℤ scale) p)
-
-pub biased_shift-requires-clause-small : goal.biased_shift-requires-clause-small
-biased_shift-requires-clause-small c =
+pub overflow_mul-result : goal.overflow_mul-result
+overflow_mul-result c =
     let f : FitsSigned w64 c.args.self.scale = search rules in
-    rw (scaled_is c.args.v c.args.self.scale c.ranges.v f c.requires.small) c.requires.small
+    let s = c.requires.room.1.small c.args.v c.requires.room.2 in
+    rw (to_z-of_z w64 c.args.v c.ranges.v, to_z-of_z w64 c.args.self.scale f) (omega (arith, ints, s.low, s.high))
 
-pub biased_shift-requires-clause-bias : goal.biased_shift-requires-clause-bias
-biased_shift-requires-clause-bias c =
-    let n = c.requires.narrow in
-    let k = to_z-of_z w64 c.bias_for.result (record { sfits = c.bias_for.type_inv }) in
-    rw (k, c.bias_for.ensures) (bias_range c.args.self n.0 n.1 n.2 (to_z w64 (of_z w64 (to_z w64 (of_z w64 c.args.v) *ℤ to_z w64 (of_z w64 c.args.self.scale)))) n.4.shifts)
-
-pub returns : goal.returns
-returns c from to mode saturate is =
+pub returns-in-Exact : goal.returns-in-Exact
+returns-in-Exact c from to mode saturate is =
     let f : FitsSigned w64 c.args.self.scale = search rules in
-    let p = scaled_is c.args.v c.args.self.scale c.ranges.v f c.requires.small in
-    let k = to_z-of_z w64 c.bias_for.result (record { sfits = c.bias_for.type_inv }) in
+    let s = c.requires.room.1.small c.args.v c.requires.room.2 in
+    let fits : FitsSigned w64 (c.args.v *ℤ c.args.self.scale) = omega (arith, ints, s.low, s.high) in
+    let whole = subst (λ (way : Way). IsWay way c.args.self) c.in-Exact.is is.way in
+    rw (to_z-of_z w64 c.args.v c.ranges.v, to_z-of_z w64 c.args.self.scale f, to_z-of_z w64 (c.args.v *ℤ c.args.self.scale) fits)
+    (exact_converts c.args.self from to mode saturate c.args.v is whole (c.requires.room.1.in_range c.in-Exact.is c.args.v c.requires.room.2))
+
+pub returns-in-Wraps : goal.returns-in-Wraps
+returns-in-Wraps c from to mode saturate is =
+    let bias : FitsSigned w64 c.args.self.bias = search rules in
+    let way = subst (λ (way : Way). IsWay way c.args.self) c.in-Wraps.is is.way in
+    let wraps : false ≡ saturate = sym way.1 ∙ is.ends.saturate_is in
     let r = to_z-of_z w64 c.biased_shift.result (record { sfits = c.biased_shift.type_inv }) in
-    let t = to_z-of_z w64 c.stored_value.result (record { sfits = c.stored_value.type_inv }) in
-    let q : c.bias_for.result ≡ bias_for (c.args.v *ℤ c.args.self.scale) c.args.self.bias c.args.self.below = rw p at c.bias_for.ensures in
-    let shifted : IsShifted (c.args.v *ℤ c.args.self.scale) (bias_for (c.args.v *ℤ c.args.self.scale) c.args.self.bias c.args.self.below) c.args.self.even (2 ^ c.args.self.down) c.biased_shift.result = rw (p, k, q) at c.biased_shift.ensures in
-    rw t (narrow_converts c.args.self from to mode saturate c.args.v c.biased_shift.result c.stored_value.result is shifted (rw r at (c.stored_value.ensures to saturate is.ends)))
+    let shifted : IsShifted c.args.v c.args.self.bias false (2 ^ c.args.self.down) c.biased_shift.result = rw (to_z-of_z w64 c.args.v c.ranges.v, to_z-of_z w64 c.args.self.bias bias) at c.biased_shift.ensures.shifted in
+    let settles : Settles to false c.biased_shift.result c.wrapped.result = rw r at (c.wrapped.ensures to saturate is.ends) in
+    rw (to_z-of_z w64 c.wrapped.result (record { sfits = c.wrapped.type_inv }))
+    (plain_converts c.args.self from to mode saturate c.args.v c.biased_shift.result c.wrapped.result is way.0 shifted (subst (λ (s : Bool). Settles to s c.biased_shift.result c.wrapped.result) wraps settles))
 
-pub overflow_mul-scaled : goal.overflow_mul-scaled
-overflow_mul-scaled c =
-    let f : FitsSigned w64 c.args.self.scale = search rules in
-    let p : FitsSigned w64 (c.args.v *ℤ c.args.self.scale) = omega (arith, ints, c.requires.small.low, c.requires.small.high) in
-    rw (to_z-of_z w64 c.args.v c.ranges.v, to_z-of_z w64 c.args.self.scale f) p
+pub returns-in-Ends : goal.returns-in-Ends
+returns-in-Ends c from to mode saturate is =
+    let bias : FitsSigned w64 c.args.self.bias = search rules in
+    let way = subst (λ (way : Way). IsWay way c.args.self) c.in-Ends.is is.way in
+    let saturates : true ≡ saturate = sym way.1 ∙ is.ends.saturate_is in
+    let r = to_z-of_z w64 c.biased_shift-in-Ends.result (record { sfits = c.biased_shift-in-Ends.type_inv }) in
+    let shifted : IsShifted c.args.v c.args.self.bias false (2 ^ c.args.self.down) c.biased_shift-in-Ends.result = rw (to_z-of_z w64 c.args.v c.ranges.v, to_z-of_z w64 c.args.self.bias bias) at c.biased_shift-in-Ends.ensures.shifted in
+    let settles : Settles to true c.biased_shift-in-Ends.result c.nearest.result = rw r at (c.nearest.ensures to saturate is.ends) in
+    rw (to_z-of_z w64 c.nearest.result (record { sfits = c.nearest.type_inv }))
+    (plain_converts c.args.self from to mode saturate c.args.v c.biased_shift-in-Ends.result c.nearest.result is way.0 shifted (subst (λ (s : Bool). Settles to s c.biased_shift-in-Ends.result c.nearest.result) saturates settles))
 
-pub stored_value-requires : goal.stored_value-requires
-stored_value-requires c = (c.requires.narrow.1, c.requires.narrow.3, c.requires.narrow.4.ends)
+pub settled-requires-clause-small : goal.settled-requires-clause-small
+settled-requires-clause-small c = rw (to_z-of_z w64 c.args.v c.ranges.v) (c.requires.room.1.small c.args.v c.requires.room.2)
 
-pub biased_shift-requires-clause-down : goal.biased_shift-requires-clause-down
-biased_shift-requires-clause-down c = c.requires.narrow.4.shifts.down_below
+pub returns-in-Any : goal.returns-in-Any
+returns-in-Any c from to mode saturate is =
+    rw (to_z-of_z w64 c.settled.result (record { sfits = c.settled.type_inv })) (rw (to_z-of_z w64 c.args.v c.ranges.v) at (c.settled.ensures from to mode saturate is))

@@ -1,36 +1,17 @@
-use Rattle.std.proofs.Common.{true, ◌<ℤ◌, ◌≤ℤ◌, FitsSigned, arith, rules}
+use Rattle.std.proofs.Common.{◌≡◌, Bool, true, false, sym, ◌∙◌, subst}
 use Rattle.std.specs.Int.{w64}
-use Rattle.std.proofs.lemmas.Int.{ints, to_z-of_z}
-use Rattle.fx_type.specs.FxType.{lowest_of, highest_of}
+use Rattle.std.proofs.lemmas.Int.{to_z-of_z}
 use Rattle.fx_type.specs.Conversion.{Settles}
-use Rattle.dg_blocks.proofs.Narrowed.{inside, below, above, ordered}
 use Rattle.dg_blocks.proofs.narrow.Narrow.stored_value.Goals as goal
 
-pub returns-then-r-self : goal.returns-then-r-self
-returns-then-r-self c to saturate ends =
-    let low : FitsSigned w64 c.args.self.low = search rules in
-    let l : c.args.r <ℤ lowest_of to = omega (arith, ints, c.if-r-self.true, ends.low_is, low, c.ranges.r) in
-    let s : Settles to true c.args.r c.args.self.low = rw ends.low_is (below to c.args.r (ordered to ends.valid) l) in
-    let r = to_z-of_z w64 c.args.r c.ranges.r in
-    let e = to_z-of_z w64 c.args.self.low low in
-    let t = to_z-of_z w64 c.outside.result (record { sfits = c.outside.type_inv }) in
-    rw t (rw (r, e) at c.outside.ensures to saturate ends s)
+pub returns-then-self : goal.returns-then-self
+returns-then-self c to saturate ends =
+    let saturates : true ≡ saturate = sym c.if-self.true ∙ ends.saturate_is in
+    let n = to_z-of_z w64 c.nearest.result (record { sfits = c.nearest.type_inv }) in
+    rw n (subst (λ (s : Bool). Settles to s c.args.r c.nearest.result) saturates (rw (to_z-of_z w64 c.args.r c.ranges.r) at (c.nearest.ensures to saturate ends)))
 
-pub returns-else-r-self-2 : goal.returns-else-r-self-2
-returns-else-r-self-2 c to saturate ends =
-    let low : FitsSigned w64 c.args.self.low = search rules in
-    let high : FitsSigned w64 c.args.self.high = search rules in
-    let l : lowest_of to ≤ℤ c.args.r = omega (arith, ints, c.if-r-self.false, ends.low_is, low, c.ranges.r) in
-    let h : c.args.r ≤ℤ highest_of to = omega (arith, ints, c.if-r-self-2.false, ends.high_is, high, c.ranges.r) in
-    let r = to_z-of_z w64 c.args.r c.ranges.r in
-    rw r (inside to saturate c.args.r ends.number l h)
-
-pub returns-then-r-self-2 : goal.returns-then-r-self-2
-returns-then-r-self-2 c to saturate ends =
-    let high : FitsSigned w64 c.args.self.high = search rules in
-    let l : highest_of to <ℤ c.args.r = omega (arith, ints, c.if-r-self-2.true, ends.high_is, high, c.ranges.r) in
-    let s : Settles to true c.args.r c.args.self.high = rw ends.high_is (above to c.args.r (ordered to ends.valid) l) in
-    let r = to_z-of_z w64 c.args.r c.ranges.r in
-    let e = to_z-of_z w64 c.args.self.high high in
-    let t = to_z-of_z w64 c.outside-then-r-self-2.result (record { sfits = c.outside-then-r-self-2.type_inv }) in
-    rw t (rw (r, e) at c.outside-then-r-self-2.ensures to saturate ends s)
+pub returns-else-self : goal.returns-else-self
+returns-else-self c to saturate ends =
+    let wraps : false ≡ saturate = sym c.if-self.false ∙ ends.saturate_is in
+    let n = to_z-of_z w64 c.wrapped.result (record { sfits = c.wrapped.type_inv }) in
+    rw n (subst (λ (s : Bool). Settles to s c.args.r c.wrapped.result) wraps (rw (to_z-of_z w64 c.args.r c.ranges.r) at (c.wrapped.ensures to saturate ends)))

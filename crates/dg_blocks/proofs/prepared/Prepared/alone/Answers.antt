@@ -6,7 +6,7 @@ use Rattle.dg_blocks.specs.declared.narrow.Narrow.{Narrow}
 use Rattle.dg_blocks.specs.declared.prepared.Prepared.{Prepared}
 use Rattle.dg_blocks.specs.declared.prepared.Prepared.TheVariants.{Converted, Times, Scaled}
 use Rattle.dg_blocks.specs.Prepared.{IsPrepared}
-use Rattle.dg_blocks.proofs.Outputs.{converted_fits, converted_small, converted_gives, left_fits, right_fits, times_fits, times_small, times_gives, input_fits, coefficient_fits, scaled_fits, scaled_small, scaled_gives}
+use Rattle.dg_blocks.proofs.Outputs.{converted_fits, converted_room, converted_gives, left_fits, right_fits, times_fits, times_room, times_gives, input_fits, coefficient_fits, scaled_fits, scaled_room, scaled_gives}
 use Rattle.dg_blocks.proofs.prepared.Prepared.alone.Goals as goal
 
 -- a number that fits 64 bits, as the code has it
@@ -56,10 +56,10 @@ scales operation inputs prepared coefficient narrow ready can same =
 pub overflow_cast-inputs : goal.overflow_cast-inputs
 overflow_cast-inputs c = wide_fits _ (converts c.requires.0 c.args.inputs.now _ c.in-Converted.narrow c.requires.1 c.requires.2 c.in-Converted.is).input
 
-pub convert-requires-clause-small : goal.convert-requires-clause-small
-convert-requires-clause-small c =
+pub convert-requires-clause-room : goal.convert-requires-clause-room
+convert-requires-clause-room c =
     let all = converts c.requires.0 c.args.inputs.now _ c.in-Converted.narrow c.requires.1 c.requires.2 c.in-Converted.is in
-    rw (short (value_of c.args.inputs.now 0) all.input) (converted_small c.requires.0 c.args.inputs.now c.requires.2 c.in-Converted.narrow all.is)
+    rw (short (value_of c.args.inputs.now 0) all.input) (converted_room c.requires.0 c.args.inputs.now c.requires.2 c.in-Converted.narrow all.is)
 
 pub overflow_cast-product : goal.overflow_cast-product
 overflow_cast-product c = wide_fits _ (multiplies c.requires.0 c.args.inputs.now _ c.in-Times.narrow c.requires.1 c.requires.2 c.in-Times.is).left
@@ -72,11 +72,11 @@ overflow_mul-product c =
     let all = multiplies c.requires.0 c.args.inputs.now _ c.in-Times.narrow c.requires.1 c.requires.2 c.in-Times.is in
     rw (short (value_of c.args.inputs.now 0) all.left, short (value_of c.args.inputs.now 1) all.right) all.product
 
-pub convert-requires-in-Times-clause-small : goal.convert-requires-in-Times-clause-small
-convert-requires-in-Times-clause-small c =
+pub convert-requires-in-Times-clause-room : goal.convert-requires-in-Times-clause-room
+convert-requires-in-Times-clause-room c =
     let all = multiplies c.requires.0 c.args.inputs.now _ c.in-Times.narrow c.requires.1 c.requires.2 c.in-Times.is in
     let p = to_z-of_z w64 (value_of c.args.inputs.now 0 *ℤ value_of c.args.inputs.now 1) all.product in
-    rw (short (value_of c.args.inputs.now 0) all.left, short (value_of c.args.inputs.now 1) all.right, p) (times_small c.requires.0 c.args.inputs.now c.requires.2 c.in-Times.narrow all.is)
+    rw (short (value_of c.args.inputs.now 0) all.left, short (value_of c.args.inputs.now 1) all.right, p) (times_room c.requires.0 c.args.inputs.now c.requires.2 c.in-Times.narrow all.is)
 
 pub returns-in-Converted : goal.returns-in-Converted
 returns-in-Converted c operation ready can =
@@ -102,11 +102,11 @@ overflow_mul-scaled c =
     let all = scales c.requires.0 c.args.inputs.now _ c.in-Scaled.coefficient c.in-Scaled.narrow c.requires.1 c.requires.2 c.in-Scaled.is in
     rw (short (value_of c.args.inputs.now 0) all.input, to_z-of_z w64 c.in-Scaled.coefficient all.constant) all.product
 
-pub convert-requires-in-Scaled-clause-small : goal.convert-requires-in-Scaled-clause-small
-convert-requires-in-Scaled-clause-small c =
+pub convert-requires-in-Scaled-clause-room : goal.convert-requires-in-Scaled-clause-room
+convert-requires-in-Scaled-clause-room c =
     let all = scales c.requires.0 c.args.inputs.now _ c.in-Scaled.coefficient c.in-Scaled.narrow c.requires.1 c.requires.2 c.in-Scaled.is in
     let p = to_z-of_z w64 (value_of c.args.inputs.now 0 *ℤ c.in-Scaled.coefficient) all.product in
-    rw (short (value_of c.args.inputs.now 0) all.input, to_z-of_z w64 c.in-Scaled.coefficient all.constant, p) (scaled_small c.requires.0 c.args.inputs.now c.requires.2 c.in-Scaled.narrow c.in-Scaled.coefficient all.is)
+    rw (short (value_of c.args.inputs.now 0) all.input, to_z-of_z w64 c.in-Scaled.coefficient all.constant, p) (scaled_room c.requires.0 c.args.inputs.now c.requires.2 c.in-Scaled.narrow c.in-Scaled.coefficient all.is)
 
 pub returns-in-Scaled : goal.returns-in-Scaled
 returns-in-Scaled c operation ready can =
