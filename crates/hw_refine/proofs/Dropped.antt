@@ -14,7 +14,7 @@ use Rattle.hw_net.specs.Registers.{Wave}
 use Rattle.hw_refine.specs.Drops.{Drops, DropsRefine, IsKept}
 use Rattle.hw_refine.specs.Redirects.{redirected}
 use Rattle.hw_refine.specs.Refines.{Agree, Reflects, Refines}
-use Rattle.hw_refine.proofs.Redirected.{stands, zip-length, zip-weaker}
+use Rattle.hw_refine.proofs.Lists.{stands, zip-length, zip-weaker}
 
 -- what a net of old numbers shows in one function's rows, it shows by its new numbers in another's
 module _ (place : ℕ → ℕ) (n : ℕ) (whole rows : Rows) where

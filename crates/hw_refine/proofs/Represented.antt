@@ -14,7 +14,7 @@ use Rattle.hw_net.specs.Registers.{Wave}
 use Rattle.hw_refine.specs.Redirects.{redirected}
 use Rattle.hw_refine.specs.Refines.{Agree, Reflects, Refines}
 use Rattle.hw_refine.specs.Represents.{IsCopy, Represents, RepresentsRefine}
-use Rattle.hw_refine.proofs.Redirected.{zip-length, zip-weaker}
+use Rattle.hw_refine.proofs.Lists.{zip-length, zip-weaker}
 
 module _ (root : ℕ → ℕ) (rows : Rows) where
   -- what the roots show

@@ -1,0 +1,6 @@
+use Rattle.std.proofs.Common.{◌≡◌, ◌++◌, take, map}
+use Rattle.hw_renumber.specs.Renumbered.{moved_port, place_in}
+use Rattle.hw_renumber.proofs.renumbering.put_outputs.Given as goal
+
+abbrev pub invariant-loop-port : goal.invariant-loop-port
+invariant-loop-port l = l.made ≡ record l.initial.made { outputs = l.initial.made.outputs ++ map (moved_port (place_in l.places)) (take l.port-index l.ports) }
