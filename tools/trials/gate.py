@@ -217,24 +217,45 @@ class Gate(unittest.TestCase):
         "tools/cross_check", "tools/cross_values", "tools/cross_nets",
     )
 
-    def gate(self, status, last, statuses, shell=()):
+    def gate(self, status, last, statuses, shell=(), meanwhile="", linked=False):
         """What the gate ends with, where `rt ci` ends with a status and a last line, and the checks with theirs."""
         with tempfile.TemporaryDirectory() as room:
-            made = "mkdir -p crates/fx_prog/out && cp /bin/true crates/fx_prog/out/fx_prog"
+            made = f"mkdir -p crates/fx_prog/out && cp /bin/true crates/fx_prog/out/fx_prog\n{meanwhile}"
             rt = f"#!/bin/sh\n[ $1 = ci ] || {{ echo kit 1; exit; }}\n{made}\necho jobs $RT_JOBS\necho '{last}'\nexit {status}\n"
             for name, text in [("bin/rt", rt), ("top/tools/jobs", "#!/bin/sh\necho 3\n")] + [(f"top/{name}", f"#!/bin/sh\n{text_of(code)}\n") for name, code in statuses.items()]:
                 write(os.path.join(room, name), text)
                 os.chmod(os.path.join(room, name), 0o755)
-            for name in (".ci/run", "tools/gate", "tilecatnip"):
+            for name in (".ci/run", "tools/gate", "tools/sources.py", "tilecatnip"):
                 os.makedirs(os.path.join(room, "top/.ci"), exist_ok=True)
                 shutil.copy(os.path.join(TOP, name), os.path.join(room, "top", name))
+            for name in ("crates.txt", "HANDLES", "crates/fx_prog/src/main.rt", "crates/fx_prog/specs/Main.antt", "crates/fx_prog/proofs/Main.antt"):
+                write(os.path.join(room, "top", name), name)
+            if linked:
+                shutil.move(os.path.join(room, "top/crates/fx_prog/proofs"), os.path.join(room, "proofs"))
+                os.symlink(os.path.join(room, "proofs"), os.path.join(room, "top/crates/fx_prog/proofs"))
             env = {**os.environ, "PATH": os.path.join(room, "bin") + ":" + os.environ["PATH"]}
             env.pop("RT_JOBS", None)
             done = subprocess.run([*shell, os.path.join(room, "top/.ci/run")], cwd="/", env=env, capture_output=True, text=True, timeout=60)
-            self.assertEqual(done.stdout.splitlines()[0], "jobs 3")
+            self.begun = done.stdout.splitlines()[0]
             asked = subprocess.run([os.path.join(room, "top/tilecatnip"), "--program"], env=env, capture_output=True)
             self.is_proved = asked.returncode == 0
             return done.returncode, done.stdout.splitlines()[-1], [line for line in done.stdout.splitlines() if "skipped" in line]
+
+    def test_a_source_that_is_touched_during_the_proofs_fails_it(self):
+        good, source = dict.fromkeys(self.CHECKS, 0), "crates/fx_prog/src/main.rt"
+        for meanwhile in (
+            f"echo edited >{source}",
+            f"cp -p {source} kept; echo edited >{source}; cp -p kept {source}",
+            "echo added >crates/fx_prog/proofs/More.antt; rm crates/fx_prog/proofs/More.antt",
+            f"mv {source} kept; cp -p kept {source}",
+            f"rm {source}",
+        ):
+            self.assertEqual(self.gate(0, "12 passed, 0 failed", good, meanwhile=meanwhile), (1, "0 passed, 1 failed", []), meanwhile)
+            self.assertFalse(self.is_proved)
+
+    def test_a_linked_folder_fails_it(self):
+        self.assertEqual(self.gate(0, "12 passed, 0 failed", dict.fromkeys(self.CHECKS, 0), linked=True), (1, "0 passed, 1 failed", []))
+        self.assertFalse(self.is_proved)
 
     def test_a_shell_may_be_given_it(self):
         good = dict.fromkeys(self.CHECKS, 0)
@@ -245,7 +266,7 @@ class Gate(unittest.TestCase):
     def test_its_last_line_and_status_tell_of_all_checks(self):
         good = dict.fromkeys(self.CHECKS, 0)
         self.assertEqual(self.gate(0, "12 passed, 0 failed", good), (0, "12 passed, 0 failed", []))
-        self.assertTrue(self.is_proved)
+        self.assertEqual((self.begun, self.is_proved), ("jobs 3", True))
         lacking = {**good, "tools/cross_check": 77, "tools/cross_nets": 77}
         told = [f"{name}: skipped, for want of a tool" for name in ("tools/cross_check", "tools/cross_nets")]
         self.assertEqual(self.gate(0, "12 passed, 0 failed", lacking), (0, "12 passed, 0 failed", told))

@@ -8,128 +8,12 @@ import signal
 import subprocess
 import tempfile
 import time
-import unittest
 
 from .common import TOP, read, write
+from .made import ENDED, WITH_THREADS, Made
 
 
-# `version` prints a file's line; `try` answers by its words and ends as another file says.
-RT = """#!/bin/sh
-case $1 in
-    version) cat "$PRETENDED/line" ;;
-    try)
-        shift 4
-        echo "tried $1"
-        for word; do [ ! -f "$word" ] || cat "$word"; done
-        sed "s|MODEL|$2|" "$PRETENDED/ended" >&2
-        . "$PRETENDED/meanwhile"
-        ;;
-esac
-"""
-
-# `build` tells the crate and how many processors it was given, does what a file says, asks for the libraries
-# that it is to read, and makes what it is to make.
-RATTLE = """#!/bin/sh
-libraries=
-while [ $# -gt 0 ]; do
-    case $1 in
-        --crate-name) crate=$2 ;;
-        --extern) libraries="$libraries ${2#*=}" ;;
-        --jobs) jobs=$2 ;;
-        -o) made=$2 ;;
-    esac
-    shift
-done
-echo "$crate $jobs" >>"$PRETENDED/proofs"
-find "$PWD" -type f >>"$PRETENDED/copied"
-dirname "$PWD" >"$PRETENDED/room"
-. "$PRETENDED/meanwhile"
-for library in $libraries; do [ -d "$library" ] || { echo "no library $library"; exit 2; }; done
-if [ "$crate" = fx_prog ]; then echo made >"$made"; else mkdir "$made"; fi
-echo "logic=proved functions=1$(cat "$PRETENDED/word") statements=trusted"
-"""
-
-# Makes a program of an object file.
-LINK = """#!/bin/sh
-while [ "$1" != -o ]; do shift; done
-[ -f "$3" ] || { echo "no object file"; exit 1; }
-echo linked
-echo linked >&2
-printf '#!/bin/sh\\necho "$@"\\n' >"$2"
-chmod +x "$2"
-"""
-
-
-# The last lines of the toolchain, of a program without threads and of one with.
-ENDED = "checked: ended status={0}\nrun=ended status={0} runners=1 proved=no\n"
-WITH_THREADS = "checked: ended status={0}\nraces: not looked for, since a kit has no ThreadSanitizer\nrun=ended status={0} runners=1 races=unchecked proved=no\n"
-
-
-class Launcher(unittest.TestCase):
-    def setUp(self):
-        room = tempfile.TemporaryDirectory()
-        self.addCleanup(room.cleanup)
-        self.top = os.path.join(room.name, "repository")
-        self.pretended, self.kit = os.path.join(room.name, "pretended"), os.path.join(room.name, "kit")
-        self.launcher = os.path.join(self.top, "tilecatnip")
-        self.source = os.path.join(self.top, "crates/low/src/lib.rt")
-        self.model = os.path.join(room.name, "a b.mdl")
-        write(self.model, "a model")
-        for name in ("HANDLES", "crates/fx_prog/src/main.rt", "crates/low/src/lib.rt", "crates/low/specs/Low.antt", "crates/low/proofs/Lib.antt", "crates/low/must-fail/low.edit", "crates/other/src/lib.rt"):
-            write(os.path.join(self.top, name), name)
-        write(os.path.join(self.top, "crates.txt"), "# a list\nlow:\nother: low\nfx_prog: low std\n")
-        for name in ("tilecatnip", "tools/prove", "tools/machine.py"):
-            os.makedirs(os.path.dirname(os.path.join(self.top, name)), exist_ok=True)
-            shutil.copy(os.path.join(TOP, name), os.path.join(self.top, name))
-        for name, text in (("line", "kit 1\n"), ("proofs", ""), ("meanwhile", ""), ("word", ""), ("ended", ENDED.format(0))):
-            self.pretend(name, text)
-        for name, text in (("rt", RT), ("rattle", RATTLE), ("rattle-link", LINK)):
-            write(os.path.join(self.kit, "bin", name), text)
-            os.chmod(os.path.join(self.kit, "bin", name), 0o755)
-        os.makedirs(os.path.join(self.kit, "rlibs/std.rlib"))
-        self.path = os.path.join(self.kit, "bin") + ":" + os.environ["PATH"]
-
-    def pretend(self, name, text):
-        write(os.path.join(self.pretended, name), text)
-
-    def environment(self):
-        return {**os.environ, "PATH": self.path, "PRETENDED": self.pretended}
-
-    def run_with(self, *words, by=None, folder=None):
-        return subprocess.run([by or self.launcher, *words], cwd=folder, env=self.environment(), capture_output=True, text=True, timeout=60)
-
-    def proofs(self):
-        """The crates whose proof was begun, each with the processors that it was given."""
-        return [tuple(line.split()) for line in read(os.path.join(self.pretended, "proofs")).splitlines()]
-
-    def prove(self, *crates):
-        """A proof goes well, of these crates."""
-        self.pretend("proofs", "")
-        done = self.run_with("prove")
-        self.assertEqual((done.returncode, done.stdout, [name for name, _ in self.proofs()]), (0, "", [*crates]), done.stderr)
-        self.assertEqual([line for line in done.stderr.splitlines() if not line.startswith("tilecatnip: ")], [])
-        return done.stderr
-
-    def is_proved(self, **how):
-        """The proved program answers, with nothing said beside it."""
-        done = self.run_with("generate", "a b", "-", **how)
-        self.assertEqual((done.returncode, done.stdout, done.stderr), (0, "generate a b -\n", ""))
-
-    def is_unproved(self):
-        """The sources answer unproved, which is said in a line, and no proof is begun."""
-        self.pretend("proofs", "")
-        done = self.run_with("generate", self.model, "-")
-        self.assertEqual((done.returncode, done.stdout, self.proofs()), (0, "tried generate\na model", []), done.stderr)
-        self.assertIn("./tilecatnip prove", done.stderr)
-        self.assertEqual(len(done.stderr.splitlines()), 1)
-
-    def fails(self, words, said):
-        """There is no answer: status 70, nothing on standard output, and the message at the end."""
-        done = self.run_with(*words)
-        self.assertEqual((done.returncode, done.stdout), (70, ""), done.stderr)
-        self.assertIn(said, done.stderr.splitlines()[-1])
-        return done.stderr
-
+class Launcher(Made):
     def test_help_and_version_begin_nothing(self):
         for words, status, stream in (([], 2, "stderr"), (["help"], 0, "stdout"), (["-h"], 0, "stdout"), (["--help"], 0, "stdout")):
             done = self.run_with(*words)
@@ -159,7 +43,6 @@ class Launcher(unittest.TestCase):
             (lambda: os.remove(os.path.join(self.top, "crates/low/specs/Low.antt")), ["low", "fx_prog"]),
             (lambda: write(os.path.join(self.top, "crates/low/proofs/Low.antt"), "added"), ["low", "fx_prog"]),
             (lambda: write(os.path.join(self.top, "crates.txt"), "low:\nfx_prog: low\n"), ["fx_prog"]),
-            (lambda: self.pretend("line", "kit 2\n"), ["low", "fx_prog"]),
         )
         for change, proved in changes:
             change()
@@ -168,6 +51,13 @@ class Launcher(unittest.TestCase):
             self.is_proved()
             # what was made of other texts is gone
             self.assertEqual(len(os.listdir(os.path.join(self.top, "crates/fx_prog/out/proved"))), 2)
+
+    def test_another_toolchain_proves_anew_and_takes_no_proof_away(self):
+        self.prove("low", "fx_prog")
+        self.pretend("line", "kit 2\n")
+        self.is_proved()
+        self.prove("low", "fx_prog")
+        self.assertIn("stands", self.prove())
 
     def test_proves_a_copy_of_what_the_program_stands_on(self):
         self.assertIn("2 of 2 crates, 0 min", self.prove("low", "fx_prog"))
@@ -312,15 +202,57 @@ class Launcher(unittest.TestCase):
 
     def test_unproved_answers_end_as_the_program_does(self):
         folder, name = os.path.split(self.model)
-        for ended in (ENDED, WITH_THREADS):
+        for kit, ended in (("kit 2\n", ENDED), ("kit 3\n", WITH_THREADS)):
+            self.pretend("line", kit)
             self.pretend("ended", "MODEL: line 2: not MDL text\n" + ended.format(5))
             done = self.run_with("generate", name, "-", folder=folder)
             self.assertEqual((done.returncode, done.stdout), (5, "tried generate\na model"))
             self.assertEqual(done.stderr.splitlines()[1:], ["a b.mdl: line 2: not MDL text"])
         done = self.run_with("simulate", name, "gone", folder=folder)
         self.assertEqual((done.returncode, done.stderr.splitlines()[1:]), (3, ["gone: cannot be read"]))
-        self.pretend("ended", "a fault\nrun=none proved=no\n")
-        self.assertIn("a fault", self.fails(["generate", self.model, "-"], "no answer unproved"))
+
+    def test_the_sources_judge_words_and_files(self):
+        # a bad range is told before a file that isn't there, and a file that is too long before one behind it
+        self.pretend("tried", "")
+        self.run_with("explore", "gone", "bad")
+        self.assertRegex(read(os.path.join(self.pretended, "tried")), r"\Aexplore /\S+/1 bad\n\Z")
+        long = os.path.join(os.path.dirname(self.model), "long.mdl")
+        with open(long, "wb") as file:
+            file.truncate(20_000_000)
+        done = self.run_with("check", long, "gone")
+        self.assertEqual((done.returncode, len(done.stdout)), (3, len("tried check\n") + 16_777_217))
+
+    def test_says_why_there_is_no_unproved_answer(self):
+        self.pretend("ended", "assign n1 = n0;\n" * 20 + "checked: no-answer: too much\nrun=none proved=no\n")
+        said = self.fails(["generate", self.model, "-"], "no answer unproved, which may have 1 MiB")
+        self.assertEqual(len(said.splitlines()), 2)
+        log = os.path.join(self.top, "crates/fx_prog/out/unproved.log")
+        self.assertIn(log, said)
+        self.assertIn("checked: no-answer: too much\n", read(log))
+        self.pretend("ended", "error: a fault\nrun=none proved=no\n")
+        self.assertEqual(self.fails(["generate", self.model, "-"], "no answer unproved").splitlines()[1], "error: a fault")
+
+    def test_an_unproved_answer_is_kept(self):
+        def tries():
+            return len(read(os.path.join(self.pretended, "tried")).splitlines())
+
+        copy = os.path.join(os.path.dirname(self.model), "copy.mdl")
+        shutil.copy(self.model, copy)
+        self.pretend("ended", "MODEL: line 2: not MDL text\n" + ENDED.format(5))
+        for count, name in enumerate((self.model, copy, self.model)):
+            done = self.run_with("generate", name, "-")
+            self.assertEqual((done.returncode, done.stdout, tries()), (5, "tried generate\na model", 1))
+            self.assertEqual(done.stderr.splitlines()[1:], [f"{name}: line 2: not MDL text"])
+            self.assertEqual("kept" in done.stderr, count > 0)
+        for more, change in enumerate((lambda: write(self.model, "another"), lambda: write(self.source, "edited"), lambda: self.pretend("line", "kit 2\n"))):
+            change()
+            self.run_with("generate", self.model, "-")
+            self.assertEqual(tries(), more + 2)
+        # what may be otherwise at the next call
+        self.pretend("line", "kit 3\n")
+        self.pretend("ended", "out of memory\n" + ENDED.format(1))
+        for count in (5, 6):
+            self.assertEqual((self.run_with("generate", self.model, "-").returncode, tries()), (1, count))
 
     def test_unproved_answers_read_files_that_can_be_read_once(self):
         for command in ('cat "$1" | "$0" simulate /dev/stdin "$1"', '"$0" simulate "$1" /dev/stdin <"$1"'):
