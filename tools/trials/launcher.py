@@ -20,7 +20,7 @@ class Launcher(Made):
             self.assertEqual((done.returncode, self.proofs()), (status, []))
             self.assertIn("./tilecatnip generate", getattr(done, stream))
         done = self.run_with("--version")
-        version = re.search(r"^version=(.*)$", read(self.launcher), re.M)[1]
+        version = re.search(r"^version=(.*)$", read(os.path.join(self.top, "tools/words.sh")), re.M)[1]
         self.assertEqual(done.stdout, f"tilecatnip {version}\n")
         self.assertIn(f"## {version}", read(os.path.join(TOP, "CHANGELOG.md")))
 
@@ -223,14 +223,17 @@ class Launcher(Made):
         self.assertEqual((done.returncode, len(done.stdout)), (3, len("tried check\n") + 16_777_217))
 
     def test_says_why_there_is_no_unproved_answer(self):
-        self.pretend("ended", "assign n1 = n0;\n" * 20 + "checked: no-answer: too much\nrun=none proved=no\n")
-        said = self.fails(["generate", self.model, "-"], "no answer unproved, which may have 1 MiB")
+        why = "the program wrote more than 1048576 bytes"
+        words = "the end of the program's standard output:\n" + "| assign n1 = n0;\n" * 20 + f"interpreter: no-answer: a call\nchecked: no-answer: {why}\nraces: not looked for\n"
+        self.pretend("ended", words + "run=no-answer proved=no\n")
+        said = self.fails(["generate", self.model, "-"], f"no answer unproved ({why})")
         self.assertEqual(len(said.splitlines()), 2)
-        log = os.path.join(self.top, "crates/fx_prog/out/unproved.log")
+        log = os.path.join(os.path.realpath(self.top), "crates/fx_prog/out/unproved.log")
         self.assertIn(log, said)
-        self.assertIn("checked: no-answer: too much\n", read(log))
-        self.pretend("ended", "error: a fault\nrun=none proved=no\n")
-        self.assertEqual(self.fails(["generate", self.model, "-"], "no answer unproved").splitlines()[1], "error: a fault")
+        self.assertIn(words, read(log))
+        self.pretend("ended", "error: a fault\n  in a line\nrun=none proved=no\n")
+        said = self.fails(["generate", self.model, "-"], "no answer unproved")
+        self.assertEqual(said.splitlines()[1:3], ["error: a fault", "  in a line"])
 
     def test_an_unproved_answer_is_kept(self):
         def tries():
@@ -292,5 +295,5 @@ class Launcher(Made):
         self.is_proved()
 
     def test_README_says_how_long_a_proof_takes(self):
-        taken = re.search(r"^prove_time='(.*)'$", read(self.launcher), re.M)[1]
+        taken = re.search(r"^prove_time='(.*)'$", read(os.path.join(self.top, "tools/words.sh")), re.M)[1]
         self.assertTrue(taken in read(os.path.join(TOP, "README.md")), taken)

@@ -4,6 +4,7 @@ import os
 import resource
 import shutil
 import subprocess
+import time
 
 from .common import read, write
 from .made import Made
@@ -150,3 +151,52 @@ class Surroundings(Made):
         self.prove("low", "fx_prog")
         self.is_proved()
         self.assertNotIn("edited", read(self.source))
+
+    def test_a_look_at_sizes_and_times(self):
+        """Sums are taken only where a size or a time differs, and not trusted of a source that is younger than two seconds."""
+        self.prove("low", "fx_prog")
+        seen = os.path.join(self.top, "crates/fx_prog/out/seen")
+        self.is_proved()
+        self.assertFalse(os.path.exists(seen))
+        time.sleep(3.1)
+        self.is_proved()
+        self.assertTrue(os.path.exists(seen))
+        no_sums = {"PATH": self.failing("cksum", "exit 1")}
+        self.assertEqual(self.answers(self.launcher, *WORDS, env=no_sums).stdout, ANSWER)
+        # where a look isn't to be had there are sums
+        for name in ("xargs", "stat", "cmp"):
+            self.assertEqual(self.answers(self.launcher, *WORDS, env={"PATH": self.failing(name, "exit 1")}).stdout, ANSWER, name)
+            self.assertTrue(os.path.exists(seen), name)
+        kept = os.path.join(self.pretended, "kept")
+        for path in (self.source, os.path.join(self.top, "crates.txt"), os.path.join(self.top, "crates/fx_prog/out/inputs")):
+            shutil.copy2(path, kept)
+            text = read(path)
+            write(path, text[:-2] + "X" + text[-1])
+            shutil.copystat(kept, path)
+            self.fails(["--proved", *WORDS], "no proved program")
+            write(path, text)
+            shutil.copystat(kept, path)
+            self.unknown(self.answers(self.launcher, *WORDS, env=no_sums), "cksum")
+            self.is_proved()
+        for path in ("crates/low/proofs/More.antt", "crates/new/src/lib.rt", "crates/other/specs/New.antt"):
+            write(os.path.join(self.top, path), "added")
+            self.fails(["--proved", *WORDS], "no proved program")
+            os.remove(os.path.join(self.top, path))
+            if not os.listdir(os.path.dirname(os.path.join(self.top, path))):
+                os.removedirs(os.path.dirname(os.path.join(self.top, path)))
+            self.is_proved()
+        time.sleep(3.1)
+        self.is_proved()
+        program = os.path.join(self.top, "crates/fx_prog/out/fx_prog")
+        write(program, read(program).replace("echo", "false"))
+        self.fails(["--proved", *WORDS], "no proved program")
+
+    def test_a_folder_that_cannot_be_written_to(self):
+        self.prove("low", "fx_prog")
+        out = os.path.join(self.top, "crates/fx_prog/out")
+        for folder, _, _ in os.walk(os.path.dirname(self.top)):
+            os.chmod(folder, 0o555 if folder == out else 0o755)
+        time.sleep(3.1)
+        done = self.limited(resource.RLIMIT_NPROC, 10_000)
+        self.assertEqual((done.returncode, done.stdout, done.stderr), (0, ANSWER, ""))
+        self.assertEqual(sorted(os.listdir(out)), ["fx_prog", "inputs", "prove.log", "proved", "proving"])
