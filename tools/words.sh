@@ -1,46 +1,70 @@
-# The launcher's words that need no program, which it reads (`. tools/words.sh`) where it was given one.
+# The launcher's words that need no program. It reads this file (`. tools/words.sh`) where it was given one of
+# them, or has to say that no program is proved.
 
 version=0.1
 # How long `prove` takes from nothing, which README.md says in the same words: a sum over crates.
-prove_time='some 15-21 minutes on four processors'
+prove_time='52-96 processor minutes, 15-28 minutes on four processors'
 none="there is no proved program of these sources: ./tilecatnip prove makes it ($prove_time)"
 
+# The texts of help: behind `=` a command with its words, behind `:` what it does, behind `$` an example, behind
+# `-` what a word stands for, behind `!` its statuses, and behind `#` what a status means.
+texts=$top/tools/help.txt
+
+newline='
+'
+
+# Adds a line to the text: what is to be so wide at least, and the rest.
+add() {
+    field=$2
+    while [ "${#field}" -lt "$1" ]; do field="$field "; done
+    case $3 in
+        *PROVE_TIME*) set -- "$1" "$2" "${3%%PROVE_TIME*}$prove_time${3#*PROVE_TIME}" ;;
+    esac
+    text=$text$field$3$newline
+}
+
+# The text of all commands, each with what it does and its example.
 help() {
-    cat <<END
-usage: ./tilecatnip COMMAND WORDS
-
-  simulate MODEL STIM writes the response of a model's diagram to a stimulus, a line
-                      of numbers per base sample:
-                      ./tilecatnip simulate examples/unit_delay.mdl examples/unit_delay.stim
-  generate MODEL PLAN writes the Verilog module of a model by a plan; \`-\` is the
-                      empty plan, one clock per base sample:
-                      ./tilecatnip generate examples/unit_delay.mdl - >unit_delay.v
-  replay VERILOG STIM writes what the module of a Verilog text of the subset shows
-                      under a stimulus, a line of numbers per base sample:
-                      ./tilecatnip replay examples/unit_delay.v examples/unit_delay.stim
-  explore MODEL RANGE writes what each plan of a range is worth, clocks a base sample from
-                      one number to another and multipliers likewise, and the least plan:
-                      ./tilecatnip explore examples/three_products.mdl 3..4,0..1
-  check MODEL PLAN    writes the periods, latencies and types of a model's blocks by a plan,
-                      and why each output is so late; \`-\` is the empty plan:
-                      ./tilecatnip check examples/pipelined_gain.mdl examples/pipelined_gain.plan
-  sample NUMBER       makes a model of NUMBER blocks (1 to 5000) and four more, its module and
-                      a stimulus, and writes in how many of 12 numbers both respond alike:
-                      ./tilecatnip sample 100
-  stream MODEL PLAN   writes the module of a model by a plan with valid and ready on both
-                      sides, as between ports of AXI-Stream; \`-\` is the empty plan:
-                      ./tilecatnip stream examples/unit_delay.mdl -
-  prove               proves and builds the program, on all processors ($prove_time);
-                      stopped at any time, it goes on when it is run again:
-                      ./tilecatnip prove
-  help                prints this (-h and --help too); --version prints the version
-
-Until \`prove\` has made the proved program, and after a change of the sources, an answer
+    [ -r "$texts" ] || fail "$texts can't be read"
+    text="usage: ./tilecatnip COMMAND WORDS$newline$newline"
+    while read -r mark rest; do
+        case $mark in
+            =) column="  $rest" ;;
+            :) add 22 "$column" "$rest" && column= ;;
+            '$') add 22 '' "./tilecatnip $rest" ;;
+        esac
+    done <"$texts"
+    text=$text$newline'Until `prove` has made the proved program, and after a change of the sources, an answer
 comes from the same sources unproved, takes a minute or two, and says so on standard error.
 For scripts: --proved before a command answers by the proved program or not at all
-(status 70), --program prints its path, and --inputs lists what it is made of.
-README.md says what each exit status means.
-END
+(status 70), --program prints its path, and --inputs lists what it is made of.'
+}
+
+# The text of what one command wants, its statuses and an example, where there is such a command.
+help_of() {
+    [ -r "$texts" ] || fail "$texts can't be read"
+    text='' within='' statuses='' example=''
+    while read -r mark rest; do
+        case $mark:${rest%% *} in
+            =:"$1") within=yes text="usage: ./tilecatnip $rest$newline$newline" ;;
+            =:*) within= ;;
+            \#:*)
+                case " $statuses " in
+                    *" ${rest%% *} "*) add 6 "  ${rest%% *}" "${rest#* }" ;;
+                esac
+                ;;
+        esac
+        case $within$mark in
+            yes:) add 0 '' "$rest" ;;
+            'yes$') example=$rest text=$text$newline ;;
+            yes-) add 11 "  ${rest%% *}" "${rest#* }" ;;
+            yes!)
+                statuses=$rest text=${text%"$newline$newline"}
+                text=${text%"$newline"}$newline$newline'statuses:'$newline
+                ;;
+        esac
+    done <"$texts"
+    [ -n "$text" ] && text=$text$newline'example:'$newline"  ./tilecatnip $example"
 }
 
 # The toolchain's line; without a toolchain in the path it is the recorded one.
@@ -73,11 +97,18 @@ print() {
     leave 0
 }
 
+case $#:${2-} in
+    2:--help) ! help_of "$1" || print "$text" ;;
+esac
 case ${1-} in
-    '') help >&2; leave 2 ;;
+    '') help && printf '%s\n' "$text" >&2; leave 2 ;;
     help | -h | --help)
-        text=$(help) || fail "cat failed"
-        print "$text"
+        case $1:$# in
+            help:2) ! help_of "$2" || print "$text" ;;
+            *:1) help && print "$text" ;;
+        esac
+        echo 'usage: ./tilecatnip help [COMMAND]' >&2
+        leave 2
         ;;
     --version) print "tilecatnip $version" ;;
     --inputs)
@@ -99,5 +130,11 @@ $listed"
         fi
         needs "the proof needs it"
         exec python3 "$top/tools/prove" "$prove_time"
+        ;;
+    install)
+        [ "$#" -le 2 ] || { echo 'usage: ./tilecatnip install [PREFIX]' >&2; leave 2; }
+        is_proved || fail "$none"
+        command -v python3 >/dev/null 2>&1 || fail "python3 isn't in the path, and install needs it"
+        exec python3 "$top/tools/install" "$version" "${2-/usr/local}"
         ;;
 esac

@@ -225,7 +225,7 @@ class Gate(unittest.TestCase):
             for name, text in [("bin/rt", rt), ("top/tools/jobs", "#!/bin/sh\necho 3\n")] + [(f"top/{name}", f"#!/bin/sh\n{text_of(code)}\n") for name, code in statuses.items()]:
                 write(os.path.join(room, name), text)
                 os.chmod(os.path.join(room, name), 0o755)
-            for name in (".ci/run", "tools/gate", "tools/sources.py", "tilecatnip"):
+            for name in (".ci/run", "tools/gate", "tools/sources.py", "tools/words.sh", "tilecatnip"):
                 os.makedirs(os.path.join(room, "top/.ci"), exist_ok=True)
                 shutil.copy(os.path.join(TOP, name), os.path.join(room, "top", name))
             for name in ("crates.txt", "HANDLES", "crates/fx_prog/src/main.rt", "crates/fx_prog/specs/Main.antt", "crates/fx_prog/proofs/Main.antt"):

@@ -82,7 +82,7 @@ class Made(unittest.TestCase):
         for name in ("HANDLES", "crates/fx_prog/src/main.rt", "crates/low/src/lib.rt", "crates/low/specs/Low.antt", "crates/low/proofs/Lib.antt", "crates/low/must-fail/low.edit", "crates/other/src/lib.rt"):
             write(os.path.join(self.top, name), name)
         write(os.path.join(self.top, "crates.txt"), "# a list\nlow:\nother: low\nfx_prog: low std\n")
-        for name in ("tilecatnip", "tools/prove", "tools/machine.py", "tools/sources.py", "tools/unproved", "tools/words.sh"):
+        for name in ("tilecatnip", "tools/prove", "tools/machine.py", "tools/sources.py", "tools/unproved", "tools/words.sh", "tools/help.txt", "tools/install"):
             os.makedirs(os.path.dirname(os.path.join(self.top, name)), exist_ok=True)
             shutil.copy(os.path.join(TOP, name), os.path.join(self.top, name))
         for name, text in (("line", "kit 1\n"), ("proofs", ""), ("tried", ""), ("meanwhile", ""), ("at_version", ""), ("word", ""), ("ended", ENDED.format(0))):

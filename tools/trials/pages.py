@@ -96,6 +96,12 @@ class Shown(unittest.TestCase):
                 tried += 1
         self.assertGreater(tried, 3)
 
+    def test_examples_of_help(self):
+        examples = re.findall(r"^\$ ((?!prove|install|help)[^>\n]*)", read(os.path.join(TOP, "tools/help.txt")), re.M)
+        self.assertEqual(len(examples), 7)
+        for example in examples:
+            self.assertEqual(self.print_of(f"./tilecatnip {example}").returncode, 0, example)
+
     def test_picture_of_plans(self):
         [session] = [text for _, text in blocks_of("examples/README.md") if "tools/plot_explore" in text]
         (explored, _), (drawn, _) = commands_of(session)
