@@ -60,6 +60,7 @@ class Surroundings(Made):
                 edit()
                 done = self.answers(self.launcher, "--proved", *WORDS, env={"PATH": self.failing(name, "exit 0")})
                 self.assertEqual((done.returncode, done.stdout), (70, ""), name)
+        self.assertEqual([name for name in os.listdir(os.path.join(self.top, "crates/fx_prog/out")) if name.startswith("seen")], [])
 
     def test_a_failing_toolchain_proves_nothing(self):
         self.prove("low", "fx_prog")
@@ -81,6 +82,14 @@ class Surroundings(Made):
         for path in ("/nonexistent", "", self.path):
             done = self.answers("/bin/sh", self.launcher, "--proved", *WORDS, cwd=caller, env={"PATH": path})
             self.assertEqual((done.returncode, done.stdout), (0, ANSWER), done.stderr)
+        # nor where `cd` would look elsewhere for a folder
+        shutil.copytree(self.top, os.path.join(caller, os.path.basename(self.top)))
+        for edit, ended in ((lambda: None, (0, ANSWER)), (self.edit, (70, ""))):
+            edit()
+            for by in ("repository/tilecatnip", "./repository/tilecatnip", "repository/crates/../tilecatnip"):
+                done = self.answers("/bin/sh", by, "--proved", *WORDS, cwd=os.path.dirname(self.top), env={"CDPATH": caller})
+                self.assertEqual((done.returncode, done.stdout), ended, done.stderr)
+        self.prove("low", "fx_prog")
         # a shell that takes its script from the path doesn't say where that stands
         bash = shutil.which("bash")
         if bash:
