@@ -1,0 +1,1 @@
+"""Rewrites models as they are drawn into the profile (`tools/import`)."""
