@@ -120,6 +120,7 @@ def run(words: list[str]) -> int:
     try:
         names = variables_of(given.variables, report)
         model = build(sections_of(load(given.model)))
+        model.name = model.name or os.path.splitext(os.path.basename(given.model))[0]
         rewrite(model, names, report)
     except (OSError, NotText, RecursionError) as fault:
         sys.stderr.write(f"tools/import: {given.model}: {fault}\n")

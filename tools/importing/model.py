@@ -144,7 +144,7 @@ class Builder:
         elif "X0" in given:
             given.setdefault("InitialCondition", given["X0"])
         block = Block(kind, name, given, lines, section.line, section.part, above=above, has_defaults=defaults is not None)
-        block.masks = section.all("Mask") + [it for it in section.all("Object") if it.get("$ClassName") == "Simulink.Mask"]
+        block.masks = section.all("Mask") + [it for it in section.all("Object") if "Simulink.Mask" in (it.get("$ClassName"), it.get("ClassName"))]
         systems = section.all("System") if kind == "SubSystem" else []
         if len(systems) > 1:
             raise NotText(f"{section.part} line {section.line}: a subsystem with {len(systems)} systems")

@@ -8,13 +8,14 @@ from . import fixed
 from .fixed import FixType
 from .model import Block
 from .report import Refusal
-from .settings import AUTO, BACK, INTERNAL, ROUNDINGS, Settings, listed, short
+from .settings import AUTO, BACK, INTERNAL, ROUNDINGS, Settings
 
 Spelled = str | Fraction
 Reader = Callable[[Settings, Block, str, str], Spelled]
 FIRST = "Inherit: Same as first input"
 INPUT = "Inherit: Same as input"
 FROM_VALUE = "Inherit: Inherit from 'Constant value'"
+ELEMENTS = "Element-wise(K.*u)"
 EACH = "Elements as channels (sample based)"
 
 
@@ -28,6 +29,14 @@ def choice(*allowed: str, remedy: str = "") -> Reader:
 
 def numbers(settings: Settings, block: Block, name: str, default: str) -> Spelled:
     return settings.list(block, name, default)
+
+
+def coefficients(settings: Settings, block: Block, name: str, default: str) -> Spelled:
+    """A list of decimals; a matrix is looked at by the step that multiplies by it."""
+    if block.given.get("Multiplication", ELEMENTS) == ELEMENTS:
+        return numbers(settings, block, name, default)
+    settings.matrix(block, name, default)
+    return "1"
 
 
 def period(settings: Settings, block: Block, name: str, default: str) -> Spelled:
@@ -59,7 +68,7 @@ def known(block: Block, found: FixType | str, values: list[Fraction], settings: 
     kind = fixed.best(values, found.signed, found.width)
     if kind is None:
         raise Refusal("no fraction holds the value", "declare fixdt(S,W,F)", name, block.given.get(name, ""))
-    settings.report.tell(block.place(name), f"{name} {block.given.get(name, '')} is {kind}, of the best precision for its value")
+    settings.report.tell(block.place(name), f"{name} {settings.type_text(block, name, '')} is {kind}, of the best precision for its value")
     return str(kind)
 
 
@@ -148,7 +157,7 @@ TABLE: dict[str, tuple[tuple[str, str, Reader], ...]] = {
     "Ground": (),
     "Terminator": (),
     "Sum": (("Inputs", "++", signs), *common(FIRST)),
-    "Gain": (("Gain", "1", numbers), ("ParamDataTypeStr", INTERNAL, coefficient_type), *common(INPUT)),
+    "Gain": (("Gain", "1", coefficients), ("ParamDataTypeStr", INTERNAL, coefficient_type), *common(INPUT)),
     "Product": (("Inputs", "2", choice("2", "**", remedy="two factors: several Products one behind the other, and no division")), ("Multiplication", "Element-wise(.*)", choice("Element-wise(.*)")), *common(FIRST)),
     "UnitDelay": (("InitialCondition", "0", numbers), SAMPLE),
     "Delay": (("DelayLength", "2", whole(0, 1024)), ("InitialCondition", "0", numbers), SAMPLE, ("DelayLengthSource", "Dialog", choice("Dialog")), ("InitialConditionSource", "Dialog", choice("Dialog")), ("ExternalReset", "None", choice("None")), ("ShowEnablePort", "off", choice("off"))),
@@ -179,6 +188,3 @@ def settle(settings: Settings, block: Block) -> bool:
 
 def is_default(kind: str, name: str, value: Spelled) -> bool:
     return any(row[:2] == (name, value) for row in TABLE[kind])
-
-
-__all__ = ["EACH", "FIRST", "INPUT", "TABLE", "is_default", "listed", "settle", "short"]

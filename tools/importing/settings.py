@@ -50,6 +50,11 @@ def decimal(value: Fraction) -> tuple[str, bool]:
     return sign + spelled(rounded, places), False
 
 
+def told(value: Fraction) -> str:
+    """A number for the log: a decimal where it is one, else a fraction."""
+    return decimal(value)[0] if decimal(value)[1] else str(value)
+
+
 def spelled(digits: int, places: int) -> str:
     text = str(digits).rjust(places + 1, "0")
     return (text[:-places] + "." + text[-places:]).rstrip("0").rstrip(".") if places else text
@@ -219,6 +224,6 @@ def old_type(given: dict[str, str], name: str) -> str:
         return f"fixdt({sign},{width},0)"
     if found[2] == "frac":
         return f"fixdt({sign},{width},{width}-{sign})"
-    if "Best" in given.get(scaling + "Mode", "") or "Best" in given.get("ConstantScalingMode", ""):
+    if "Best" in given.get(scaling + "Mode", "") or "Best" in given.get("ConRadixGroup", ""):
         return f"fixdt({sign},{width})"
     return f"fixdt({sign},{width},{given.get(scaling, '1')},0)"

@@ -192,8 +192,3 @@ def inputs_of(block: Block) -> int:
         said = str(block.parameters["Inputs"])
         return len(numbers(said)) if said.startswith("[") else int(said)
     return {"Product": 2, "RelationalOperator": 2, "Switch": 3}.get(block.kind, 1)
-
-
-
-
-__all__ = ["Signals", "inputs_of", "numbers", "parts"]

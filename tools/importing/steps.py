@@ -8,7 +8,7 @@ from . import choosing, reckoning, timing
 from .group import Rebuild
 from .inheriting import back_propagated
 from .model import Block, Model
-from .profile import TABLE, settle
+from .profile import ELEMENTS, TABLE, settle
 from .report import NotYet, Refusal, Report
 from .settings import BACK, INTERNAL, Settings
 from .signals import Signals
@@ -50,7 +50,7 @@ def of_profile(block: Block) -> Step | None:
     said = block.parameters
     if block.kind == "Sum" and (len(str(said["Inputs"])) == 1 or (block.given.get("AccumDataTypeStr") or INTERNAL) != INTERNAL):
         return reckoning.total
-    if block.kind == "Gain" and block.given.get("Multiplication", "Element-wise(K.*u)") != "Element-wise(K.*u)":
+    if block.kind == "Gain" and block.given.get("Multiplication", ELEMENTS) != ELEMENTS:
         return reckoning.matrix_gain
     if block.kind == "RateTransition" and isinstance(said["OutPortSampleTime"], str):
         return timing.rate_transition
@@ -82,6 +82,8 @@ class Passes:
         for block in self.model.blocks():
             for refusal in passed_over(block):
                 self.report.refuse(block.place(refusal.parameter), refusal)
+            if block.kind == "SubSystem" and any(block.given.get(name) for name in (*mdl.LINKS, "ReferenceBlock")):
+                self.report.tell(block.place(), "a link to a library, whose blocks stand in the file: taken as they stand")
             for name in mdl.CALLS:
                 if block.given.get(name):
                     self.report.tell(block.place(name), f"{name} is not run")
@@ -132,3 +134,14 @@ class Passes:
             for block, _ in self.pending:
                 why = Refusal(waiting[id(block)], "declare types and sample times at Inports, Constants and conversions before it", "BlockType", block.kind)
                 self.report.refuse(block.place(), why)
+        if not self.report.refused:
+            self.look_at_types()
+
+    def look_at_types(self) -> None:
+        """Refuses outputs whose type the profile's rules don't give."""
+        signals = Signals(self.model)
+        for block in self.model.blocks():
+            for port in range(1, signals.outputs(block) + 1 if block.kind not in ("SubSystem", "Outport") else 1):
+                if (id(block), port) not in signals.types:
+                    why = Refusal("no type is known for it, or it needs more than 128 bits", "declare a type, in each loop of one block at least", "BlockType", block.kind)
+                    self.report.refuse(block.place(), why)

@@ -4,11 +4,11 @@ import re
 from collections.abc import Iterator
 
 from . import variables
-from .functions import Fault
 from .model import Block, Edge, Model, System
-from .report import Refusal, Report
+from .report import Place, Refusal, Report
+from .sections import Section
 from .settings import Settings, short
-from .values import Value, scalar
+from .values import Value
 
 DISPLAYS = {
     "Scope", "FloatingScope", "Display", "ToWorkspace", "ToFile", "XYGraph", "TimeScope", "WebTimeScopeBlock", "SpectrumAnalyzer",
@@ -17,6 +17,7 @@ DISPLAYS = {
 NOTES = {"DocBlock", "CMBlock", "ModelInfo", "GotoTagVisibility"}
 SINKS = re.compile(r"(simulink/Sinks|dspsnks\w*|simulink_extras/Additional\s+Sinks)/")
 GLOBAL = "global"
+OF_MASK = "Simulink.MaskParameter"
 
 
 def library_name(block: Block) -> str:
@@ -238,25 +239,27 @@ class Masks:
         for name, number in numbered:
             if 0 < int(number) <= len(values):
                 yield name, values[int(number) - 1]
-        for mask in block.masks:
-            for parameter in mask.inside():
-                name = parameter.get("Name")
-                if parameter.name == "MaskParameter" or parameter.get("$ClassName") == "Simulink.MaskParameter":
-                    values = [parameter.get("Value")] + [it.get("#text") for it in parameter.all("Value")]
-                    yield name, block.given.get(name) or next((it for it in values if it), "")
+        for parameter in (it for mask in block.masks for it in mask_parameters(mask)):
+            name = parameter.get("Name")
+            values = [parameter.get("Value")] + [it.get("#text") for it in parameter.all("Value")]
+            yield name, block.given.get(name) or next((it for it in values if it), "")
+
+
+def mask_parameters(mask: Section) -> Iterator[Section]:
+    """The parameters of a mask: elements of their name, objects of their class, or those of an array of it."""
+    for section in mask.inside():
+        if section.name == "MaskParameter" or OF_MASK in (section.get("$ClassName"), section.get("ClassName")):
+            yield section
+        elif section.name == "Array" and section.get("Type") == OF_MASK:
+            yield from (it for it in section.all("Object") if not it.get("$ClassName") and not it.get("ClassName"))
 
 
 def take_callbacks(model: Model, names: dict[str, Value], report: Report) -> None:
     """Takes the assignments of the model's own callbacks."""
-    from .report import Place
-
     for call in ("PreLoadFcn", "PostLoadFcn", "InitFcn"):
         code = model.section.get(call)
         before = set(names)
         for _, statement, why in variables.assign(code, names) if code else []:
             report.tell(Place(model.section.lines[call]), f"{call}: {short(statement)} is not run: {why}")
-        for name in set(names) - before:
+        for name in sorted(set(names) - before):
             report.tell(Place(model.section.lines[call]), f"{call} gives {name} its value")
-
-
-__all__ = ["Fault", "Masks", "Tags", "comment_out", "drop_displays", "is_display", "join", "library_name", "scalar", "take_callbacks"]

@@ -6,7 +6,7 @@ from .fixed import FixType, narrowest
 from .group import Group, Rebuild, Source
 from .profile import EACH
 from .report import NotYet, Refusal
-from .settings import INFINITE, listed
+from .settings import INFINITE, listed, told
 from .structure import join
 
 MULTIPLE = "Multiple of input port sample time"
@@ -36,9 +36,9 @@ def hold(it: Rebuild) -> None:
         it.tell("ZeroOrderHold: its input has this sample time already, and goes on to its readers")
     elif driver == INFINITE or (own / driver).denominator == 1:
         transit(it, own, "0")
-        it.tell(f"ZeroOrderHold: a RateTransition to the sample time {listed([own])}")
+        it.tell(f"ZeroOrderHold: a RateTransition to the sample time {told(own)}")
     else:
-        raise Refusal("an input that is slower than the hold", "a RateTransition, which gives the input one slow sample later", "SampleTime", listed([own]))
+        raise Refusal("an input that is slower than the hold", "a RateTransition, which gives the input one slow sample later", "SampleTime", told(own))
 
 
 def transit(it: Rebuild, period: Fraction, initial: str) -> None:
@@ -52,10 +52,10 @@ def rate_transition(it: Rebuild) -> None:
     if it.block.parameters["OutPortSampleTime"] == MULTIPLE:
         factor = it.number("OutPortSampleTimeMultiple", "1")
         period = finite(it) * factor
-        it.tell(f"RateTransition: {listed([factor])} times the input's sample time is {listed([period])}")
+        it.tell(f"RateTransition: {told(factor)} times the input's sample time is {told(period)}")
     else:
         period = readers_period(it)
-        it.tell(f"RateTransition: the sample time {listed([period])} is that of what reads it")
+        it.tell(f"RateTransition: the sample time {told(period)} is that of what reads it")
     it.block.parameters["OutPortSampleTime"] = period
     it.block.settled = True
 
@@ -135,7 +135,7 @@ def downsampled(it: Rebuild) -> None:
     if offset:
         here = group.put("Delay", "offset", here, DelayLength=factor - offset, InitialCondition=listed([initial]))
     group.close(group.put("RateTransition", "slow", here, OutPortSampleTime=period * factor))
-    it.tell(f"Downsample: a RateTransition to the sample time {listed([period * factor])}" + (f", behind a Delay by {factor - offset} that starts at {listed([initial])}" if offset else ", without a delay"))
+    it.tell(f"Downsample: a RateTransition to the sample time {told(period * factor)}" + (f", behind a Delay by {factor - offset} that starts at {listed([initial])}" if offset else ", without a delay"))
 
 
 def upsampled(it: Rebuild) -> None:
@@ -150,7 +150,7 @@ def upsampled(it: Rebuild) -> None:
     here = group.put("RelationalOperator", "here", count, group.constant("offset", [Fraction(offset)], bits_for(factor)), Operator="==")
     zero = group.constant("zero", [Fraction(0)], kind)
     group.close(group.put("Switch", "sample", fast, here, zero, Criteria="u2 ~= 0", OutDataTypeStr=kind))
-    it.tell(f"Upsample: a RateTransition to the sample time {listed([period])}, {factor - 1} zeros behind each sample; the numbers come one slow sample later, first {listed([initial])}")
+    it.tell(f"Upsample: a RateTransition to the sample time {told(period)}, {factor - 1} zeros behind each sample; the numbers come one slow sample later, first {listed([initial])}")
 
 
 def bits_for(count: int) -> FixType:

@@ -6,7 +6,7 @@ from fractions import Fraction
 from .model import Block, Model, System
 from .profile import TABLE, is_default
 from .report import Place, Refusal, Report
-from .settings import decimal
+from .settings import told
 
 MOST_TIMES = 4096
 UPRIGHT = ("Position", "Orientation", "BlockMirror")
@@ -21,19 +21,15 @@ class Periods:
     """Sample times as whole multiples of the least."""
 
     def __init__(self, model: Model, report: Report):
-        told = [(block, name, value) for block in model.blocks() for name, value in block.parameters.items() if isinstance(value, Fraction)]
-        self.least = min((value for _, _, value in told), default=Fraction(1))
-        for block, name, value in told:
+        periods = [(block, name, value) for block in model.blocks() for name, value in block.parameters.items() if isinstance(value, Fraction)]
+        self.least = min((value for _, _, value in periods), default=Fraction(1))
+        for block, name, value in periods:
             times = value / self.least
             if times.denominator != 1 or times > MOST_TIMES:
-                why = f"no whole multiple of the least sample time {decimal(self.least)[0]}, up to {MOST_TIMES} times"
-                report.refuse(block.place(name), Refusal(why, "sample times that are", name, decimal(value)[0]))
-        if self.least != 1 and told:
-            report.tell(Place(1), f"a base sample is {self.told(self.least)}: sample times are written as multiples of it")
-
-    @staticmethod
-    def told(value: Fraction) -> str:
-        return str(value) if decimal(value)[1] is False else decimal(value)[0]
+                why = f"no whole multiple of the least sample time {told(self.least)}, up to {MOST_TIMES} times"
+                report.refuse(block.place(name), Refusal(why, "sample times that are", name, told(value)))
+        if self.least != 1 and periods:
+            report.tell(Place(1), f"a base sample is {told(self.least)}: sample times are written as multiples of it")
 
     def spelled(self, value: Fraction) -> str:
         return str(value / self.least)

@@ -167,7 +167,9 @@ class Lint(unittest.TestCase):
         self.assertIn('line 6: "a": Commented "on"', said)
 
     def test_no_model_of_the_examples_is_read_otherwise(self):
-        for model in glob.glob(os.path.join(TOP, "examples/**/*.mdl"), recursive=True):
+        models = glob.glob(os.path.join(TOP, "examples/**/*.mdl"), recursive=True)
+        # those that are drawn as the tool draws them are rewritten first
+        for model in (it for it in models if os.path.basename(os.path.dirname(it)) != "drawn"):
             done = tool("lint", model)
             self.assertEqual((done.stdout, done.returncode), ("", 0), model)
 
