@@ -114,27 +114,29 @@ def put(path: str | None, text: str, otherwise) -> None:
         file.write(text)
 
 
+def imported(data: bytes, path: str, names: dict[str, Value], report: Report) -> str | None:
+    """The rewritten text of a model; none where something is refused."""
+    model = build(sections_of(data))
+    model.name = model.name or os.path.splitext(os.path.basename(path))[0]
+    rewrite(model, names, report)
+    periods = Periods(model, report)
+    if report.refused:
+        return None
+    return Writer(periods).model(model, f"Rewritten by tools/import from {os.path.basename(path)}.")
+
+
 def run(words: list[str]) -> int:
     """The status: 0 where the model is written, 1 where something can't be rewritten, 2 where a file can't be read."""
     given, report = parsed(words), Report()
     try:
-        names = variables_of(given.variables, report)
-        model = build(sections_of(load(given.model)))
-        model.name = model.name or os.path.splitext(os.path.basename(given.model))[0]
-        rewrite(model, names, report)
-    except (OSError, NotText, RecursionError) as fault:
-        sys.stderr.write(f"tools/import: {given.model}: {fault}\n")
-        return 2
-    periods = Periods(model, report)
-    try:
-        if report.refused:
+        text = imported(load(given.model), given.model, variables_of(given.variables, report), report)
+        if text is None:
             sys.stderr.write("".join(f"{given.model}: {line}\n" for line in report.lines(report.refused)))
             sys.stderr.write(f"tools/import: {len(report.refused)} places can't be rewritten, and nothing is written\n")
             return 1
-        said = f"Rewritten by tools/import from {os.path.basename(given.model)}."
-        put(given.out, Writer(periods).model(model, said), sys.stdout)
+        put(given.out, text, sys.stdout)
         put(given.log, "".join(f"{line}\n" for line in report.lines(report.done)), sys.stderr)
-    except OSError as fault:
-        sys.stderr.write(f"tools/import: {fault}\n")
+    except (OSError, NotText, RecursionError) as fault:
+        sys.stderr.write(f"tools/import: {given.model}: {fault}\n")
         return 2
     return 0

@@ -17,12 +17,17 @@ class Group:
 
     def __init__(self, block: Block, inputs: int, period: Fraction | str = "-1"):
         self.block, self.system = block, System(block=block)
+        self.taken: set[str] = set()
         names = ["in"] if inputs == 1 else [f"in{number}" for number in range(1, inputs + 1)]
         self.inputs: list[Source] = [self.put("Inport", name, Port=str(number), SampleTime=period) for number, name in enumerate(names, 1)]
 
     def put(self, kind: str, name: str, *sources: Source, **parameters: object) -> Source:
-        """Adds a block behind its sources; what is not given has the profile's default."""
-        block = Block(kind, name, line=self.block.line, part=self.block.part, above=self.system, settled=True)
+        """Adds a block behind its sources; what is not given has the profile's default. A taken name gets a number."""
+        count, free = 2, name
+        while free in self.taken:
+            free, count = f"{name} {count}", count + 1
+        self.taken.add(free)
+        block = Block(kind, free, line=self.block.line, part=self.block.part, above=self.system, settled=True)
         block.parameters = {key: default for key, default, _ in TABLE[kind]}
         for key, value in parameters.items():
             block.parameters[key] = value if isinstance(value, Fraction) else str(value)
