@@ -1,9 +1,9 @@
 """Blocks and lines of a system as SVG: what a block shows, where its ports are, and how lines go."""
 
 import re
-from html import escape
 
 from layout import lay_out
+from markup import plain
 from mdl import is_number, systems_of
 
 SIGN = {"==": "=", "~=": "≠", "<": "<", "<=": "≤", ">=": "≥", ">": ">"}
@@ -21,7 +21,8 @@ text { font-family: Helvetica, Arial, sans-serif; font-size: 11px; fill: #222; t
 
 
 def numbers(text):
-    return [int(it) for it in re.findall(r"-?\d+", text)]
+    """Its whole numbers, without those that are too long for a place or a count."""
+    return [int(it) for it in re.findall(r"-?[0-9]+", text) if len(it) <= 9]
 
 
 def short(text, most=9):
@@ -128,11 +129,6 @@ class Box:
         return [", ".join(parts[:2]), ", ".join(parts[2:])] if len(", ".join(parts)) > 24 else [", ".join(parts)]
 
 
-def plain(text):
-    """A text as SVG takes it."""
-    return escape(re.sub(r"[^\t\n -\ud7ff\ue000-\ufffd\U00010000-\U0010ffff]|[\x7f-\x9f]", "?", text))
-
-
 def text(x, y, said, kind, more=""):
     return f'<text x="{x:g}" y="{y:g}" class="{kind}"{more}>{plain(said)}</text>'
 
@@ -222,27 +218,35 @@ def way_to(here, end, is_top):
     return [(x, to_y), end]
 
 
+def arrow(target, port, end):
+    """The head of a line at a port."""
+    back = 6 if target.is_left else -6
+    x, y = end
+    sides = ((x + back, y - 3), (x + back, y + 3)) if is_number(port) else ((x - 3, y - 6), (x + 3, y - 6))
+    return f'<path d="M{sides[0][0]:g} {sides[0][1]:g}L{x:g} {y:g}L{sides[1][0]:g} {sides[1][1]:g}Z" class="dot"/>'
+
+
 def draw_way(section, here, boxes):
     """A line or a branch from where it begins, with those that leave its end."""
-    points = [here]
-    for right, down in offsets(section):
-        points.append((points[-1][0] + right, points[-1][1] + down))
-    stands = points[-1]
-    target = boxes.get(section.get("DstBlock"))
-    parts = []
-    if target is not None:
-        port = section.get("DstPort", "1")
-        points += way_to(stands, target.port(port, False), not is_number(port))
-        end = points[-1]
-        back = 6 if target.is_left else -6
-        head = f"{end[0] - 3:g} {end[1] - 6:g}L{end[0]:g} {end[1]:g}L{end[0] + 3:g} {end[1] - 6:g}" if not is_number(port) else f"{end[0] + back:g} {end[1] - 3:g}L{end[0]:g} {end[1]:g}L{end[0] + back:g} {end[1] + 3:g}"
-        parts.append(f'<path d="M{head}Z" class="dot"/>')
-    if len(points) > 1:
-        parts.append('<path d="M' + "L".join(f"{x:g} {y:g}" for x, y in points) + '" class="line"/>')
-    branches = section.all("Branch")
-    if len(branches) > 1:
-        parts.append(f'<circle cx="{stands[0]:g}" cy="{stands[1]:g}" r="2" class="dot"/>')
-    return parts + [part for branch in branches for part in draw_way(branch, stands, boxes)]
+    parts, left = [], [(section, here)]
+    while left:
+        branch, begins = left.pop()
+        points = [begins]
+        for right, down in offsets(branch):
+            points.append((points[-1][0] + right, points[-1][1] + down))
+        stands = points[-1]
+        target = boxes.get(branch.get("DstBlock"))
+        if target is not None:
+            port = branch.get("DstPort", "1")
+            points += way_to(stands, target.port(port, False), not is_number(port))
+            parts.append(arrow(target, port, points[-1]))
+        if len(points) > 1:
+            parts.append('<path d="M' + "L".join(f"{x:g} {y:g}" for x, y in points) + '" class="line"/>')
+        branches = branch.all("Branch")
+        if len(branches) > 1:
+            parts.append(f'<circle cx="{stands[0]:g}" cy="{stands[1]:g}" r="2" class="dot"/>')
+        left += [(it, stands) for it in reversed(branches)]
+    return parts
 
 
 def draw_panel(title, boxes, lines):

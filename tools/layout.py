@@ -1,15 +1,14 @@
 """Places for the blocks of a system that has none: columns from left to right by the longest way from a
 source, loops closed from right to left, and lines with the corners that these places ask for."""
 
-from mdl import Section, is_number
+from mdl import Section, branches_of, is_number
 
 ACROSS, DOWN = 60, 36
 
 
 def ends_of(line):
     """The ends of a line or branch: pairs of a block's name and a port."""
-    found = [(line.get("DstBlock"), line.get("DstPort", "1"))] if "DstBlock" in line.parameters else []
-    return found + [end for branch in line.all("Branch") for end in ends_of(branch)]
+    return [(it.get("DstBlock"), it.get("DstPort", "1")) for it in branches_of(line) if "DstBlock" in it.parameters]
 
 
 def edges_of(boxes, lines):

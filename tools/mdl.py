@@ -5,10 +5,14 @@ here.
 """
 
 import re
+from collections import deque
 
 NAME = r"[A-Za-z0-9_.$]+"
 BLANKS = " \t\r"
-STRING = re.compile(r'"((?:[^"\\]|\\.)*)"')
+# one that isn't closed takes the rest of its line
+STRING = re.compile(r'"((?:[^"\\]|\\.)*)(?:"|\\?\Z)')
+# The longest file that the program reads.
+MOST_BYTES = 16777216
 ESCAPES = {r"\n": "\n", r"\t": "\t", r"\"": '"', r"\\": "\\"}
 
 
@@ -30,18 +34,51 @@ def strings(text):
     return "".join(re.sub(r"\\.", lambda it: ESCAPES.get(it[0], it[0]), string) for string in STRING.findall(text))
 
 
+def depth_change(line):
+    """By how many brackets more a line of a list opens than it closes, outside of strings."""
+    bare = STRING.sub("", line)
+    return bare.count("[") - bare.count("]")
+
+
+def value_of(value, lines):
+    """The whole value that begins on a line, with those after it that are still of it."""
+    parts, depth = [value], depth_change(value) if value.startswith("[") else 0
+    while depth > 0:
+        _, further = next(lines, (0, None))
+        if further is None:
+            break
+        parts.append(further.strip(BLANKS))
+        depth += depth_change(parts[-1])
+    return "\n".join(parts)
+
+
+class Further:
+    """The strings that stand on the lines behind a parameter's, joined to its value once it ends."""
+
+    def __init__(self):
+        self.section, self.name, self.parts = None, None, []
+
+    def begin(self, section, name):
+        self.section, self.name, self.parts = section, name, []
+
+    def end(self):
+        if self.parts:
+            self.section.parameters[self.name] += "".join(self.parts)
+        self.section, self.parts = None, []
+
+
 def read(text):
     """The sections of a text, in a section of their own; a line that has no form is passed over."""
     root = Section("", 0)
-    open_sections, last = [root], None
+    open_sections, further = [root], Further()
     lines = enumerate(text.split("\n"), 1)
     for number, line in lines:
         line = line.strip(BLANKS)
         here = open_sections[-1]
-        if line.startswith('"') and last is not None:
-            here.parameters[last] += strings(line)
+        if line.startswith('"') and further.section is not None:
+            further.parts.append(strings(line))
             continue
-        last = None
+        further.end()
         begins = re.fullmatch(rf"({NAME})[{BLANKS}]*{{", line)
         parameter = re.fullmatch(rf"({NAME})(?:[{BLANKS}]+(.*))?", line, re.S)
         if begins:
@@ -50,24 +87,28 @@ def read(text):
         elif line == "}" and len(open_sections) > 1:
             open_sections.pop()
         elif parameter:
-            name, value = parameter[1], parameter[2] or ""
-            is_list = value.startswith("[")
+            name, value = parameter[1], value_of(parameter[2] or "", lines)
+            is_first = name not in here.parameters
             if value.startswith('"'):
-                value, last = strings(value), name if name not in here.parameters else None
-            while is_list and STRING.sub("", value).count("[") > STRING.sub("", value).count("]"):
-                _, further = next(lines, (0, None))
-                if further is None:
-                    break
-                value += "\n" + further.strip(BLANKS)
+                value = strings(value)
+                if is_first:
+                    further.begin(here, name)
             here.lines.setdefault(name, number)
             here.parameters.setdefault(name, value)
+    further.end()
     return root
+
+
+class TooLong(OSError):
+    """A file of more bytes than the program reads."""
 
 
 def read_file(path):
     """The text of a file, and its sections; where it is not UTF-8, every byte is a character."""
     with open(path, "rb") as file:
-        found = file.read()
+        found = file.read(MOST_BYTES + 1)
+    if len(found) > MOST_BYTES:
+        raise TooLong(f"{path}: {len(found)} bytes, at most {MOST_BYTES}")
     try:
         text = found.decode()
     except UnicodeDecodeError:
@@ -94,11 +135,20 @@ def systems_of(block):
     return block.all("System") if block.get("BlockType") == "SubSystem" else []
 
 
+def branches_of(line):
+    """A line and its branches, at any depth, each before its own."""
+    left = [line]
+    while left:
+        branch = left.pop()
+        yield branch
+        left += branch.all("Branch")[::-1]
+
+
 def systems(root):
     """Each system that counts, with the steps above it: those of the models, and of their subsystems."""
-    left = [(system, []) for model in root.all("Model") for system in model.all("System")]
+    left = deque((system, []) for model in root.all("Model") for system in model.all("System"))
     while left:
-        system, above = left.pop(0)
+        system, above = left.popleft()
         yield system, above
         for block in system.all("Block"):
             left += [(inner, above + [step_of(block)]) for inner in systems_of(block)]
@@ -113,10 +163,14 @@ class Defaults:
         for section in (block for it in lists for block in it.all("Block")):
             self.by_type.setdefault(section.get("BlockType"), section)
 
+    def sections_of(self, block):
+        """The sections that say something of a block, in the order in which they count."""
+        return [it for it in (block, self.by_type.get(block.get("BlockType"))) if it is not None]
+
     def of(self, block, name):
         """The value and the line of a parameter, or None."""
-        for section in (block, self.by_type.get(block.get("BlockType"))):
-            if section is not None and name in section.parameters:
+        for section in self.sections_of(block):
+            if name in section.parameters:
                 return section.parameters[name], section.lines[name]
         return None
 

@@ -5,6 +5,7 @@ import re
 import subprocess
 from collections import namedtuple
 
+from library import number
 from mdl import Defaults, read_file
 from written import Failed, beside, rows_of, whole
 
@@ -20,8 +21,8 @@ def root_ports(root, kind):
     for model in root.all("Model"):
         for block in (it for system in model.all("System") for it in system.all("Block") if it.get("BlockType") == kind):
             value = lambda name, otherwise: (defaults.of(block, name) or (otherwise,))[0]
-            wide = re.search(r"\d+", value("PortDimensions", "1").replace("-1", "1"))
-            found.append((whole(value("Port", "1")), block.get("Name"), value("OutDataTypeStr", ""), int(wide[0]) if wide else 1))
+            wide = number(value("PortDimensions", "1").strip("[ \t]"), 1, 1024) or 1
+            found.append((whole(value("Port", "1")), block.get("Name"), value("OutDataTypeStr", ""), wide))
     return [it[1:] for it in sorted(found)]
 
 

@@ -1,7 +1,8 @@
 """Waves as a picture in SVG: a row for each name, levels for one bit and bars with numbers for more."""
 
 from collections import namedtuple
-from html import escape
+
+from markup import plain
 
 # The changes are times with the number from then on; no number stands where it isn't known.
 Wave = namedtuple("Wave", "name is_bit changes")
@@ -58,9 +59,9 @@ def timing(waves, marks, end):
     wide, high = scale(end) + 12, 30 + GAP * len(waves)
     parts = [f'<svg xmlns="http://www.w3.org/2000/svg" width="{wide:.0f}" height="{high}">', STYLE, '<rect width="100%" height="100%" fill="#fff"/>']
     for time, word in marks:
-        parts.append(f'<path d="M{scale(time):.1f} 20V{high - 4}" class="grid"/><text x="{scale(time) + UNIT / 2:.1f}" y="14" class="time">{escape(word)}</text>')
+        parts.append(f'<path d="M{scale(time):.1f} 20V{high - 4}" class="grid"/><text x="{scale(time) + UNIT / 2:.1f}" y="14" class="time">{plain(word)}</text>')
     for row, wave in enumerate(waves):
         top = 24 + GAP * row
-        parts.append(f'<text x="{LEFT - 8}" y="{top + HIGH / 2 + 4:g}" class="name">{escape(wave.name)}</text>')
+        parts.append(f'<text x="{LEFT - 8}" y="{top + HIGH / 2 + 4:g}" class="name">{plain(wave.name)}</text>')
         parts += (levels if wave.is_bit else bars)(wave, end, scale, top)
     return "\n".join(parts + ["</svg>", ""])

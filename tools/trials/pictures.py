@@ -7,6 +7,7 @@ import subprocess
 import sys
 import tempfile
 import unittest
+import xml.dom.minidom
 
 from .common import TOOLS, TOP, read, tool, write
 
@@ -107,6 +108,25 @@ class Pictures(unittest.TestCase):
                 self.assertIn(told, said)
                 self.assertEqual(bool(told), bool(said), said)
 
+    def test_names_that_XML_has_no_place_for(self):
+        name = "a\x01\x0b\x7f\u0085\ufffe\U0001ffff&<>"
+        block = 'Block {\nBlockType %s\nName "%s"\nOutDataTypeStr "int8"\n}\n'
+        text = "Model {\nSystem {\n" + block % ("Inport", name) + block % ("Outport", "y" + name) + "}\n}\n"
+        with tempfile.TemporaryDirectory() as room:
+            model = os.path.join(room, "model.mdl")
+            for path, said in ((model, text), (model[:-3] + "stim", "1\n2\n"), (model[:-3] + "response", "1\n2\n")):
+                write(path, said)
+            for words in (("draw", model), ("plot", model), ("plot", model, "--spectrum", f"y{name}:0:2"), ("waves", model, "--svg")):
+                done = tool(*words)
+                drawn = xml.dom.minidom.parseString(done.stdout.encode()).toxml()
+                self.assertRegex(drawn, r"a[?_]{6}(&amp;&lt;&gt;|___)", done.stderr)
+
+    def test_draw_takes_any_file(self):
+        deep = "Line {\nSrcBlock \"a\"\n" + "Branch {\nPoints [1, 1]\n" * 3000 + "}\n" * 3001
+        block = 'Block {\nBlockType Sum\nName "a"\nInputs "%s"\nPosition [%s, 1, 2, 3]\n}\n' % ("9" * 5000, "9" * 5000)
+        drawn = self.drawn("Model {\nSystem {\n" + block + deep + "}\n}\n")
+        self.assertIn('class="name">a</text>', drawn)
+
     def test_pictures_are_UTF_8_whatever_the_locale(self):
         page = os.path.join(TOP, "examples/designs/nco")
         words = [sys.executable, os.path.join(TOOLS, "draw"), os.path.join(page, "model.mdl")]
@@ -150,9 +170,11 @@ class Lint(unittest.TestCase):
             write(model, text)
             done = tool("lint", model)
             drawn = tool("draw", model).stderr
-        self.assertEqual(drawn.replace("tools/draw: ", ""), done.stdout)
-        self.assertEqual(done.returncode, 1 if done.stdout else 0, done.stderr)
-        return done.stdout
+        told = "".join(line for line in done.stdout.splitlines(True) if " is passed over: " in line)
+        self.assertEqual(drawn.replace("tools/draw: ", ""), told)
+        # without the program rules 4 to 9 are not tried
+        self.assertEqual(done.returncode, 1 if done.stdout else 3, done.stderr)
+        return told
 
     def test_lists_what_is_passed_over(self):
         for kind, parameter, told in self.ROWS:
@@ -167,11 +189,13 @@ class Lint(unittest.TestCase):
         self.assertIn('line 6: "a": Commented "on"', said)
 
     def test_no_model_of_the_examples_is_read_otherwise(self):
+        sys.path.insert(0, TOOLS)
+        import mdl
+
         models = glob.glob(os.path.join(TOP, "examples/**/*.mdl"), recursive=True)
         # those that are drawn as the tool draws them are rewritten first
         for model in (it for it in models if os.path.basename(os.path.dirname(it)) != "drawn"):
-            done = tool("lint", model)
-            self.assertEqual((done.stdout, done.returncode), ("", 0), model)
+            self.assertEqual(mdl.passed_over(*mdl.read_file(model)), [], model)
 
     def test_FORMATS_lists_each(self):
         sys.path.insert(0, TOOLS)
