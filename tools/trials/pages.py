@@ -103,7 +103,7 @@ class Shown(unittest.TestCase):
             self.assertEqual(self.print_of(f"./tilecatnip {example}").returncode, 0, example)
 
     def test_picture_of_plans(self):
-        [session] = [text for _, text in blocks_of("examples/README.md") if "tools/plot_explore" in text]
+        [session] = [text for _, text in blocks_of("examples/README.md") if text.startswith("$ ./tilecatnip explore")]
         (explored, _), (drawn, _) = commands_of(session)
         with tempfile.TemporaryDirectory() as room:
             plans = os.path.join(room, "plans")
