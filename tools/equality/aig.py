@@ -1,0 +1,135 @@
+"""Machines of and-gates and inverters (AIGER): read, unrolled by many clocks a step, and written.
+
+A literal is twice a variable, and one more where it is inverted; the literals 0 and 1 are false and true.
+"""
+
+from dataclasses import dataclass, field
+
+
+@dataclass
+class Machine:
+    """Inputs come first, then latches, then gates, each by two literals that stand before it."""
+
+    inputs: int
+    latches: int
+    gates: list[tuple[int, int]] = field(default_factory=list)
+    following: list[int] = field(default_factory=list)
+    initial: list[int] = field(default_factory=list)
+    outputs: list[int] = field(default_factory=list)
+
+    def __post_init__(self) -> None:
+        self.known: dict[tuple[int, int], int] = {}
+
+    def input(self, at: int) -> int:
+        return 2 * (1 + at)
+
+    def latch(self, at: int) -> int:
+        return 2 * (1 + self.inputs + at)
+
+    def both(self, left: int, right: int) -> int:
+        """A gate, or the literal that it would be."""
+        left, right = max(left, right), min(left, right)
+        if right == 0 or left ^ right == 1:
+            return 0
+        if right == 1 or left == right:
+            return left
+        if (left, right) not in self.known:
+            self.gates.append((left, right))
+            self.known[left, right] = 2 * (self.inputs + self.latches + len(self.gates))
+        return self.known[left, right]
+
+    def either(self, *literals: int) -> int:
+        found = 0
+        for literal in literals:
+            found = self.both(found ^ 1, literal ^ 1) ^ 1
+        return found
+
+    def choice(self, which: int, yes: int, no: int) -> int:
+        return self.either(self.both(which, yes), self.both(which ^ 1, no))
+
+    def copy(self, other: "Machine", inputs: list[int], state: list[int]) -> tuple[list[int], list[int]]:
+        """The outputs and the following state of another machine whose inputs and state are these literals."""
+        values = [0, *inputs, *state]
+        literal = lambda of: values[of >> 1] ^ (of & 1)
+        for left, right in other.gates:
+            values.append(self.both(literal(left), literal(right)))
+        return [literal(of) for of in other.outputs], [literal(of) for of in other.following]
+
+    def written(self) -> bytes:
+        """The binary form, in which every latch begins with 0."""
+        first = 1 + self.inputs + self.latches
+        lines = [f"aig {first - 1 + len(self.gates)} {self.inputs} {self.latches} {len(self.outputs)} {len(self.gates)}"]
+        lines += [str(of) for of in self.following + self.outputs]
+        return "".join(f"{line}\n" for line in lines).encode() + b"".join(
+            varint(2 * (first + at) - left) + varint(left - right) for at, (left, right) in enumerate(self.gates)
+        )
+
+
+def varint(number: int) -> bytes:
+    found = bytearray()
+    while number >= 128:
+        found.append(number & 127 | 128)
+        number >>= 7
+    return bytes(found + bytes([number]))
+
+
+def read(text: str) -> Machine:
+    """The machine of an ASCII text whose variables are numbered in the order of inputs, latches and gates."""
+    lines = iter(text.splitlines())
+    _, inputs, latches, outputs, gates = map(int, next(lines).split()[1:6])
+    machine = Machine(inputs, latches)
+    for _ in range(inputs):
+        next(lines)
+    for _ in range(latches):
+        of, following, *first = map(int, next(lines).split())
+        machine.following.append(following)
+        machine.initial.append(first[0] if first and first[0] != of else 0)
+    machine.outputs = [int(next(lines)) for _ in range(outputs)]
+    machine.gates = [(int(left), int(right)) for _, left, right in (next(lines).split() for _ in range(gates))]
+    return machine
+
+
+def from_nothing(machine: Machine, fixed: dict[int, int]) -> Machine:
+    """The machine whose latches begin with 0, and some of whose inputs have these numbers."""
+    found = Machine(machine.inputs, machine.latches, initial=[0] * machine.latches)
+    inputs = [fixed.get(at, found.input(at)) for at in range(machine.inputs)]
+    state = [found.latch(at) ^ first for at, first in enumerate(machine.initial)]
+    found.outputs, following = found.copy(machine, inputs, state)
+    found.following = [of ^ first for of, first in zip(following, machine.initial)]
+    return found
+
+
+def stands_still(machine: Machine, fixed: dict[int, int]) -> bool:
+    """Whether, where some inputs have these numbers, the machine keeps its state, and its first output is 0."""
+    found = Machine(machine.inputs, machine.latches)
+    inputs = [fixed.get(at, found.input(at)) for at in range(machine.inputs)]
+    state = [found.latch(at) for at in range(machine.latches)]
+    outputs, following = found.copy(machine, inputs, state)
+    return following == state and outputs[0] == 0
+
+
+def by_steps(machine: Machine, clocks: int, sample: int, before: int) -> Machine:
+    """The machine that makes so many clocks in a step, and begins in any state after so many steps. Its first
+    output is 1 where that of the machine is in one of the clocks, those before the begin too; the others are
+    those of the first clock of each sample, of so many clocks."""
+    found = Machine(machine.inputs * clocks * (before + 1), machine.latches + 1)
+    begun, made, early = found.latch(machine.latches), 0, 0
+    state = [0] * machine.latches
+
+    def step(state: list[int]) -> tuple[list[int], list[int]]:
+        nonlocal made
+        wrong, helping = 0, []
+        for clock in range(clocks):
+            inputs = [found.input(made * machine.inputs + at) for at in range(machine.inputs)]
+            outputs, state = found.copy(machine, inputs, state)
+            wrong, made = found.either(wrong, outputs[0]), made + 1
+            helping += outputs[1:] if clock % sample == 0 else []
+        return [wrong, *helping], state
+
+    for _ in range(before):
+        (wrong, *_), state = step(state)
+        early = found.either(early, wrong)
+    outputs, found.following = step([found.choice(begun, found.latch(at), of) for at, of in enumerate(state)])
+    found.following.append(1)
+    found.outputs = [found.either(outputs[0], found.both(begun ^ 1, early)), *outputs[1:]]
+    return found

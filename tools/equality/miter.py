@@ -1,0 +1,196 @@
+"""One module of a text, the model's own Verilog, and a net that shows where they differ in an output's window."""
+
+import re
+from dataclasses import dataclass
+from enum import Enum
+from typing import Optional
+
+from equality.diagram import Block
+from equality.ideal import Ideal, number, word
+from equality.schedule import Schedule
+from written import MODULE, Failed, header
+
+NUMBER = r"(\d+)\s*'\s*(s?)([bdh])\s*([0-9a-zA-Z]+)"
+ALWAYS = re.compile(r"always\s*@\s*\(\s*posedge\s+clk\s*\)\s*begin\s*if\s*\(\s*reset\s*\)\s*(\w+)\s*<=\s*" + NUMBER + r"\s*;\s*else")
+
+
+class Stalls(Enum):
+    """Whether a run may stand still between its clocks."""
+
+    FREE = "free"
+    NONE = "none"
+
+
+class Window(Enum):
+    """When an output is compared: from its latency to the end of its frame, or at its latency alone."""
+
+    WHOLE = "whole"
+    FIRST = "first"
+
+
+@dataclass
+class Column:
+    """An element of a root port, and the port of the text that carries it."""
+
+    block: Block
+    element: int
+    port: object
+
+
+def without_comments(text: str) -> str:
+    return re.sub(r"//[^\n]*|/\*.*?\*/", " ", text, flags=re.S)
+
+
+def begun(text: str) -> str:
+    """The text whose registers begin as a row of reset leaves them, whatever they held: each is set by
+    `if (reset)` to a number, before all else."""
+    text = without_comments(text)
+    first = {name: f"{width}'{sign}{base}{digits}" for name, width, sign, base, digits in ALWAYS.findall(text)}
+    registers = re.findall(r"\breg\b\s*(?:signed\b)?\s*(?:\[[^\]]*\])?\s*(\w+)\s*;", text)
+    lacking = [name for name in registers if name not in first]
+    if lacking or len(re.findall(r"\balways\b", text)) != len(registers):
+        raise Failed(f"{(lacking or ['a register'])[0]}: not reset as the Verilog subset has it")
+    return re.sub(r"\breg\b(\s*(?:signed\b)?\s*(?:\[[^\]]*\])?\s*(\w+)\s*;)", lambda it: f"(* init = {first[it[2]]} *) reg{it[1]}", text)
+
+
+class Miter:
+    """The text of the comparison, and what its outputs are late by the equations and by the text."""
+
+    def __init__(self, ideal: Ideal, schedule: Schedule, text: str) -> None:
+        self.ideal, self.schedule, self.signals, self.text = ideal, schedule, ideal.signals, text
+        self.cycles, self.controls, ports = header(text)
+        if self.cycles != schedule.plan.cycles:
+            raise Failed(f"the module has {self.cycles} clocks a base sample, and the plan {schedule.plan.cycles}")
+        self.inputs = self.columns("Inport", [port for port in ports if port.is_input])
+        self.outputs = self.columns("Outport", [port for port in ports if not port.is_input])
+
+    def columns(self, kind: str, ports: list) -> list[Column]:
+        blocks = sorted((it for it in self.signals.blocks if it.kind == kind), key=lambda it: int(it.get("Port")))
+        found = [(block, element) for block in blocks for element in range(self.signals.widths[block][0])]
+        if len(found) != len(ports):
+            raise Failed(f"the module has {len(ports)} ports for {len(found)} elements of the model's root {kind}s")
+        for (block, _), port in zip(found, ports):
+            of, period = self.signals.types[block], self.signals.periods[block]
+            if (port.signed, port.width, port.period) != (of.signed, of.width, period):
+                raise Failed(f"{port.name}: the type or the period is not that of the model")
+        return [Column(block, element, port) for (block, element), port in zip(found, ports)]
+
+    def due(self, column: Column) -> int:
+        """By how many clocks an output is late by the equations and the plan."""
+        return self.schedule.latencies[column.block] * self.cycles + self.schedule.ready(column.block)
+
+    def misdeclared(self) -> list[str]:
+        """What is said of the outputs whose text declares another latency than the least."""
+        late = [(it.port.name, it.port.latency, self.due(it)) for it in self.outputs]
+        return [f"{name}: latency {told} is declared, and {due} is the least" for name, told, due in late if told != due]
+
+    def late(self, column: Column) -> int:
+        """By how many base samples the frames of an output are late: by the least, where its latency is in such a frame."""
+        late, told = self.schedule.latencies[column.block], column.port.latency
+        return late if 0 <= told - late * self.cycles < column.port.period * self.cycles else told // self.cycles
+
+    # ---- the text
+
+    def verilog(self, stalls: Stalls, window: Window) -> str:
+        return "\n".join([self.model(), begun(self.text), self.bench(stalls, window)])
+
+    def model(self) -> str:
+        """The model's own module: the outputs of the present base sample, which ends where `step` is 1."""
+        ideal = self.ideal
+        ports = [f"input {word(self.signals.types[it.block])} {ideal.port('i', it.block, it.element)}" for it in self.inputs]
+        ports += [f"output {word(self.signals.types[it.block])} {ideal.port('o', it.block, it.element)}" for it in self.outputs]
+        ports += [f"input hit_{period}, input last_{period}" for period in self.periods()]
+        remembered, wide = self.remembered()
+        ports.append(f"output [{max(wide, 1) - 1}:0] remembered")
+        lines = [f"module fx_ideal (input clk, input step{''.join(f', {port}' for port in ports)});", *ideal.nets, *ideal.lines, *remembered]
+        lines += [f"  assign {ideal.port('o', it.block, it.element)} = {ideal.name(it.block, 0, it.element)};" for it in self.outputs]
+        return "\n".join([*lines, "endmodule", ""])
+
+    def remembered(self) -> tuple[list[str], int]:
+        """What the module may hold of earlier base samples: nets that only help a proof along, in one word."""
+        lines, names, wide = [], [], 0
+        for net, width in self.ideal.remembered.items():
+            before = net
+            for at in range(1, self.schedule.depth + 1):
+                lines.append(register(f"r_{net}_{at}", width, "step", before))
+                before = f"r_{net}_{at}"
+                names.append(before)
+                wide += width
+        return [*lines, f"  assign remembered = {{{', '.join(names) or chr(49) + chr(39) + 'b0'}}};"], wide
+
+    def periods(self) -> list[int]:
+        return sorted({period for period in self.signals.periods.values() if period and period > 1})
+
+    def counted(self) -> list[str]:
+        """The clock in the base sample, and the base sample in each period."""
+        cycles = self.cycles
+        lines = [f"  wire step = go && {'1' if cycles == 1 else f'phase == {cycles - 1}'};"]
+        if cycles > 1:
+            lines += [register("phase", cycles.bit_length(), "go", f"phase == {cycles - 1} ? {number(0, cycles.bit_length(), False)} : phase + 1'd1")]
+        for period in self.periods():
+            at, bits = f"at_{period}", period.bit_length()
+            lines += [register(at, bits, "step", f"{at} == {period - 1} ? {number(0, bits, False)} : {at} + 1'd1")]
+            lines += [f"  wire hit_{period} = {at} == 0;", f"  wire last_{period} = {at} == {period - 1};"]
+        return lines
+
+    def driven(self, column: Column) -> list[str]:
+        """An input: free where its hit begins and in rows that are no clocks, and held between."""
+        of, name, period = self.signals.types[column.block], f"u{self.inputs.index(column)}", column.port.period
+        first = " && ".join((["phase == 0"] if self.cycles > 1 else []) + ([f"hit_{period}"] if period > 1 else []))
+        if not first:
+            return [f"  wire {word(of)} {name} = free_{name};"]
+        return [
+            register(f"held_{name}", of.width, f"go && {first}", f"free_{name}", of.signed),
+            f"  wire {word(of)} {name} = !go || {first} ? free_{name} : held_{name};",
+        ]
+
+    def compared(self, place: int, column: Column, window: Window) -> list[str]:
+        """An output in its window, beside what the model showed so many base samples ago."""
+        of, late, cycles, period = self.signals.types[column.block], self.late(column), self.cycles, column.port.period
+        lines, wanted, told = [], f"e{place}", column.port.latency
+        for at in range(late):
+            lines.append(register(f"e{place}_{at}", of.width, "step", wanted, of.signed))
+            wanted = f"e{place}_{at}"
+        ready = told - late * cycles
+        at = [f"phase" if cycles > 1 else "0"]
+        if period > 1:
+            back = late % period
+            at.append(f"(at_{period} >= {back} ? at_{period} - {back} : at_{period} + {period - back}) * {cycles}")
+        lines.append(f"  wire [31:0] since{place} = {' + '.join(at)};")
+        due = f"since{place} {'>=' if window is Window.WHOLE else '=='} {ready}"
+        if late:
+            bits = late.bit_length() + 1
+            lines.append(register(f"age{place}", bits, f"step && age{place} < {late}", f"age{place} + 1'd1"))
+            due += f" && age{place} >= {late}"
+        return lines + [f"  wire differs{place} = go && {due} && o{place} != {wanted};"]
+
+    def bench(self, stalls: Stalls, window: Window) -> str:
+        free = [f"input {word(self.signals.types[it.block])} free_u{at}" for at, it in enumerate(self.inputs)]
+        # two inputs that stay 0 keep `bad` from being a constant
+        going = ["input never, input never_too"] + ([] if stalls is Stalls.NONE else ["input go"])
+        wide = max(self.remembered()[1], 1)
+        lines = [f"module fx_miter ({', '.join(['input clk', *going, *free, 'output bad', f'output [{wide - 1}:0] remembered'])});"]
+        lines += ["  wire go = 1'b1;"] if stalls is Stalls.NONE else []
+        lines += self.counted()
+        for column in self.inputs:
+            lines += self.driven(column)
+        joined = [f".{it.port.name}(u{at})" for at, it in enumerate(self.inputs)]
+        own = [f".{self.ideal.port('i', it.block, it.element)}(u{at})" for at, it in enumerate(self.inputs)]
+        for at, it in enumerate(self.outputs):
+            lines.append(f"  wire {word(self.signals.types[it.block])} o{at}, e{at};")
+            joined.append(f".{it.port.name}(o{at})")
+            own.append(f".{self.ideal.port('o', it.block, it.element)}(e{at})")
+        for period in self.periods():
+            own.append(f".hit_{period}(hit_{period}), .last_{period}(last_{period})")
+        lines += ["  wire ce_out;", f"  fx_ideal ideal ({', '.join(['.clk(clk), .step(step), .remembered(remembered)', *own])});"]
+        held = [".clk_enable(go), .ce_out(ce_out)"] if self.controls else []
+        lines += [f"  {MODULE} tested ({', '.join(['.clk(clk), .reset(1' + chr(39) + 'b0)', *held, *joined])});"]
+        for at, it in enumerate(self.outputs):
+            lines += self.compared(at, it, window)
+        bad = [f"differs{at}" for at in range(len(self.outputs))] + (["(ce_out != go)"] if self.controls else [])
+        return "\n".join([*lines, f"  assign bad = never && never_too || ({' || '.join(bad)});", "endmodule", ""])
+
+
+def register(name: str, width: int, condition: str, value: str, signed: bool = False) -> str:
+    sign = "signed " if signed else ""
+    return f"  (* init = {width}'h0 *) reg {sign}[{width - 1}:0] {name}; always @(posedge clk) if ({condition}) {name} <= {value};"
