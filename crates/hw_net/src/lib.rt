@@ -14,8 +14,8 @@ mod netlist;
 pub use circuit::Netlist;
 pub use frame_index::FrameIndex;
 pub use laws::{
-    accumulator_is_closed, bridge_is_closed, counter_is_closed, counter_is_telling, enabled_register_is_closed,
-    register_is_closed, steps_give_rows,
+    accumulator_is_closed, bridge_is_closed, counter_is_closed, counter_is_telling,
+    enabled_register_is_closed, register_is_closed, steps_give_rows,
 };
 pub use netlist::{
     Frame, Net, NetKind, NetLabel, NetLabels, NetOp, NetPort, NetPorts, Nets, arity,
