@@ -4,6 +4,7 @@ A literal is twice a variable, and one more where it is inverted; the literals 0
 """
 
 from dataclasses import dataclass, field
+from typing import Optional
 
 
 @dataclass
@@ -33,10 +34,26 @@ class Machine:
             return 0
         if right == 1 or left == right:
             return left
+        for one, other in ((left, right), (right, left)):
+            known = self.known_of(one, other)
+            if known is not None:
+                return known
         if (left, right) not in self.known:
             self.gates.append((left, right))
             self.known[left, right] = 2 * (self.inputs + self.latches + len(self.gates))
         return self.known[left, right]
+
+    def known_of(self, one: int, other: int) -> Optional[int]:
+        """What a gate of two literals is, where the other is one of the two that make the first, or its inverse."""
+        place = (one >> 1) - 1 - self.inputs - self.latches
+        if place < 0:
+            return None
+        pair = self.gates[place]
+        if other ^ 1 in pair:
+            return other if one & 1 else 0
+        if other in pair:
+            return self.both(other, (pair[0] if pair[1] == other else pair[1]) ^ 1) if one & 1 else one
+        return None
 
     def either(self, *literals: int) -> int:
         found = 0
@@ -108,28 +125,54 @@ def stands_still(machine: Machine, fixed: dict[int, int]) -> bool:
     return following == state and outputs[0] == 0
 
 
+def stepped(made: Machine, machine: Machine, clocks: int, sample: int, first: int, state: list[int]) -> tuple[list[int], list[int]]:
+    """So many clocks of a machine, whose inputs stand in another from a place on: whether its first output is 1
+    in one of them, with its other outputs in the first clock of each sample; and the following state."""
+    wrong, helping = 0, []
+    for clock in range(clocks):
+        inputs = [made.input(first + clock * machine.inputs + at) for at in range(machine.inputs)]
+        outputs, state = made.copy(machine, inputs, state)
+        wrong = made.either(wrong, outputs[0])
+        helping += outputs[1:] if clock % sample == 0 else []
+    return [wrong, *helping], state
+
+
+def alike(machine: Machine, clocks: int, start: list[int]) -> list[Optional[int]]:
+    """By latch the first that always has its value from a start on, at the end of each step; or None of one
+    that keeps the number of its start. Latches are alike where their starts are one literal, and so are what
+    follows of those alike."""
+    kinds = [(literal, 0) for literal in start]
+    while True:
+        first = {}
+        for at, kind in enumerate(kinds):
+            first.setdefault(kind, at)
+        keeps = [kind == (literal, 0) and literal < 2 for kind, literal in zip(kinds, start)]
+        made = Machine(machine.inputs * clocks, machine.latches)
+        state = [start[at] if keeps[at] else made.latch(first[kind]) for at, kind in enumerate(kinds)]
+        _, following = stepped(made, machine, clocks, clocks, 0, state)
+        numbers: dict[tuple, int] = {}
+        parted = []
+        for at, kind in enumerate(kinds):
+            key = (kind, 0 if keeps[at] and following[at] == start[at] else following[at] + 2)
+            parted.append((start[at], 0) if key[1] == 0 else (start[at], numbers.setdefault(key, len(numbers) + 1)))
+        if len(set(parted)) == len(set(kinds)) and all(not kept or of[1] == 0 for kept, of in zip(keeps, parted)):
+            return [None if keeps[at] else first[kind] for at, kind in enumerate(kinds)]
+        kinds = parted
+
+
 def by_steps(machine: Machine, clocks: int, sample: int, before: int) -> Machine:
-    """The machine that makes so many clocks in a step, and begins in any state after so many steps. Its first
-    output is 1 where that of the machine is in one of the clocks, those before the begin too; the others are
-    those of the first clock of each sample, of so many clocks."""
-    found = Machine(machine.inputs * clocks * (before + 1), machine.latches + 1)
-    begun, made, early = found.latch(machine.latches), 0, 0
-    state = [0] * machine.latches
-
-    def step(state: list[int]) -> tuple[list[int], list[int]]:
-        nonlocal made
-        wrong, helping = 0, []
-        for clock in range(clocks):
-            inputs = [found.input(made * machine.inputs + at) for at in range(machine.inputs)]
-            outputs, state = found.copy(machine, inputs, state)
-            wrong, made = found.either(wrong, outputs[0]), made + 1
-            helping += outputs[1:] if clock % sample == 0 else []
-        return [wrong, *helping], state
-
-    for _ in range(before):
-        (wrong, *_), state = step(state)
+    """The machine that makes so many clocks in a step, and begins in any state after so many steps, those of
+    latches that are alike by their form. Its first output is 1 where that of the machine is in one of the
+    clocks, those before the begin too; the others are those of the first clock of each sample."""
+    width = machine.inputs * clocks
+    found = Machine(width * (before + 1), machine.latches + 1)
+    begun, early, start = found.latch(machine.latches), 0, [0] * machine.latches
+    for at in range(before):
+        (wrong, *_), start = stepped(found, machine, clocks, sample, at * width, start)
         early = found.either(early, wrong)
-    outputs, found.following = step([found.choice(begun, found.latch(at), of) for at, of in enumerate(state)])
-    found.following.append(1)
+    same = alike(machine, clocks, start)
+    state = [start[at] if of is None else found.choice(begun, found.latch(of), start[of]) for at, of in enumerate(same)]
+    outputs, following = stepped(found, machine, clocks, sample, before * width, state)
+    found.following = [*following, 1]
     found.outputs = [found.either(outputs[0], found.both(begun ^ 1, early)), *outputs[1:]]
     return found

@@ -59,10 +59,10 @@ class Question:
             return Answer(Verdict.OPEN, ["Yosys wasn't done in the time"])
         machine, names = made
         tried = [f"{len(machine.gates)} gates and {machine.latches} latches"]
-        shown = self.sought(machine, names, folder, min(GLANCE, self.left()))
+        stepped, told = self.stepped(machine, names)
+        tried.append(told)
+        shown = self.sought(machine, names, folder, min(GLANCE, self.left())) if stepped.outputs[0] else None
         if shown is None:
-            stepped, told = self.stepped(machine, names)
-            tried.append(told)
             if solvers.proved(stepped, folder, self.left() * 2 / 3):
                 return Answer(Verdict.EQUAL, gates=len(machine.gates))
             tried.append(f"scorr, dc2 and pdr on {len(stepped.gates)} gates")

@@ -9,8 +9,9 @@ from typing import Optional
 from equality import aig
 from written import Failed
 
+MULTIPLY = os.path.join(os.path.dirname(os.path.abspath(__file__)), "multiply.v")
 ABC = ("berkeley-abc", "yosys-abc")
-STEPS = "prep -top fx_miter -flatten; wreduce; peepopt; opt -full; techmap; opt; dffunmap; aigmap; opt_clean"
+STEPS = f"prep -top fx_miter -flatten; wreduce; opt; techmap -map {MULTIPLY}; opt; techmap; opt; dffunmap; aigmap; opt_clean"
 PROOF = "read_aiger {name}; strash; scorr; cone -s -O 0; scorr; dc2; scorr; print_stats; pdr -T {seconds}; print_status"
 SEARCH = "read_aiger {name}; cone -s -a -O 0; bmc3 -F {frames} -T {seconds}; print_status; write_cex -a {cex}"
 
@@ -28,7 +29,7 @@ def missing() -> list[str]:
 def ran(words: list[str], folder: str, seconds: float) -> str:
     """What a command says; nothing where it isn't done in so many seconds."""
     try:
-        done = subprocess.run(words, cwd=folder, capture_output=True, text=True, timeout=seconds, preexec_fn=lambda: os.nice(5))
+        done = subprocess.run(words, cwd=folder, capture_output=True, text=True, timeout=seconds)
     except subprocess.TimeoutExpired:
         return ""
     if done.returncode:
@@ -68,7 +69,7 @@ def machine_of(verilog: str, folder: str, seconds: float) -> Optional[tuple[aig.
 
 def proved(machine: aig.Machine, folder: str, seconds: float) -> bool:
     """Whether the first output is proved to stay 0, in time."""
-    return "Status = 1" in asked(machine, folder, PROOF, seconds)
+    return machine.outputs[0] == 0 or "Status = 1" in asked(machine, folder, PROOF, seconds)
 
 
 def found(machine: aig.Machine, frames: int, folder: str, seconds: float) -> Optional[list[list[int]]]:
@@ -79,8 +80,9 @@ def found(machine: aig.Machine, frames: int, folder: str, seconds: float) -> Opt
     if "Status = 0" not in asked(machine, folder, SEARCH, seconds, frames=frames):
         return None
     with open(cex) as file:
-        rows = [line for line in file.read().split() if re.fullmatch("[01]+", line) and len(line) == machine.inputs]
-    return [[int(bit) for bit in row] for row in rows]
+        # the state before the first row stands in the first line
+        rows = file.read().partition("#")[0].splitlines()[1:]
+    return [[int(bit) for bit in row] for row in rows if row]
 
 
 def asked(machine: aig.Machine, folder: str, script: str, seconds: float, **words: int) -> str:
