@@ -151,7 +151,8 @@ def filtered(it: Rebuild) -> None:
     options = {**it.rounding(), "SampleTime": it.period()}
     it.tell(f"DiscreteFir: {len(values)} coefficients, all of {kind}" + (f"; {structure} gives the numbers of Direct form, as all is exact up to the result" if structure != "Direct form" else ""))
     if not FIR_IS_REBUILT and not product and not accumulator and 2 <= len(values) <= MOST_TERMS:
-        it.block.parameters = {"Coefficients": listed(values), "InitialStates": listed(initial), "CoefDataTypeStr": str(kind), "OutDataTypeStr": result, **options}
+        whole = fixed.full_sum([(False, fixed.full_product(driver, kind) or kind)] * len(values)) if result == INTERNAL else result
+        it.block.parameters = {"Coefficients": listed(values), "InitialStates": listed(initial), "CoefDataTypeStr": str(kind), "OutDataTypeStr": str(whole), **options}
         it.block.settled = True
         return
     build_filter(it, values, initial * (len(values) - 1) if len(initial) == 1 else initial, (driver, kind, product, accumulator, result), options)
