@@ -42,6 +42,8 @@ class Box:
         self.place = place if len(place) == 4 else None
         self.is_left = block.get("Orientation") == "left" or block.get("BlockMirror") == "on"
         self.inputs, self.outputs = self.counts()
+        # attributes of its group in the picture
+        self.marks = ""
 
     def get(self, name, otherwise=""):
         found = self.defaults.of(self.block, name)
@@ -185,7 +187,7 @@ def below(box):
 
 def draw_box(box):
     left, top, right, bottom = box.place
-    middle, parts = (left + right) / 2, ["<g>"]
+    middle, parts = (left + right) / 2, [f"<g{box.marks}>"]
     whole = box.kind + "".join(f"\n{name}: {value}" for name, value in box.block.parameters.items() if name not in ("BlockType", "Position", "SID", "ZOrder"))
     parts.append(f"<title>{plain(whole)}</title>")
     parts.append(shape(box))
