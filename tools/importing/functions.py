@@ -74,8 +74,10 @@ def quotient(a: Value, b: Value, of_matrices: bool) -> Matrix:
 
 
 def raised(base: Number, exponent: Number) -> Number:
-    if isinstance(base, Fraction) and isinstance(exponent, Fraction) and exponent.denominator == 1 and abs(exponent) <= LONGEST:
-        return base**exponent
+    if isinstance(base, Fraction) and isinstance(exponent, Fraction) and exponent.denominator == 1:
+        bits = max(base.numerator.bit_length(), base.denominator.bit_length())
+        if abs(exponent) * bits <= 2 * LONGEST:
+            return base**exponent
     if base < 0 and exponent != int(exponent):
         raise Fault("a complex number")
     return float(base) ** float(exponent)

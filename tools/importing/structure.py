@@ -221,9 +221,11 @@ class Masks:
                 self.report.tell(block.place("MaskValueString"), f"mask parameter {name} is {short(text)}")
             except Refusal as refusal:
                 self.report.tell(block.place("MaskValueString"), f"mask parameter {name} has no value: {refusal.told()}")
-        system.names = found
-        for _, statement, why in variables.assign(self.code(block), system.names):
+        outside = {name: value for name, value in self.settings.names(block).items() if name not in system.hides}
+        inside = {**outside, **found}
+        for _, statement, why in variables.assign(self.code(block), inside):
             self.report.tell(block.place("MaskInitialization"), f"the mask's {short(statement)} is not run: {why}")
+        system.names = {name: value for name, value in inside.items() if outside.get(name) is not value}
         self.settings.cache.clear()
 
     @staticmethod
