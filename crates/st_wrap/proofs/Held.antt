@@ -22,11 +22,12 @@ use Rattle.st_wrap.specs.Transfers.{IsTransfer, in_side}
 use Rattle.st_wrap.specs.inner.Columns.{column_port, moving, plain}
 use Rattle.st_wrap.specs.inner.Names.{begin_name, held_name, inner_name}
 use Rattle.st_wrap.proofs.Controlled.{begin-moves, begin-told, begins, moves}
+use Rattle.vl_ast.proofs.Copied.{extended-same, name-copied, one-width}
 use Rattle.vl_ast.proofs.Forms.{length-Choose, length-Name, value-Choose, value-Name}
 use Rattle.st_wrap.proofs.Moving.{Setting, begins-is, begun-first, in-transfer, ins-are}
 use Rattle.st_wrap.proofs.Samples.{next-first, next-same, zero-phase}
 use Rattle.st_wrap.proofs.Shaking.{some-cycles}
-use Rattle.st_wrap.proofs.Signals.{alone-Name, extended-same, one-width, truth-zero}
+use Rattle.st_wrap.proofs.Signals.{alone-Name, truth-zero}
 
 -- ---- names of one width and sign
 
@@ -42,9 +43,7 @@ module _ (nets : List ℕ → Net) (row : List ℕ → ℕ) (w : ℕ) (signed : 
   name-length x is = length-Name nets x ∙ ap (λ (n : Net). n.width) is
 
   pub assigned-Name : (x : List ℕ) → nets x ≡ net → row x < 2 ^ w → assigned nets row w (Name x) ≡ row x
-  assigned-Name x is fits =
-      ap (λ n. value_in nets row n (is_signed nets (Name x)) (Name x) % 2 ^ w) (ap (λ n. max w n) (name-length x is) ∙ one-width w)
-      ∙ ap (λ n. n % 2 ^ w) (name-value (is_signed nets (Name x)) x is) ∙ mod-eq_of_lt fits
+  assigned-Name x is fits = name-copied nets row w x (ap (λ (n : Net). n.width) is) fits
 
   pub chosen-Name : (t x y : List ℕ) → nets x ≡ net → nets y ≡ net → row x < 2 ^ w → row y < 2 ^ w
       → assigned nets row w (Choose (Name t) (Name x) (Name y)) ≡ (if row t == 0 then row y else row x)

@@ -33,7 +33,8 @@ use Rattle.st_wrap.proofs.Driven.{control_drives, core_drives, core-letter, driv
 use Rattle.st_wrap.proofs.Lettered.{inner-letter, inner-same, inner-shared, letter, shared-cases, shared-letter}
 use Rattle.st_wrap.proofs.Named.{in-range, output-name}
 use Rattle.st_wrap.proofs.Once.{late_names}
-use Rattle.st_wrap.proofs.Reading.{reads-both, reads-chosen, reads-counted, reads-due, reads-Name, reads-renamed, reads-unless, reads-zero}
+use Rattle.vl_ast.proofs.Copied.{reads-Name}
+use Rattle.st_wrap.proofs.Reading.{reads-both, reads-chosen, reads-counted, reads-due, reads-renamed, reads-unless, reads-zero}
 use Rattle.st_wrap.proofs.Structure.{core-there, driven-there, flag-there, front-there, input-port}
 
 module _ (core : Module) (sound : BreaksNone core) (stallable : is_stallable core ≡ true) (names : List (List ℕ)) (named : AreColumnNames core names) (counters : Counters)

@@ -20,14 +20,12 @@ use Rattle.st_wrap.specs.inner.Columns.{held_driven, plain, stage_driven, stage_
 use Rattle.st_wrap.specs.inner.Control.{both, control_driven, is_due_now, is_zero, number, unless}
 use Rattle.st_wrap.specs.inner.Names.{begin_name, end_name, due_name, fed_name, open_name, enable_name, held_name, inner_name, late_name, phase_name, wait_name}
 use Rattle.st_wrap.specs.inner.Renamed.{renamed, renamed_condition, renamed_item}
+use Rattle.vl_ast.proofs.Copied.{reads-Name}
 use Rattle.st_wrap.proofs.Meanings.{relabelled, renamed-rolls}
 use Rattle.vl_check.proofs.Reading.{names-binary, names-choose}
 
 abbrev Names : Type 0
 Names = List (List ℕ)
-
-pub reads-Name : (x : List ℕ) → names_read (Name x) ≡ x ∷ []
-reads-Name x = ap names_read (sym (rolls-Name x)) ∙ fold-roll-Expr (List (List ℕ)) names_step (Expr-F.Name x)
 
 pub reads-Literal : (n : Sized) → names_read (Literal n) ≡ []
 reads-Literal n = ap names_read (sym (rolls-Literal n)) ∙ fold-roll-Expr (List (List ℕ)) names_step (Expr-F.Literal n)

@@ -9,6 +9,7 @@ use Rattle.vl_ast.specs.Context.{Net, own_length, is_signed}
 use Rattle.vl_ast.specs.Value.{assigned, assigned_number, extended, is_true, truth, value_in}
 use Rattle.st_wrap.specs.inner.Columns.{plain}
 use Rattle.st_wrap.specs.inner.Control.{is_zero, number}
+use Rattle.vl_ast.proofs.Copied.{extended-same, one-width}
 use Rattle.vl_ast.proofs.Forms.{length-Name, length-Literal, length-Binary, length-Choose, sign-Name, sign-Literal, sign-Binary, sign-Choose, value-Name, value-Literal, value-Unary, value-Binary, value-Choose}
 
 -- ---- truth
@@ -34,13 +35,6 @@ pub bit-one : (n : ℕ) → n < 2 ^ 1 → not (n == 0) ≡ (n == 1)
 bit-one zero below = refl
 bit-one (suc zero) below = refl
 bit-one (suc (suc n)) below = absurd (omega (arith, below))
-
-pub extended-same : (w : ℕ) (s : Bool) (b : ℕ) → extended (record { width = w; signed = s; bits = b }) w ≡ b
-extended-same w true b = grind arith
-extended-same w false b = refl
-
-pub one-width : (w : ℕ) → max w w ≡ w
-one-width w = omega arith
 
 -- the bits of an expression that stands alone
 abbrev alone_bits : (List ℕ → Net) → (List ℕ → ℕ) → Expr → ℕ
