@@ -1,5 +1,6 @@
 """What README.md and the pages of docs/ say, against what stands and what the program prints."""
 
+import functools
 import glob
 import os
 import re
@@ -35,11 +36,13 @@ def listed():
     return re.findall(r"^(\w+):", read(os.path.join(TOP, "crates.txt")), re.M)
 
 
+@functools.lru_cache(maxsize=None)
 def program():
     """The proved program, or the one that the environment names, or none."""
     given = os.environ.get("TILECATNIP")
-    done = subprocess.run([os.path.join(TOP, "tilecatnip"), "--program"], capture_output=True, text=True)
-    return given or done.stdout.strip()
+    if given:
+        return given
+    return subprocess.run([os.path.join(TOP, "tilecatnip"), "--program"], capture_output=True, text=True).stdout.strip()
 
 
 class Page(unittest.TestCase):
