@@ -118,8 +118,8 @@ class Report(unittest.TestCase):
         folder = os.path.join(TOP, "examples/designs/biquad")
         name = '<script>alert(1)</script>\\"&amp;\' onload=x'
         with tempfile.TemporaryDirectory() as room:
-            for ending in ("mdl", "plan"):
-                write(os.path.join(room, f"model.{ending}"), read(os.path.join(folder, f"model.{ending}")).replace('"b1"', f'"{name}"'))
+            for ending, said in (("mdl", name), ("plan", name.replace("/", "//"))):
+                write(os.path.join(room, f"model.{ending}"), read(os.path.join(folder, f"model.{ending}")).replace('"b1"', f'"{said}"'))
             words = [sys.executable, os.path.join(TOOLS, "report"), os.path.join(room, "model.mdl"), os.path.join(room, "model.plan"), os.path.join(folder, "model.stim"), "-o", os.path.join(room, "out")]
             done = subprocess.run(words, env={**os.environ, "TILECATNIP": program()}, capture_output=True, text=True)
             self.assertEqual(done.returncode, 0, done.stderr)

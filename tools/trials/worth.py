@@ -1,7 +1,10 @@
 """What a module takes by its text, plans in a picture, and real values."""
 
+import cmath
+import math
 import os
 import re
+import shutil
 import subprocess
 import sys
 import tempfile
@@ -18,6 +21,7 @@ from estimate import estimate
 from library import FixedType
 from quantize import ROUNDINGS, decimal, errors, quantized
 from subset import module_of
+from synthesis import synthesised
 from values import columns_by_name, table_of
 from written import Failed
 
@@ -71,6 +75,14 @@ class Resources(unittest.TestCase):
         self.assertIn("Yosys is not installed", done.stderr)
 
 
+    @unittest.skipUnless(shutil.which("yosys"), "Yosys is not installed")
+    def test_of_Yosys(self):
+        """A register of eight bits, and a counter of one that stays 0, which may go."""
+        found = synthesised(read(os.path.join(TOP, "examples/unit_delay.v")), "ice40")
+        self.assertIn(found["ffs"], (8, 9))
+        self.assertEqual(found["dsps"], 0)
+
+
 class Plans(unittest.TestCase):
     def drawn(self, text, *words):
         with tempfile.TemporaryDirectory() as room:
@@ -109,6 +121,17 @@ class Plans(unittest.TestCase):
         words = [sys.executable, os.path.join(TOOLS, "explore"), *explored.split()]
         done = subprocess.run(words, cwd=TOP, env={**os.environ, "TILECATNIP": program()}, capture_output=True, text=True)
         self.assertEqual(self.drawn(done.stdout, column).stdout, read(os.path.join(TOP, "examples", picture)), done.stderr)
+
+
+class Figures(unittest.TestCase):
+    """What the pages of designs say in numbers, by the taps of their references."""
+
+    def test_of_the_low_pass(self):
+        folder = os.path.join(TOP, "examples/designs/fir_lowpass")
+        taps = [int(it) for it in re.findall(r"-?\d+", re.search(r"TAPS = \((.*?)\)", read(os.path.join(folder, "reference.py")), re.S)[1])]
+        gain = lambda frequency: abs(sum(tap * cmath.exp(-2j * cmath.pi * frequency * at) for at, tap in enumerate(taps)))
+        down = 20 * math.log10(gain(0.02) / gain(0.31))
+        self.assertIn(f"the one at 0.31 is {down:.0f} dB down", read(os.path.join(folder, "README.md")))
 
 
 class Stimulus(unittest.TestCase):
