@@ -1,0 +1,5 @@
+pub mod Counters
+pub mod Kept
+pub mod Marked
+pub mod Result
+pub mod Trimmed

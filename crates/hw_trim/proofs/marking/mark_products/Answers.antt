@@ -1,0 +1,13 @@
+use Rattle.std.proofs.Common.{◌≡◌, ℕ, Some, slice_get, true, false, inl, inr, arith, subst, ap, sym, ◌∙◌}
+use Rattle.std.proofs.lemmas.Bool.{cases_lt}
+use Rattle.std.proofs.lemmas.Option.{get_or_from_slice_get, slice_get_within}
+use Rattle.hw_net.specs.declared.netlist.Net.{Net}
+use Rattle.hw_trim.specs.inner.Marking.{is_marked, multiplies}
+use Rattle.hw_trim.proofs.Marked.{marks-none, marks-trans}
+use Rattle.hw_trim.proofs.marking.mark_products.Goals as goal
+
+pub loop-k-init : goal.loop-k-init
+loop-k-init c = record { marks = marks-none c.args.marks.now c.args.order.now.items c.requires.marking; marked = λ j net less is multiply. absurd (omega (arith, less)) }
+
+pub returns-clause-marked : goal.returns-clause-marked
+returns-clause-marked c = λ k net is multiply. c.loop-k.invariant.marked k net (let within = slice_get_within c.args.nets.now k net is in omega (arith, within)) is multiply

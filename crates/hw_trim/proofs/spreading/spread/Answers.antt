@@ -1,0 +1,17 @@
+use Rattle.std.proofs.Common.{◌≡◌, ◌<◌, ℕ, List, length, Some, slice_get, slice_index, inl, inr, arith, subst, ap, sym, ◌∙◌}
+use Rattle.std.proofs.lemmas.Bool.{cases_lt}
+use Rattle.std.proofs.lemmas.Option.{get_or_from_slice_get, slice_get_within}
+use Rattle.hw_net.specs.declared.netlist.Net.{Net}
+use Rattle.hw_net.specs.declared.netlist.NetKind.{NetKind}
+use Rattle.hw_trim.specs.inner.Marking.{IsServed}
+use Rattle.hw_trim.proofs.Marked.{marks-none, marks-trans, served-still}
+use Rattle.hw_trim.proofs.spreading.spread.Goals as goal
+
+pub loop-done-init : goal.loop-done-init
+loop-done-init c = record { marks = marks-none c.args.marks.now c.args.order.now.items c.requires.marking; served = λ i net less is. absurd (omega (arith, less)); within = omega arith }
+
+pub loop-done-smaller : goal.loop-done-smaller
+loop-done-smaller c =
+    let count = c.loop-done.invariant.marks.marking.count in
+    let size = c.loop-done.invariant.marks.size in
+    omega (arith, c.loop-done-test.true, c.len.ensures, count, size, c.requires.size, ap length c.nets-nets.ensures)
