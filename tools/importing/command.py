@@ -4,6 +4,7 @@ import argparse
 import os
 import sys
 from fractions import Fraction
+from typing import TextIO
 
 import mdl
 
@@ -106,7 +107,8 @@ def variables_of(paths: list[str], report: Report) -> dict[str, Value]:
     return names
 
 
-def put(path: str | None, text: str, otherwise) -> None:
+def put(path: str | None, text: str, otherwise: TextIO) -> None:
+    """Writes a text to a file, or where there is none to a stream."""
     if path is None:
         otherwise.write(text)
         return

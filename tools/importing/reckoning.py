@@ -1,5 +1,6 @@
 """Rebuilds of blocks that reckon: sums of elements, accumulators, matrices, filters, integrators, bits."""
 
+from collections.abc import Callable
 from fractions import Fraction
 
 from . import fixed
@@ -218,7 +219,7 @@ def offset(it: Rebuild, values: list[Fraction], kind: FixType, saturates: str) -
     it.tell(f"adds {listed(values)} in the input's type {kind}")
 
 
-def stepped(of_stored: bool, up: bool):
+def stepped(of_stored: bool, up: bool) -> Callable[[Rebuild], None]:
     """Increments and decrements, by 1 or by a step of the type; they wrap."""
     def rebuild(it: Rebuild) -> None:
         kind = it.input_type()

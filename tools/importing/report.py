@@ -7,6 +7,9 @@ from dataclasses import dataclass, field
 sys.path.insert(0, os.path.dirname(os.path.dirname(os.path.abspath(__file__))))
 from mdl import shown
 
+# The most characters of a value that are shown.
+LONGEST = 120
+
 
 @dataclass(frozen=True)
 class Place:
@@ -30,7 +33,8 @@ class Refusal(Exception):
         self.why, self.remedy, self.parameter, self.value = why, remedy, parameter, value
 
     def told(self) -> str:
-        said = f"{self.parameter} {shown(self.value)}: " if self.parameter else ""
+        value = self.value if len(self.value) <= LONGEST else self.value[: LONGEST - 3] + "..."
+        said = f"{self.parameter} {shown(value)}: " if self.parameter else ""
         return f"{said}{self.why}; {self.remedy}"
 
 

@@ -13,49 +13,57 @@ from .values import Matrix, Value, row, scalar
 ASSIGNMENT = re.compile(r"\s*([A-Za-z]\w*(?:\.[A-Za-z]\w*)*)\s*=(?!=)\s*(.+)", re.S)
 
 
-def statements(text: str) -> Iterator[tuple[int, str]]:
-    """The statements of a script, each with its line, without comments."""
-    line, depth, begun, pieces, last, quoted, skipped = 1, 0, 1, [], "", False, 0
-    for source in text.split("\n"):
-        stripped = source.strip()
-        if stripped in ("%{", "%}"):
-            skipped += 1 if stripped == "%{" else -1
-        elif not skipped:
-            goes_on = False
-            for place, sign in enumerate(source):
-                if quoted:
-                    quoted = sign != "'"
-                elif sign == "%" or source.startswith("...", place):
-                    goes_on = sign == "."
-                    break
-                elif sign == "'" and not re.match(r"[\w)\]'.]", last):
-                    quoted = True
-                elif sign in "[(":
-                    depth += 1
-                elif sign in ")]":
-                    depth -= 1
-                elif sign in ";," and depth == 0:
-                    yield begun, "".join(pieces)
-                    pieces, begun, last = [], line, ""
-                    continue
-                if not pieces:
-                    begun = line
-                pieces.append(sign)
-                last = sign
-            quoted = False
-            if depth > 0 or goes_on:
-                pieces.append(" " if goes_on else ";")
+class Script:
+    """Parts a script into statements, each with its line, without comments."""
+
+    def __init__(self) -> None:
+        self.line, self.begun, self.depth, self.skipped = 0, 1, 0, 0
+        self.pieces: list[str] = []
+
+    def end(self) -> Iterator[tuple[int, str]]:
+        yield self.begun, "".join(self.pieces)
+        self.pieces = []
+
+    def signs(self, source: str) -> Iterator[tuple[int, str]]:
+        """Takes a line of the script, and gives the statements that end in it."""
+        quoted, last = False, "".join(self.pieces)[-1:]
+        for place, sign in enumerate(source):
+            if quoted:
+                quoted = sign != "'"
+            elif sign == "%":
+                break
+            elif source.startswith("...", place):
+                self.pieces.append(" ")
+                return
+            elif sign in ";," and self.depth == 0:
+                yield from self.end()
+                last = ""
+                continue
             else:
-                yield begun, "".join(pieces)
-                pieces, last = [], ""
-        line += 1
-    yield begun, "".join(pieces)
+                quoted = sign == "'" and not re.match(r"[\w)\]'.]", last)
+                self.depth += (sign in "[(") - (sign in "])")
+            self.begun = self.begun if self.pieces else self.line
+            self.pieces.append(sign)
+            last = sign
+        if self.depth > 0:
+            self.pieces.append(";")
+        else:
+            yield from self.end()
+
+    def statements(self, text: str) -> Iterator[tuple[int, str]]:
+        for source in text.split("\n"):
+            self.line += 1
+            if source.strip() in ("%{", "%}"):
+                self.skipped += 1 if source.strip() == "%{" else -1
+            elif self.skipped == 0:
+                yield from self.signs(source)
+        yield from self.end()
 
 
 def assign(text: str, names: dict[str, Value]) -> list[tuple[int, str, str]]:
     """Takes the assignments of a script into `names`; gives each other statement with its line, and why."""
     passed = []
-    for line, statement in statements(text):
+    for line, statement in Script().statements(text):
         if not statement.strip():
             continue
         found = ASSIGNMENT.fullmatch(statement)

@@ -4,7 +4,6 @@ import glob
 import io
 import os
 import re
-import subprocess
 import sys
 import tempfile
 import unittest
@@ -210,8 +209,9 @@ class Drawn(unittest.TestCase):
     def test_a_rewritten_model_says_nothing_that_is_passed_over(self):
         with tempfile.TemporaryDirectory() as room:
             for path in glob.glob(os.path.join(DRAWN, "*.mdl")):
-                base, out = os.path.splitext(path)[0], os.path.join(room, "out.mdl")
-                values = [word for end in (".m", ".json") if os.path.exists(base + end) for word in ("--variables", base + end)]
-                tool("import", path, *values, "-o", out, "--log", os.devnull)
-                done = subprocess.run([sys.executable, os.path.join(TOOLS, "lint"), out], capture_output=True, text=True)
+                base, out, names = os.path.splitext(path)[0], os.path.join(room, "out.mdl"), {}
+                for values in (base + end for end in (".m", ".json") if os.path.exists(base + end)):
+                    variables.read(values, read(values), names)
+                write(out, imported(read(path).encode(), path, names, Report()) or "")
+                done = tool("lint", out)
                 self.assertEqual((done.returncode, done.stdout), (0, ""), path)
