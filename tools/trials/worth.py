@@ -114,15 +114,6 @@ class Plans(unittest.TestCase):
         self.assertEqual([re.sub(r" registers \d+ adders \d+ choices \d+ levels \d+$", "", line) for line in lines], read(os.path.join(TOP, "examples/three_products.explore")).splitlines()[1::2] + ["least cycles 4 multipliers 1"], done.stderr)
 
 
-    @unittest.skipUnless(program(), "there is no proved program")
-    def test_picture_of_resources(self):
-        explored, drawn = re.search(r"^\$ tools/explore (.*) >plans\n\$ tools/plot_explore plans (.*)$", read(os.path.join(TOP, "examples/README.md")), re.M).groups()
-        column, _, picture = drawn.partition(" >")
-        words = [sys.executable, os.path.join(TOOLS, "explore"), *explored.split()]
-        done = subprocess.run(words, cwd=TOP, env={**os.environ, "TILECATNIP": program()}, capture_output=True, text=True)
-        self.assertEqual(self.drawn(done.stdout, column).stdout, read(os.path.join(TOP, "examples", picture)), done.stderr)
-
-
 class Figures(unittest.TestCase):
     """What the pages of designs say in numbers, by the taps of their references."""
 
