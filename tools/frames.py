@@ -144,6 +144,12 @@ def apart(source: Clocks, target: Clocks) -> Optional[int]:
     return min((clock - begins[bisect_left(begins, clock) - 1] for clock in target), default=None)
 
 
+def may_hold(module: Module, value: Expression, name: str) -> bool:
+    """Whether a choice of a value may give a register what it holds."""
+    seen = source_of(value, name, module)
+    return seen == Name(name) or isinstance(seen, Choice) and (may_hold(module, seen.yes, name) or may_hold(module, seen.no, name))
+
+
 class Cones:
     """The registers and inputs that nets and expressions read in the same clock."""
 
@@ -158,13 +164,9 @@ class Cones:
     def choosing(self, value: Expression, name: str) -> "frozenset[str]":
         """What the choices read by which a register may be given what it holds, and with them the register."""
         seen = source_of(value, name, self.module)
-        if not isinstance(seen, Choice) or not self.may_hold(seen, name):
+        if not isinstance(seen, Choice) or not may_hold(self.module, seen, name):
             return frozenset()
         return frozenset([name]) | self.of(seen.condition) | self.choosing(seen.yes, name) | self.choosing(seen.no, name)
-
-    def may_hold(self, value: Expression, name: str) -> bool:
-        seen = source_of(value, name, self.module)
-        return seen == Name(name) or isinstance(seen, Choice) and (self.may_hold(seen.yes, name) or self.may_hold(seen.no, name))
 
     def enabling(self, register: Register) -> "frozenset[str]":
         """What says whether a register takes, which is looked at in each clock."""

@@ -10,9 +10,8 @@ from bisect import bisect_left
 from dataclasses import dataclass
 from typing import Dict, List, Optional, Tuple
 
-from frames import RESET, Frames
+from frames import RESET, Frames, may_hold
 from mdl import strings
-from running import source_of
 from subset import Choice, Expression, Module, Name, names_in
 from written import Failed
 
@@ -118,12 +117,9 @@ class Changes:
         if name in self.frames.known:
             return 0
         if name in module.registers:
-            taken = self.last_take(name, clock)
-            value = source_of(module.registers[name].value, name, module)
+            taken, value = self.last_take(name, clock), module.registers[name].value
             # one that holds what it was given shows what was there before
-            if taken >= 0 and isinstance(value, Choice) and Name(name) in map(lambda it: source_of(it, name, module), (value.yes, value.no)):
-                return self.of(value, taken)
-            return taken + 1
+            return self.of(value, taken) if taken >= 0 and may_hold(module, value, name) else taken + 1
         step = (module.nets[name].attribute("fx_period") or 1) * self.cycles
         return clock - clock % step
 

