@@ -1,12 +1,12 @@
 """The model's own Verilog: each equation once a base sample, on words as wide as its exact result needs."""
 
+from fractions import Fraction
 from typing import Optional
 
 from equality.diagram import Block, inputs_of, outputs_of, signs
 from equality.schedule import Schedule
 from equality.signals import Signals, list_of
 from equality.values import Type, decimals, full_product, full_sum, stored
-from written import whole
 
 CRITERIA = {"u2 >= Threshold": ">=", "u2 > Threshold": ">", "u2 ~= 0": "!="}
 RELATIONS = {"==": "==", "~=": "!=", "<": "<", "<=": "<=", ">=": ">=", ">": ">"}
@@ -69,12 +69,10 @@ class Ideal:
 
     def rounded(self, net: str, width: int, shift: int, mode: str) -> str:
         """A number without its last bits."""
-        half, floor = number(1 << (shift - 1), width), f"({net} >>> {shift})"
-        up = f"(({net} + {number((1 << shift) - 1, width)}) >>> {shift})"
-        below = f"(({net} + {number((1 << (shift - 1)) - 1, width)}) >>> {shift})"
-        nearest = f"(({net} + {half}) >>> {shift})"
-        even = f"(({net} + {number((1 << (shift - 1)) - 1, width)} + $signed({{1'b0, {net}[{shift}]}})) >>> {shift})"
-        negative = f"{net}[{width - 1}]"
+        half, negative = 1 << (shift - 1), f"{net}[{width - 1}]"
+        floor, up = f"({net} >>> {shift})", f"(({net} + {number(2 * half - 1, width)}) >>> {shift})"
+        below, nearest = (f"(({net} + {number(of, width)}) >>> {shift})" for of in (half - 1, half))
+        even = f"(({net} + {number(half - 1, width)} + $signed({{1'b0, {net}[{shift}]}})) >>> {shift})"
         return {
             "Floor": floor, "Ceiling": up, "Zero": f"({negative} ? {up} : {floor})", "Nearest": nearest,
             "Round": f"({negative} ? {below} : {nearest})", "Convergent": even,
@@ -157,7 +155,7 @@ class Ideal:
             chosen.append(self.wire(self.types[block].width, value, self.types[block].signed))
         return f"({meets} ? {chosen[0]} : {chosen[1]})"
 
-    def threshold(self, block: Block, element: int):
+    def threshold(self, block: Block, element: int) -> Fraction:
         told = decimals(block.get("Threshold"))
         return told[min(element, len(told) - 1)]
 

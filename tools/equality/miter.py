@@ -3,12 +3,11 @@
 import re
 from dataclasses import dataclass
 from enum import Enum
-from typing import Optional
 
 from equality.diagram import Block
 from equality.ideal import Ideal, number, word
 from equality.schedule import Schedule
-from written import MODULE, Failed, header
+from written import MODULE, Failed, Port, header
 
 NUMBER = r"(\d+)\s*'\s*(s?)([bdh])\s*([0-9a-zA-Z]+)"
 ALWAYS = re.compile(r"always\s*@\s*\(\s*posedge\s+clk\s*\)\s*begin\s*if\s*\(\s*reset\s*\)\s*(\w+)\s*<=\s*" + NUMBER + r"\s*;\s*else")
@@ -34,7 +33,7 @@ class Column:
 
     block: Block
     element: int
-    port: object
+    port: Port
 
 
 def without_comments(text: str) -> str:
@@ -64,7 +63,7 @@ class Miter:
         self.inputs = self.columns("Inport", [port for port in ports if port.is_input])
         self.outputs = self.columns("Outport", [port for port in ports if not port.is_input])
 
-    def columns(self, kind: str, ports: list) -> list[Column]:
+    def columns(self, kind: str, ports: list[Port]) -> list[Column]:
         blocks = sorted((it for it in self.signals.blocks if it.kind == kind), key=lambda it: int(it.get("Port")))
         found = [(block, element) for block in blocks for element in range(self.signals.widths[block][0])]
         if len(found) != len(ports):
@@ -152,7 +151,7 @@ class Miter:
             lines.append(register(f"e{place}_{at}", of.width, "step", wanted, of.signed))
             wanted = f"e{place}_{at}"
         ready = told - late * cycles
-        at = [f"phase" if cycles > 1 else "0"]
+        at = ["phase" if cycles > 1 else "0"]
         if period > 1:
             back = late % period
             at.append(f"(at_{period} >= {back} ? at_{period} - {back} : at_{period} + {period - back}) * {cycles}")

@@ -16,6 +16,7 @@ class Plant(Enum):
     SLOT = "a slot"
     RELATION = "a relation"
     CONSTANT = "a constant"
+    OUTPUT = "an output's bits"
 
 
 OTHER = {"+": "-", "-": "+", "<": ">", ">": "<", "==": "!=", "!=": "==", "<=": ">", ">=": "<"}
@@ -29,6 +30,7 @@ FORMS = {
     Plant.SLOT: (r"else if \([^;]*?== \d+'d(\d+)", last_bit),
     Plant.RELATION: (r"\([^;]*? (<|>|==|!=|>=) ", OTHER.get),
     Plant.CONSTANT: (r"assign [^;]*?\d+'d(\d+)", last_bit),
+    Plant.OUTPUT: (r"assign (?!fx_|ce_out\b)\w+ = ([^;]+);", lambda text: f"(~{text})"),
 }
 
 
