@@ -1,9 +1,9 @@
 -- The netlist of what must stay stands in the place of the whole.
-use Rattle.std.proofs.Common.{◌≡◌, ◌≢◌, ℕ, zero, suc, ◌+◌, ◌<◌, ◌≤◌, ◌⊎◌, inl, inr, List, [], ◌∷◌, ◌++◌, map, flat_map, length, All, Contains, Option, None, Some, IsSome, Bool, true, false, if◌then◌else◌, slice_get, slice_index, slice_index_or, get_or, append-nil, refl, ap, sym, ◌∙◌, subst, arith, ℤ}
-use Rattle.std.specs.List.{AllPairs, AllZip}
+use Rattle.std.proofs.Common.{◌≡◌, ℕ, zero, suc, ◌+◌, ◌<◌, ◌≤◌, List, [], ◌∷◌, ◌++◌, map, flat_map, length, All, Contains, Option, None, Some, IsSome, Bool, true, false, slice_get, slice_index, slice_index_or, get_or, append-nil, refl, ap, sym, ◌∙◌, subst, arith}
+use Rattle.std.specs.List.{AllZip}
 use Rattle.std.proofs.lemmas.Grind.{flat_map-append}
 use Rattle.std.proofs.lemmas.List.{map-append}
-use Rattle.std.proofs.lemmas.Option.{get_or_from_slice_get, none-some, same_Some, slice_get-get_or, slice_get_within}
+use Rattle.std.proofs.lemmas.Option.{get_or_from_slice_get, slice_get-get_or, slice_get_within}
 use Rattle.hw_net.specs.declared.netlist.Frame.{Frame}
 use Rattle.hw_net.specs.declared.netlist.Net.{Net}
 use Rattle.hw_net.specs.declared.netlist.NetLabel.{NetLabel}
@@ -14,91 +14,22 @@ use Rattle.hw_net.specs.declared.netlist.NetKind.{NetKind}
 use Rattle.hw_net.specs.declared.netlist.NetKind.TheVariants.{Comb, Reg, EnReg, Bridge, Unit, Counter}
 use Rattle.hw_net.specs.Circuit.{Circuit}
 use Rattle.hw_net.specs.Emittable.{IsEmittable}
-use Rattle.hw_net.specs.Frames.{counted_frame, counter_from, counter_of, frame_of, is_frame, IsCounterAt}
-use Rattle.hw_net.specs.Netlist.{IsKind, IsNetlist, IsRanked, reads, reads_now}
+use Rattle.hw_net.specs.Frames.{counted_frame, counter_of, frame_of}
+use Rattle.hw_net.specs.Netlist.{IsKind, IsNetlist, reads, reads_now}
 use Rattle.hw_net.specs.Operation.{arity}
 use Rattle.hw_net.specs.Products.{Product, comb_product, net_at, no_net, op_product, places, products_of, unit_product}
-use Rattle.hw_refine.specs.Drops.{Drops, IsKept, IsRenumbered}
+use Rattle.hw_refine.specs.Drops.{Drops, IsKept}
 use Rattle.hw_refine.specs.Redirects.{redirected}
-use Rattle.hw_refine.specs.Refines.{IsReadBy, KeepsLabel, KeepsRegister, face, held, held_count}
+use Rattle.hw_refine.specs.Refines.{IsReadBy, KeepsLabel, face, held, held_count}
 use Rattle.hw_refine.proofs.Lists.{by-place, combs-in, found, map-get, products-are, stands, units-in, zip-append}
 use Rattle.hw_renumber.specs.Renumbered.{moved_label, moved_net, moved_nets, moved_port, renumbered}
 use Rattle.hw_renumber.specs.Sound.{CanStay, IsCounted, IsStanding}
 use Rattle.hw_renumber.proofs.Sound.{all-at, all-in, image, map-has, reads-moved}
 use Rattle.hw_trim.specs.inner.Keeping.{kept_of}
-use Rattle.hw_trim.specs.inner.Marking.{IsNeeded, is_marked, is_product, multiplies}
+use Rattle.hw_trim.specs.inner.Marking.{IsNeeded, is_marked, multiplies}
 use Rattle.hw_trim.proofs.Counters.{counter-at}
+use Rattle.hw_trim.proofs.Moving.{further, zip-map, now-read, held-moved, held-append, ones, no-unit, no-comb}
 use Rattle.hw_trim.proofs.Kept.{kept-at, kept-is, kept-no, kept-yes}
-
--- ---- lists and kinds
-
-further : {X : Type 0} (x y : X) (xs : List X) → Contains xs y → Contains (x ∷ xs) y
-further x y xs c = stands (x ∷ xs) (suc c.0) y (found xs y c)
-
-zip-map : {X Y : Type 0} (R : X → Y → Type 0) (f : X → Y) (xs : List X) → ((x : X) → Contains xs x → R x (f x)) → AllZip R xs (map f xs)
-zip-map R f [] each = tt
-zip-map R f (x ∷ xs) each = (each x (0, omega arith, refl), zip-map R f xs (λ y c. each y (further x y xs c)))
-
-now-read : (kind : NetKind) (read : ℕ) → Contains (reads_now kind) read → Contains (reads kind) read
-now-read (Comb op args) read c = c
-now-read (Reg frame slot first from) read c = absurd (let a = c.1 in omega (arith, a))
-now-read (EnReg frame enable reset first from) read c = absurd (let a = c.1 in omega (arith, a))
-now-read (Bridge frame live from) read c = c
-now-read (Unit left right) read c = c
-now-read (Counter frame) read c = absurd (let a = c.1 in omega (arith, a))
-
-held-moved : (place : ℕ → ℕ) (kind : NetKind) → held (redirected place kind) ≡ held kind
-held-moved place (Comb op args) = refl
-held-moved place (Reg frame slot first from) = refl
-held-moved place (EnReg frame enable reset first from) = refl
-held-moved place (Bridge frame live from) = refl
-held-moved place (Unit left right) = refl
-held-moved place (Counter frame) = refl
-
-held-append : (xs ys : List Net) → held_count (xs ++ ys) ≡ held_count xs + held_count ys
-held-append [] ys = omega arith
-held-append (x ∷ xs) ys = (let e = held-append xs ys in omega (arith, e))
-
-ones : (nets : List Net) → flat_map (λ (net : Net). net ∷ []) nets ≡ nets
-ones [] = refl
-ones (net ∷ nets) = ap (λ (rest : List Net). net ∷ rest) (ones nets)
-
-no-unit : (w : ℕ) (kind : NetKind) → multiplies kind ≡ false → unit_product w kind ≡ []
-no-unit w (Comb op args) e = refl
-no-unit w (Reg frame slot first from) e = refl
-no-unit w (EnReg frame enable reset first from) e = refl
-no-unit w (Bridge frame live from) e = refl
-no-unit w (Unit left right) e = absurd (cc e)
-no-unit w (Counter frame) e = refl
-
-no-product : (w : ℕ) (args : List ℕ) (op : NetOp) → is_product op ≡ false → op_product w args op ≡ []
-no-product w args (Input number) e = refl
-no-product w args (Const value) e = refl
-no-product w args Resize e = refl
-no-product w args (ShiftUp places) e = refl
-no-product w args (ShiftDown places) e = refl
-no-product w args Add e = refl
-no-product w args Subtract e = refl
-no-product w args Negate e = refl
-no-product w args Multiply e = absurd (cc e)
-no-product w args And e = refl
-no-product w args Or e = refl
-no-product w args Xor e = refl
-no-product w args Not e = refl
-no-product w args Less e = refl
-no-product w args Equal e = refl
-no-product w args Choose e = refl
-no-product w args (Slice high low) e = refl
-
-no-comb : (w : ℕ) (kind : NetKind) → multiplies kind ≡ false → comb_product w kind ≡ []
-no-comb w (Comb op args) e = no-product w args op e
-no-comb w (Reg frame slot first from) e = refl
-no-comb w (EnReg frame enable reset first from) e = refl
-no-comb w (Bridge frame live from) e = refl
-no-comb w (Unit left right) e = refl
-no-comb w (Counter frame) e = refl
-
--- ---- the netlist
 
 module _ (old : Circuit) (runs : IsNetlist old) (emits : IsEmittable old) (marks : List Bool) (needed : IsNeeded old marks) (place : ℕ → ℕ) (counted : (k : ℕ) → k < length old.nets → place k ≡ length (kept_of marks k)) where
   abbrev kept : List ℕ

@@ -1,9 +1,6 @@
-use Rattle.std.proofs.Common.{◌≡◌, ℕ, Some, slice_get, true, false, inl, inr, arith, subst, ap, sym, ◌∙◌}
-use Rattle.std.proofs.lemmas.Bool.{cases_lt}
-use Rattle.std.proofs.lemmas.Option.{get_or_from_slice_get, slice_get_within}
-use Rattle.hw_net.specs.declared.netlist.Net.{Net}
-use Rattle.hw_trim.specs.inner.Marking.{is_marked, multiplies}
-use Rattle.hw_trim.proofs.Marked.{marks-none, marks-trans}
+use Rattle.std.proofs.Common.{arith}
+use Rattle.std.proofs.lemmas.Option.{slice_get_within}
+use Rattle.hw_trim.proofs.Marked.{marks-none}
 use Rattle.hw_trim.proofs.marking.mark_products.Goals as goal
 
 pub loop-k-init : goal.loop-k-init

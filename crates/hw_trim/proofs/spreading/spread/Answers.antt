@@ -1,10 +1,5 @@
-use Rattle.std.proofs.Common.{◌≡◌, ◌<◌, ℕ, List, length, Some, slice_get, slice_index, inl, inr, arith, subst, ap, sym, ◌∙◌}
-use Rattle.std.proofs.lemmas.Bool.{cases_lt}
-use Rattle.std.proofs.lemmas.Option.{get_or_from_slice_get, slice_get_within}
-use Rattle.hw_net.specs.declared.netlist.Net.{Net}
-use Rattle.hw_net.specs.declared.netlist.NetKind.{NetKind}
-use Rattle.hw_trim.specs.inner.Marking.{IsServed}
-use Rattle.hw_trim.proofs.Marked.{marks-none, marks-trans, served-still}
+use Rattle.std.proofs.Common.{length, arith, ap}
+use Rattle.hw_trim.proofs.Marked.{marks-none}
 use Rattle.hw_trim.proofs.spreading.spread.Goals as goal
 
 pub loop-done-init : goal.loop-done-init

@@ -1,4 +1,4 @@
-use Rattle.std.proofs.Common.{◌∙◌, ap, sym, subst, List, ℕ, length, Bool}
+use Rattle.std.proofs.Common.{◌∙◌, sym, subst, List, ℕ, length}
 use Rattle.std.proofs.lemmas.Result.{IfOk-weaker}
 use Rattle.hw_trim.specs.inner.Keeping.{ArePlaces}
 use Rattle.hw_trim.proofs.Result.{made-emits, made-refines, made-runs, moves}
