@@ -83,7 +83,7 @@ class Expressions(unittest.TestCase):
         self.assertEqual(names["T"], FixType(True, 8, 2))
 
 
-class Reading(unittest.TestCase):
+class Forms(unittest.TestCase):
     def test_classic_text_is_read_strictly(self):
         for text, faulty in (("a {\n", 1), ("a {\n!\n}\n", 2), ("}\n", 1), ("a {\nb [1, 2\n}\n", 2), ('a {\nb "c" d\n}\n', 2), ("a {\n" * 300, 257)):
             with self.subTest(text=text[:20]), self.assertRaisesRegex(NotText, f"^line {faulty}:"):
