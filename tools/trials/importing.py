@@ -214,4 +214,6 @@ class Drawn(unittest.TestCase):
                     variables.read(values, read(values), names)
                 write(out, imported(read(path).encode(), path, names, Report()) or "")
                 done = tool("lint", out)
-                self.assertEqual((done.returncode, done.stdout), (0, ""), path)
+                self.assertEqual(done.stdout, "", path)
+                # 3 where no program stands that would try the later rules
+                self.assertIn(done.returncode, (0, 3), path)
