@@ -157,23 +157,48 @@ class Shown(unittest.TestCase):
         self.assertEqual(self.print_of(command).stdout, shown)
 
 
-class Proved(unittest.TestCase):
-    """docs/PROVED.md has a section for each crate, and names only functions and clauses that stand in its source."""
+class Defined(unittest.TestCase):
+    """What `tools/glossary` and `tools/proved` print of two small crates, and what the first refuses."""
 
-    def test_names_stand(self):
-        with open(os.path.join(TOP, "docs/PROVED.md")) as file:
-            sections = {part.partition(":")[0]: part for part in re.split(r"^## ", file.read(), flags=re.M)[1:]}
-        crates = listed()
-        self.assertEqual([crate for crate in crates if crate not in sections], [])
-        for crate in crates:
-            source = ""
-            for path in glob.glob(os.path.join(TOP, "crates", crate, "src/**/*.rt"), recursive=True):
-                with open(path) as file:
-                    source += file.read()
-            rows = "".join(re.findall(r"^\| function \|.*\n\|---.*\n((?:\|.*\n)+)", sections[crate], re.M))
-            for functions, clauses in re.findall(r"^\| (.*?) \| (.*?) \| ", rows, re.M):
-                names = [name.rpartition("::")[2] for cell in (functions, clauses) for name in re.findall(r"`([^`]+)`", cell)]
-                self.assertEqual([name for name in names if not re.search(rf"\b{name}\b", source)], [], crate)
+    FILES = {
+        "crates.txt": "low:\nhigh: low\n",
+        "README.md": "`IsSmall` of `low/specs/Facts`\n",
+        "docs/GLOSSARY.md": "| small numbers | `low` | `Facts` |\n",
+        "docs/HEADLINE.md": "", "docs/ARCHITECTURE.md": "`tools/proved`, `Door::open`\n", "docs/PROVED.md": "",
+        "crates/low/specs/Facts.antt": "-- Facts (own).\n\n-- below ten\npub record IsSmall (n : ℕ) : Type 0 where\n  pub below : n < 10\n",
+        "crates/low/src/lib.rt": "pub use door::Door;\n",
+        "crates/low/src/door.rt": "impl Door {\n    /// Opens it.\n    pub fn open(&self) -> u8\n        ensures { IsSmall result }\n    {\n        9\n    }\n\n    fn shut(&self) {\n    }\n}\n",
+        "crates/high/src/lib.rt": "ghost use Rattle.low.specs.Facts.{IsSmall as Small};\n",
+    }
+
+    def run_in(self, words, changed=()):
+        """What a script prints and ends with in a folder of these files, of which some are changed."""
+        with tempfile.TemporaryDirectory() as room:
+            for path, text in {**self.FILES, **dict(changed)}.items():
+                write(os.path.join(room, path), text)
+            for name in ("glossary", "proved", "definitions.py", "cited.py"):
+                write(os.path.join(room, "tools", name), read(os.path.join(TOP, "tools", name)))
+            name, *others = words
+            done = subprocess.run([sys.executable, os.path.join(room, "tools", name), *others], capture_output=True, text=True)
+        return done.returncode, done.stdout
+
+    def test_definition(self):
+        told = "crates/low/specs/Facts.antt:4\nmeaning: below ten\nsource: own\npub record IsSmall (n : ℕ) : Type 0 where\n  pub below : n < 10\ncited by 1 other files:\n  crates/high/src/lib.rt\n\n"
+        self.assertEqual(self.run_in(["glossary", "Is*"]), (0, told))
+        self.assertEqual(self.run_in(["glossary", "Is"]), (1, ""))
+
+    def test_clauses(self):
+        opened = "crates/low/src/door.rt: Door::open\n/// Opens it.\npub fn open(&self) -> u8\n    ensures { IsSmall result }\n\n"
+        self.assertEqual(self.run_in(["proved", "low"]), (0, opened))
+        self.assertEqual(self.run_in(["proved", "low", "Door::shut"]), (0, "crates/low/src/door.rt: Door::shut\nfn shut(&self)\n\n"))
+        self.assertEqual(self.run_in(["proved", "high"])[0], 1)
+
+    def test_cited_names(self):
+        self.assertEqual(self.run_in(["glossary", "--check"])[0], 0)
+        for page, text in (("README.md", "`IsTiny`"), ("README.md", "`low/specs/Fact`"), ("docs/ARCHITECTURE.md", "`Door::ajar`"),
+                           ("docs/GLOSSARY.md", "| small numbers | `high` | `Facts` |\n"), ("docs/proof/forms.md", "`low/proofs/Gone*`")):
+            status, told = self.run_in(["glossary", "--check"], {page: text + "\n"})
+            self.assertEqual((status, told.startswith(page)), (1, True), text)
 
 
 class Doors(unittest.TestCase):
