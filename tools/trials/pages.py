@@ -63,7 +63,7 @@ class Page(unittest.TestCase):
         self.assertLessEqual(len(read(os.path.join(TOP, "README.md")).split()), 2500)
 
     def test_names_files_that_stand(self):
-        for page in ["README.md", "CHANGELOG.md"] + glob.glob(os.path.join(TOP, "docs/*.md")) + glob.glob(os.path.join(TOP, "examples/**/README.md"), recursive=True):
+        for page in ["README.md", "CHANGELOG.md"] + glob.glob(os.path.join(TOP, "docs/**/*.md"), recursive=True) + glob.glob(os.path.join(TOP, "examples/**/README.md"), recursive=True):
             path = os.path.join(TOP, page)
             for link, place in re.findall(r"\]\(([^)#:\s]*)(?:#([^)\s]+))?\)", re.sub(r"^```.*?^```$", "", read(path), flags=re.M | re.S)):
                 there = os.path.join(os.path.dirname(path), link) if link else path
