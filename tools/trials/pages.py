@@ -201,6 +201,15 @@ class Defined(unittest.TestCase):
             self.assertEqual((status, told.startswith(page)), (1, True), text)
 
 
+class Proved(unittest.TestCase):
+    """docs/PROVED.md tells of each crate what is proved."""
+
+    def test_crates_are_named(self):
+        rows = re.findall(r"^\| (`.*?) \| .* \|$", read(os.path.join(TOP, "docs/PROVED.md")), re.M)
+        told = {crate for row in rows for crate in re.findall(r"`(\w+)`", row)}
+        self.assertEqual([crate for crate in listed() if crate not in told], [])
+
+
 class Doors(unittest.TestCase):
     """The table of crates in docs/ARCHITECTURE.md names each crate, and what its source or its definitions have."""
 
