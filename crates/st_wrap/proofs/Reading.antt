@@ -1,4 +1,4 @@
--- The names that the wrapper's expressions read, and the places of names in its own items. Crates above may cite this file.
+-- The names that the wrapper's expressions read, and the places of names in its own items.
 use Rattle.std.proofs.Common.{◌≡◌, ℕ, ◌+◌, true, false, List, [], ◌∷◌, ◌++◌, map, flat_map, codes, Option, Some, None, refl, sym, ap, subst, ◌∙◌}
 use Rattle.std.proofs.lemmas.List.{map-append}
 use Rattle.vl_ast.specs.declared.expressions.UnOp.{UnOp}
