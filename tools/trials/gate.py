@@ -199,6 +199,32 @@ class Calling(unittest.TestCase):
             self.assertNotEqual(self.ends(self.CASES.replace(old, new), self.EXPECTED.replace(old, new)), 0, old)
 
 
+class Counting(unittest.TestCase):
+    """No crate has fewer edits, and no file of expected rows fewer lines, than are written down."""
+
+    LEAST = "1 crates/low/edits\n2 tests/calls.expected\n"
+
+    def ends(self, least, edits=1, rows=2):
+        with tempfile.TemporaryDirectory() as room:
+            for number in range(edits):
+                write(os.path.join(room, f"crates/low/edits/edit_{number}.edit"), "")
+            write(os.path.join(room, "tests/calls.expected"), "ok\n" * rows)
+            write(os.path.join(room, "tools/counts.txt"), least)
+            shutil.copy(os.path.join(TOOLS, "counts"), os.path.join(room, "tools/counts"))
+            return subprocess.run([sys.executable, os.path.join(room, "tools/counts")], capture_output=True, text=True).returncode
+
+    def test_counts(self):
+        self.assertEqual(self.ends(self.LEAST), 0)
+        self.assertEqual(self.ends(self.LEAST, edits=2, rows=3), 0)
+        self.assertEqual(self.ends(self.LEAST, edits=0), 1)
+        self.assertEqual(self.ends(self.LEAST, rows=1), 1)
+
+    def test_what_has_no_count_or_is_gone(self):
+        self.assertEqual(self.ends("2 tests/calls.expected\n"), 1)
+        self.assertEqual(self.ends(self.LEAST + "1 crates/gone/edits\n"), 1)
+        self.assertEqual(self.ends(self.LEAST + "0 crates/low/edits\n"), 1)
+
+
 class SideBySide(unittest.TestCase):
     """As many checks as there are processors where each has room for one, unless all fit by what is reckoned."""
 
@@ -213,7 +239,7 @@ class SideBySide(unittest.TestCase):
 
 class Gate(unittest.TestCase):
     CHECKS = (
-        "examples/run", "tests/calls", "tools/streams", "tools/glossary", "tools/cites", "tools/memory", "tools/edits", "tools/try",
+        "examples/run", "tests/calls", "tools/streams", "tools/glossary", "tools/cites", "tools/memory", "tools/edits", "tools/counts", "tools/try",
         "tools/cross_check", "tools/cross_values", "tools/cross_nets",
     )
 
