@@ -130,7 +130,10 @@ class Wanting(unittest.TestCase):
     def test_words_are_told(self):
         line = "// word: a count of 32 bits,\n// which rules hold\nreturn Err(OutOfMemory);"
         self.assertEqual(self.ends(line), 1)
-        self.assertEqual(self.ends(line, "| `low/src/lib.rt` | a count | 32 |"), 0)
+        told = "| `low/src/lib.rt` | a count | 32 |"
+        self.assertEqual(self.ends(line, told), 0)
+        self.assertEqual(self.ends("// word: a hard case\nreturn Err(OutOfMemory);", told), 1)
+        self.assertEqual(self.ends("// word: a count, at the most 64\nreturn Err(OutOfMemory);", told), 0)
 
 
 class Editing(unittest.TestCase):
