@@ -196,7 +196,9 @@ LIBRARY: dict[str, tuple[Parameter, ...]] = {
     ),
     "Ground": (),
     "Terminator": (),
-    "Sum": (Parameter("Inputs", "++", SIGNS), only("AccumDataTypeStr", INTERNAL), *COMMON),
+    "Sum": (
+        Parameter("Inputs", "++", SIGNS), Parameter("AccumDataTypeStr", INTERNAL, type_or(INTERNAL, "Inherit: Same as first input")), *COMMON,
+    ),
     "Gain": (
         Parameter("Gain", "1", LIST), Parameter("ParamDataTypeStr", INTERNAL, type_or(INTERNAL, "Inherit: Same as input")),
         only("Multiplication", "Element-wise(K.*u)"),

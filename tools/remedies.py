@@ -90,8 +90,6 @@ TIMES = ("SampleTime", "OutPortSampleTime", "SystemSampleTime")
 def of_parameter(name: str, text: str) -> str:
     """The remedy of a parameter that isn't read, by its name and value."""
     if name.endswith("DataTypeStr"):
-        if name == "AccumDataTypeStr":
-            return "the sum is exact here, so take the internal rule"
         return of_type_text(text)
     if name == "Inputs" and text in ("1", "+", "-"):
         return f"{IMPORT} rebuilds a Sum of elements"

@@ -24,6 +24,7 @@ VALUES = (
     ("Inport", "OutDataTypeStr", ("Inherit: auto", "int8", "boolean", "fixdt(1,16,8)", "fixdt( true , 2, -64 )", "fixdt(0,127,128)"), ("double", "int64", "fixdt(1,1,0)", "fixdt(0,128,0)", "fixdt(1,16)", "fixdt(1,16,129)", "fixdt(1,16,-65)", "fixdt(1,16,8) ")),
     ("Constant", "Value", ("1", "-.5e3", "true", "[1 2]", "[1, 2]", "[1;2]", " 3 ", "0" * 500 + "1", "1e18"), ("k", "1 2", "[1;2 3]", "[]", "[1,,2]", "1e19", "1234567890123456789", "0.0000000000000000001", ".", "[" + "1 " * 1025 + "]")),
     ("Constant", "SampleTime", ("inf", "-1", "0.5", "[0.5 0]"), ("0", "-2", "[0.5 1]", "1/8", "[0 0]")),
+    ("Sum", "AccumDataTypeStr", ("Inherit: Inherit via internal rule", "Inherit: Same as first input", "fixdt(1,24,8)"), ("Inherit: Same as input", "Inherit: Inherit via back propagation")),
     ("Gain", "OutDataTypeStr", ("Inherit: Same as input", "Inherit: Inherit via internal rule"), ("Inherit: Same as first input", "Inherit: Inherit via back propagation")),
     ("Sum", "Inputs", ("++", "|+-", "32", "2"), ("+", "1", "33", "+" * 33, "+x")),
     ("Product", "Inputs", ("2", "**"), ("*/", "3", "02")),
