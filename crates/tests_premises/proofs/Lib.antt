@@ -2,6 +2,7 @@ pub mod Three
 pub mod WholeChecked
 pub mod WholeDesign
 pub mod WholeNames
+pub mod WholeOwed
 pub mod WholePaths
 pub mod WholePlan
 pub mod WholeRuns

@@ -1,5 +1,5 @@
 -- The diagram of the whole model keeps the rules.
-use Rattle.std.proofs.Common.{◌≡◌, [], ◌∷◌, Some, codes, refl}
+use Rattle.std.proofs.Common.{◌≡◌, ℕ, ◌<◌, [], ◌∷◌, Some, codes, refl, sym, subst}
 use Rattle.std.proofs.Math.Dec.{lit≤}
 use lib.Signed.{le_z_yes}
 use Rattle.fx_type.specs.declared.spec.TypeSpec.TheVariants.{Fixed}
@@ -9,6 +9,7 @@ use Rattle.dg_model.specs.Checked.{IsChecked}
 use Rattle.dg_model.specs.KindRow.{IsSpec}
 use Rattle.dg_model.specs.Readable.{IsReadable}
 use Rattle.dg_model.specs.Signals.{Attributes}
+use Rattle.dg_model.specs.Solves.{IsShown}
 use Rattle.dg_model.proofs.Written.{all_of}
 use Rattle.hw_shows.proofs.Small.{int8_valid, no_loop}
 use Rattle.hw_shows.proofs.KeptRules.{one_number}
@@ -53,3 +54,12 @@ out_readable = record { ports = (refl, refl); parameters = (lit≤ tt, lit≤ tt
 -- ---- all rules
 pub checked : IsChecked diagram
 checked = checked_by diagram columns tried (all_of IsReadable diagram.blocks (in_readable, (gain_readable, (out_readable, tt)))) one_number one_number (no_loop diagram (attributes_of diagram) refl)
+
+-- ---- its Gain shows two elements in each base sample
+pub gain_shown : (element : ℕ) → element < 2 → IsShown diagram (attributes_of diagram) 1 gain_block 1 element
+gain_shown element below =
+    subst (λ (a : Attributes). IsShown diagram a 1 gain_block 1 element) (sym attributes_known)
+    (record { block_is = refl; port_from = lit≤ tt; port_to = lit≤ tt; element_below = below })
+
+pub gain_period : (attributes_of diagram).period_at 1 ≡ Some 1
+gain_period = subst (λ (a : Attributes). a.period_at 1 ≡ Some 1) (sym attributes_known) refl

@@ -4,7 +4,6 @@ use Rattle.std.proofs.Math.Dec.{lit≤}
 use Rattle.dg_model.specs.Attributes.{attributes_of}
 use Rattle.dg_model.specs.Hits.{Hits}
 use Rattle.dg_model.specs.Signals.{Attributes}
-use Rattle.dg_model.specs.Solves.{IsShown}
 use Rattle.hw_build.specs.Pipelined.{stage_name}
 use Rattle.hw_build.specs.Serving.{clock_of}
 use Rattle.hw_module.specs.Carries.{IsDrivenRun, OutputShows}
@@ -26,7 +25,7 @@ use Rattle.dg_model.specs.RootElements.{root_element}
 use Rattle.tests_premises.specs.Running.{RunsWhole, input_ports, output_ports, window}
 use Rattle.tests_premises.specs.Shown.{ShowsWhole, WholeModulesShow, gain_block}
 use Rattle.tests_premises.specs.Whole.{diagram, resolved, shown, stimulus, table, timing}
-use Rattle.tests_premises.proofs.WholeChecked.{attributes_known}
+use Rattle.tests_premises.proofs.WholeChecked.{attributes_known, gain_period, gain_shown}
 use Rattle.tests_premises.proofs.WholeNames.{names_are, whole_names}
 use Rattle.tests_premises.proofs.WholePlan.{shared}
 use Rattle.tests_premises.proofs.WholeRuns.{whole_modules_run}
@@ -47,14 +46,6 @@ out_elements_are : output_elements whole_names diagram ≡ out_element (codes "y
 out_elements_are = refl
 
 -- ---- the Gain
-gain_shown : (element : ℕ) → element < 2 → IsShown diagram (attributes_of diagram) 1 gain_block 1 element
-gain_shown element below =
-    subst (λ (a : Attributes). IsShown diagram a 1 gain_block 1 element) (sym attributes_known)
-    (record { block_is = refl; port_from = lit≤ tt; port_to = lit≤ tt; element_below = below })
-
-gain_period : (attributes_of diagram).period_at 1 ≡ Some 1
-gain_period = subst (λ (a : Attributes). a.period_at 1 ≡ Some 1) (sym attributes_known) refl
-
 gain_hits : (t : ℕ) → Hits ((attributes_of diagram).period_at 1) t
 gain_hits t = subst (λ (a : Attributes). Hits (a.period_at 1) t) (sym attributes_known) (omega arith)
 

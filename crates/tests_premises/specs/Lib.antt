@@ -1,3 +1,4 @@
+pub mod Owed
 pub mod Premises
 pub mod Running
 pub mod Sharing

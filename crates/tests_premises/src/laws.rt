@@ -1,3 +1,4 @@
+ghost use Rattle.tests_premises.specs.Owed.{WholeModulesOwe};
 ghost use Rattle.tests_premises.specs.Premises.{MeetsPremises};
 ghost use Rattle.tests_premises.specs.Running.{WholeModulesRun};
 ghost use Rattle.tests_premises.specs.Shown.{WholeModulesShow};
@@ -23,3 +24,10 @@ pub fn whole_modules_show()
 {
     vl_ast::one_run();
 }
+
+/// Each module that is owed of the design has few registers, holds both elements in registers of its own,
+/// and goes on behind stalls as without them; by a plan of two registers it has them one behind the other,
+/// and by a plan that shares nothing each product has its wire.
+pub fn whole_modules_owe()
+    ensures { WholeModulesOwe }
+{}

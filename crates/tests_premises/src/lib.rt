@@ -3,4 +3,4 @@
 
 mod laws;
 
-pub use laws::{whole_model, whole_modules, whole_modules_show};
+pub use laws::{whole_model, whole_modules, whole_modules_owe, whole_modules_show};
