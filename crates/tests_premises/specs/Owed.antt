@@ -38,6 +38,7 @@ pub record OwesOnce (m : Module) : Type 0 where
 abbrev pub twice : Resolved
 twice = record { cycles = 3; multipliers = 1; stages = 0 ∷ 2 ∷ 0 ∷ [] }
 
+-- its times: the output is two samples late
 abbrev pub twice_timing : Timing
 twice_timing = record timing { lat = 0 ∷ 0 ∷ 2 ∷ [] }
 
@@ -56,6 +57,7 @@ pub record OwesTwice (m : Module) : Type 0 where
 abbrev pub plain : Resolved
 plain = record { cycles = 1; multipliers = 0; stages = 0 ∷ 0 ∷ 0 ∷ [] }
 
+-- its times: nothing is late, and nothing is shared
 abbrev pub plain_timing : Timing
 plain_timing =
     record { lat = 0 ∷ 0 ∷ 0 ∷ []; fed = false ∷ false ∷ false ∷ []; depths = 0 ∷ 0 ∷ 0 ∷ [] }
