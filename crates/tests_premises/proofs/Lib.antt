@@ -1,3 +1,4 @@
+pub mod Neighbours
 pub mod Three
 pub mod WholeChecked
 pub mod WholeDesign

@@ -1,3 +1,4 @@
+pub mod Neighbours
 pub mod Owed
 pub mod Premises
 pub mod Running

@@ -1,3 +1,4 @@
+ghost use Rattle.tests_premises.specs.Neighbours.{AreNotOwed};
 ghost use Rattle.tests_premises.specs.Owed.{WholeModulesOwe};
 ghost use Rattle.tests_premises.specs.Premises.{MeetsPremises};
 ghost use Rattle.tests_premises.specs.Running.{WholeModulesRun};
@@ -30,4 +31,10 @@ pub fn whole_modules_show()
 /// and by a plan that shares nothing each product has its wire.
 pub fn whole_modules_owe()
     ensures { WholeModulesOwe }
+{}
+
+/// No module is owed of a plan whose clocks don't suffice, none with a register too many, none in which another
+/// reads a register, and none that lacks the wire of a product.
+pub fn neighbours_are_not_owed()
+    ensures { AreNotOwed }
 {}

@@ -3,4 +3,6 @@
 
 mod laws;
 
-pub use laws::{whole_model, whole_modules, whole_modules_owe, whole_modules_show};
+pub use laws::{
+    neighbours_are_not_owed, whole_model, whole_modules, whole_modules_owe, whole_modules_show,
+};
