@@ -22,24 +22,29 @@ use Rattle.tests_premises.specs.Whole.{block_of, diagram, edge_of, five, int8, i
 abbrev pub three_coefficients : List Decimal
 three_coefficients = three ∷ five ∷ three ∷ []
 
+-- an input of three elements
 abbrev pub crowded_input : Block
 crowded_input = record (block_of (codes "u") (Inport 1 3) 0 1) { result = Fixed int8 }
 
+-- their products with the coefficients
 abbrev pub crowded_gain : Block
 crowded_gain =
     record (block_of (codes "G") (Gain three_coefficients (Fixed int8)) 1 1) {
       result = Fixed int16;
     }
 
+-- both, and an output
 abbrev pub crowded_diagram : Diagram
 crowded_diagram = record {
   blocks = crowded_input ∷ crowded_gain ∷ output (codes "y") ∷ [];
   edges = edge_of 0 1 ∷ edge_of 1 2 ∷ [];
 }
 
+-- two clocks and one multiplier
 abbrev pub crowded : Resolved
 crowded = record { cycles = 2; multipliers = 1; stages = 0 ∷ 0 ∷ 0 ∷ [] }
 
+-- the times by this plan, were there room
 abbrev pub crowded_timing : Timing
 crowded_timing =
     record { lat = 0 ∷ 0 ∷ 1 ∷ []; fed = false ∷ true ∷ true ∷ []; depths = 0 ∷ 1 ∷ 1 ∷ [] }

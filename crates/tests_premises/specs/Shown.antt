@@ -31,7 +31,8 @@ pub record MultipliesNumbers (m : Module) (row : Row) (left right : ℤ) : Type 
 
 -- from this start there is a run in which each output shows each of its three numbers in the sixth
 -- clock from the hit, the one multiplication serves the first element in the first clock and the
--- second in the next, with their numbers and 3 and 5, and a register stands behind each element and shows its number a base sample
+-- second in the next, with their numbers and 3 and 5, and a register stands behind each element
+-- and shows its number a base sample
 -- late
 pub record ShowsWhole (m : Module) (start : Row) : Type 0 where
   pub run : RunsWhole m start
