@@ -10,9 +10,6 @@ none="there is no proved program of these sources: ./tilecatnip prove makes it (
 # `-` what a word stands for, behind `!` its statuses, and behind `#` what a status means.
 texts=$top/tools/help.txt
 
-newline='
-'
-
 # Adds a line to the text: what is to be so wide at least, and the rest.
 add() {
     field=$2
@@ -79,11 +76,13 @@ toolchain() {
     [ -n "$kit" ] || fail "the toolchain's line is empty"
 }
 
-# Whether the program is proved, and by the toolchain in the path.
+# Whether the program was proved by the toolchain in the path and by the proofs that stand.
 is_proved_by_it() {
-    is_proved || return
+    [ -f "$program" ] && [ -x "$program" ] && [ -s "$record" ] || return
     toolchain
-    IFS= read -r proved_by <"$record" && [ "$kit" = "$proved_by" ]
+    sums
+    recorded
+    [ -n "$own" ] && [ "$kit$newline$listed$newline$own" = "$recorded" ]
 }
 
 needs() {

@@ -41,7 +41,6 @@ class Launcher(Made):
         changes = (
             (lambda: write(self.source, "edited"), ["low", "fx_prog"]),
             (lambda: os.remove(os.path.join(self.top, "crates/low/specs/Low.antt")), ["low", "fx_prog"]),
-            (lambda: write(os.path.join(self.top, "crates/low/proofs/Low.antt"), "added"), ["low", "fx_prog"]),
             (lambda: write(os.path.join(self.top, "crates.txt"), "low:\nfx_prog: low\n"), ["fx_prog"]),
         )
         for change, proved in changes:
@@ -51,6 +50,14 @@ class Launcher(Made):
             self.is_proved()
             # what was made of other texts is gone
             self.assertEqual(len(os.listdir(os.path.join(self.top, "crates/fx_prog/out/proved"))), 2)
+
+    def test_what_was_proved_stays_so_where_a_proof_or_a_crate_beside_it_is_edited(self):
+        self.prove("low", "fx_prog")
+        for path, proved in (("crates/low/proofs/Low.antt", ["low", "fx_prog"]), ("crates/other/src/lib.rt", [])):
+            write(os.path.join(self.top, path), "edited")
+            self.is_proved()
+            self.prove(*proved)
+            self.is_proved()
 
     def test_another_toolchain_proves_anew_and_takes_no_proof_away(self):
         self.prove("low", "fx_prog")
@@ -284,7 +291,7 @@ class Launcher(Made):
     def test_needs_the_toolchain_only_to_prove_and_to_try(self):
         with_rt, without = self.path, os.path.join(self.pretended, "others")
         os.mkdir(without)
-        for name in ("cat", "cksum", "dirname", "find", "head", "readlink", "sh", "sort"):
+        for name in ("awk", "cat", "cksum", "dirname", "find", "head", "readlink", "sh", "sort"):
             os.symlink(shutil.which(name), os.path.join(without, name))
         self.path = without
         for words in (["prove"], ["generate", self.model, "-"]):

@@ -10,7 +10,7 @@ from .common import read, write
 from .made import Made
 
 # Without these the launcher can't tell whether the program is proved.
-NEEDED = ("find", "cksum", "sort", "cat")
+NEEDED = ("find", "cksum", "sort", "cat", "awk")
 WORDS = ("generate", "a b", "-")
 ANSWER = "generate a b -\n"
 NOBODY = 65534
@@ -54,7 +54,7 @@ class Surroundings(Made):
                 path = self.failing(name, text)
                 for words in (WORDS, ("--proved", *WORDS), ("--program",)):
                     self.unknown(self.answers(self.launcher, *words, env={"PATH": path}), name)
-        for name in ("find", "cksum", "sort", "cat"):
+        for name in NEEDED:
             # a tool that says nothing, and one that says nothing of what is not there
             for edit in (lambda: None, self.edit):
                 edit()
@@ -105,7 +105,7 @@ class Surroundings(Made):
         os.symlink(behind, specs)
         nested = os.path.join(self.pretended, "nested")
         write(os.path.join(nested, "Deep.antt"), "deep")
-        os.symlink(nested, os.path.join(self.top, "crates/low/proofs/nested"))
+        os.symlink(nested, os.path.join(self.top, "crates/low/specs/nested"))
         self.prove("low", "fx_prog")
         self.is_proved()
         for path in (os.path.join(elsewhere, "lib.rt"), behind, os.path.join(nested, "Deep.antt"), os.path.join(nested, "More.antt")):
@@ -173,7 +173,7 @@ class Surroundings(Made):
         no_sums = {"PATH": self.failing("cksum", "exit 1")}
         self.assertEqual(self.answers(self.launcher, *WORDS, env=no_sums).stdout, ANSWER)
         # where a look isn't to be had there are sums
-        for name in ("xargs", "stat", "cmp"):
+        for name in ("stat",):
             self.assertEqual(self.answers(self.launcher, *WORDS, env={"PATH": self.failing(name, "exit 1")}).stdout, ANSWER, name)
             self.assertTrue(os.path.exists(seen), name)
         kept = os.path.join(self.pretended, "kept")
@@ -187,9 +187,12 @@ class Surroundings(Made):
             shutil.copystat(kept, path)
             self.unknown(self.answers(self.launcher, *WORDS, env=no_sums), "cksum")
             self.is_proved()
-        for path in ("crates/low/proofs/More.antt", "crates/new/src/lib.rt", "crates/other/specs/New.antt"):
+        for path, counts in (("crates/low/src/more.rt", True), ("crates/fx_prog/specs/New.antt", True), ("crates/low/proofs/More.antt", False), ("crates/new/src/lib.rt", False), ("crates/other/specs/New.antt", False)):
             write(os.path.join(self.top, path), "added")
-            self.fails(["--proved", *WORDS], "no proved program")
+            if counts:
+                self.fails(["--proved", *WORDS], "no proved program")
+            else:
+                self.is_proved()
             os.remove(os.path.join(self.top, path))
             if not os.listdir(os.path.dirname(os.path.join(self.top, path))):
                 os.removedirs(os.path.dirname(os.path.join(self.top, path)))
