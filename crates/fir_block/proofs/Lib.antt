@@ -1,1 +1,4 @@
+mod Counting
 mod Leaving
+mod Names
+mod Readable

@@ -6,6 +6,8 @@
 
 mod expanding;
 mod filter;
+mod laws;
 
 pub use expanding::expand;
 pub use filter::{Expansion, Fir, FirBlock, FirBlocks, extent};
+pub use laws::{are_sound_blocks, blocks_are_counted, names_differ};

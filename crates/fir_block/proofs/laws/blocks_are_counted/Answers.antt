@@ -1,0 +1,5 @@
+use Rattle.fir_block.proofs.Counting.{counted}
+use Rattle.fir_block.proofs.laws.blocks_are_counted.Goals as goal
+
+pub returns : goal.returns
+returns c = counted
