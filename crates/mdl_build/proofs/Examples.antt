@@ -47,39 +47,53 @@ joins from to = record { from = from; from_port = 1; to = to; target = Target.Po
 one_lines : lines_of one ≡ joins 0 1 ∷ joins 1 2 ∷ []
 one_lines = refl
 
-one_is_structured : structure_fault one ≡ None
+-- a block that is no filter stands for itself
+abbrev three : List ℕ
+three = 1 ∷ 1 ∷ 1 ∷ []
+
+abbrev four : List ℕ
+four = 1 ∷ three
+
+one_is_structured : structure_fault three one ≡ None
 one_is_structured = refl
 
 one_is_known : library_fault one ≡ None
 one_is_known = refl
 
 -- an empty tree has no Model
-none_breaks : structure_fault [] ≡ Some (fault_of Rule.Structure [] Nothing)
+none_breaks : structure_fault [] [] ≡ Some (fault_of Rule.Structure [] Nothing)
 none_breaks = refl
 
 -- two Models, and two Systems in one
-two_models : structure_fault (one ++ (section 0 (codes "Model") ∷ [])) ≡ Some (fault_of Rule.Structure [] Nothing)
+two_models : structure_fault three (one ++ (section 0 (codes "Model") ∷ [])) ≡ Some (fault_of Rule.Structure [] Nothing)
 two_models = refl
 
-two_systems : structure_fault (one ++ (section 1 (codes "System") ∷ [])) ≡ Some (fault_of Rule.Structure [] Nothing)
+two_systems : structure_fault three (one ++ (section 1 (codes "System") ∷ [])) ≡ Some (fault_of Rule.Structure [] Nothing)
 two_systems = refl
 
 -- a block without a type is told by its name; so is the second of two with one name
-no_type : structure_fault (one ++ (section 2 (codes "Block") ∷ quoted 3 (codes "Name") (codes "a/b") ∷ [])) ≡ Some (fault_of Rule.Structure (codes "a//b") Nothing)
+no_type : structure_fault four (one ++ (section 2 (codes "Block") ∷ quoted 3 (codes "Name") (codes "a/b") ∷ [])) ≡ Some (fault_of Rule.Structure (codes "a//b") Nothing)
 no_type = refl
 
-no_name : structure_fault (one ++ (section 2 (codes "Block") ∷ bare 3 (codes "BlockType") (codes "Ground") ∷ [])) ≡ Some (fault_of Rule.Structure [] Nothing)
+no_name : structure_fault four (one ++ (section 2 (codes "Block") ∷ bare 3 (codes "BlockType") (codes "Ground") ∷ [])) ≡ Some (fault_of Rule.Structure [] Nothing)
 no_name = refl
 
-equal_names : structure_fault (one ++ block 2 (codes "Ground") (codes "D") []) ≡ Some (fault_of Rule.Structure (codes "D") Nothing)
+equal_names : structure_fault four (one ++ block 2 (codes "Ground") (codes "D") []) ≡ Some (fault_of Rule.Structure (codes "D") Nothing)
 equal_names = refl
 
+-- 20,000 blocks are few enough, where some of them are those that one stands for
+most_blocks : structure_fault (1 ∷ 19998 ∷ 1 ∷ []) one ≡ None
+most_blocks = refl
+
+too_many_blocks : structure_fault (1 ∷ 19999 ∷ 1 ∷ []) one ≡ Some (fault_of Rule.Structure [] Nothing)
+too_many_blocks = refl
+
 -- a line to a name that isn't there
-lost_line : structure_fault (one ++ line 2 (codes "u") (codes "x")) ≡ Some (fault_of Rule.Structure [] Nothing)
+lost_line : structure_fault three (one ++ line 2 (codes "u") (codes "x")) ≡ Some (fault_of Rule.Structure [] Nothing)
 lost_line = refl
 
 -- a line without an end, and one without a source, break nothing and are no lines
-open_line : structure_fault (one ++ (section 2 (codes "Line") ∷ quoted 3 (codes "SrcBlock") (codes "u") ∷ [])) ≡ None
+open_line : structure_fault three (one ++ (section 2 (codes "Line") ∷ quoted 3 (codes "SrcBlock") (codes "u") ∷ [])) ≡ None
 open_line = refl
 
 open_line_none : lines_of (one ++ (section 2 (codes "Line") ∷ quoted 3 (codes "DstBlock") (codes "x") ∷ [])) ≡ joins 0 1 ∷ joins 1 2 ∷ []
@@ -90,5 +104,5 @@ scope : library_fault (one ++ (block 2 (codes "SubSystem") (codes "S") (section 
 scope = refl
 
 -- a subsystem without a System
-no_system : structure_fault (one ++ block 2 (codes "SubSystem") (codes "S") []) ≡ Some (fault_of Rule.Structure (codes "S") Nothing)
+no_system : structure_fault four (one ++ block 2 (codes "SubSystem") (codes "S") []) ≡ Some (fault_of Rule.Structure (codes "S") Nothing)
 no_system = refl

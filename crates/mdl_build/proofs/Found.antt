@@ -35,10 +35,10 @@ word_in {A} {B} listed found f made is e = found_in (λ value. listed ≡ Some v
     by (Some value) e = sym e
 
 -- a reader and a default under other names
-pub reads_as : (single : Bool) (reader reader' : Reader) (default default' text : List ℕ) (found : Option Setting) → reader ≡ reader' → default ≡ default' → Finds (ReadsAs single reader default text) found → Finds (ReadsAs single reader' default' text) found
-reads_as single reader reader' default default' text found same_reader same_default given =
-    subst (λ (r : Reader). Finds (ReadsAs single r default' text) found) same_reader
-    (subst (λ (d : List ℕ). Finds (ReadsAs single reader d text) found) same_default given)
+pub reads_as : (gate : List ℕ) (reader reader' : Reader) (default default' text : List ℕ) (found : Option Setting) → reader ≡ reader' → default ≡ default' → Finds (ReadsAs gate reader default text) found → Finds (ReadsAs gate reader' default' text) found
+reads_as gate reader reader' default default' text found same_reader same_default given =
+    subst (λ (r : Reader). Finds (ReadsAs gate r default' text) found) same_reader
+    (subst (λ (d : List ℕ). Finds (ReadsAs gate reader d text) found) same_default given)
 
 -- what the comparison of two texts says
 pub differ : (a b : List ℕ) → false ≡ bytes_eq a b → a ≢ b

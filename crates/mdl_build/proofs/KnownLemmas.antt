@@ -1,5 +1,5 @@
 -- The rule of structure, by its parts.
-use Rattle.std.proofs.Common.{suc, zero, ◌∷◌, inl, true≢false, le-leb, ◌≡◌, ℕ, Bool, true, false, cond, List, [], Option, Some, None, refl, sym, ap, ◌∙◌, length}
+use Rattle.std.proofs.Common.{suc, zero, ◌∷◌, ◌≤◌, inl, true≢false, le-leb, ◌≡◌, ℕ, arith, Bool, true, false, cond, List, [], Option, Some, None, refl, sym, ap, ◌∙◌, length}
 use Rattle.std.specs.Prelude.{◌&&◌, find, not, option_map, slice_get, is_some, is_none, codes, nat_le, MatchBool}
 use Rattle.std.proofs.lemmas.Option.{none-some, same_Some}
 use Rattle.std.specs.List.{position_or_len}
@@ -16,10 +16,14 @@ use Rattle.mdl_build.specs.Blocks.{at, path_of}
 use Rattle.mdl_build.specs.Roles.{role_of, roles_of, blocks_of}
 use Rattle.mdl_build.specs.Sections.{holder_of, value_of}
 use Rattle.mdl_build.specs.Rules.{has_root, are_shallow, has_own_name, has_one_system, is_first_named, keeps_structure, keeps_model, structure_fault, library_fault, type_at, Breaks}
-use Rattle.mdl_build.specs.inner.Known.{keeps_sizes, IsFound}
+use Rattle.mdl_build.specs.Extents.{AreExtents, total}
+use Rattle.mdl_build.specs.inner.Known.{keeps_sizes, AreLarge, IsFound}
 use Rattle.mdl_build.specs.inner.Lines.{are_joined_before}
 use Rattle.mdl_build.specs.inner.Names.{AreBlocks}
+use Rattle.fx_io.proofs.Tests.{right_true}
 use Rattle.mdl_build.proofs.BlockPlaces.{IsBlockOf, block_of}
+use Rattle.mdl_build.proofs.ExtentLemmas.{blocks_within}
+use Rattle.std.proofs.lemmas.Bool.{leb-true}
 use Rattle.std.proofs.lemmas.Bool.{not-false}
 
 -- what is told where the blocks are looked at
@@ -30,13 +34,13 @@ module _ (items : List Item) where
   choice : Bool → Option RuleFault
   choice keeps = cond keeps (block_fault items) (Some (fault_of Rule.Structure [] Nothing))
 
-  pub model_keeps : keeps_sizes items ≡ true → are_joined_before items (length items) ≡ true → structure_fault items ≡ block_fault items
+  pub model_keeps : (extents : List ℕ) → keeps_sizes extents items ≡ true → are_joined_before items (length items) ≡ true → structure_fault extents items ≡ block_fault items
   unfolding choice
-  model_keeps e f = ap (λ (b : Bool). choice (b && are_joined_before items (length items))) e ∙ ap choice f
+  model_keeps extents e f = ap (λ (b : Bool). choice (b && are_joined_before items (length items))) e ∙ ap choice f
 
-  pub model_breaks : keeps_sizes items ≡ true → are_joined_before items (length items) ≡ false → structure_fault items ≡ Some (fault_of Rule.Structure [] Nothing)
+  pub model_breaks : (extents : List ℕ) → keeps_sizes extents items ≡ true → are_joined_before items (length items) ≡ false → structure_fault extents items ≡ Some (fault_of Rule.Structure [] Nothing)
   unfolding choice
-  model_breaks e f = ap (λ (b : Bool). choice (b && are_joined_before items (length items))) e ∙ ap choice f
+  model_breaks extents e f = ap (λ (b : Bool). choice (b && are_joined_before items (length items))) e ∙ ap choice f
 
 -- what is found among the blocks is one
 pub found_block : (items : List Item) (p : ℕ → Bool) (place : ℕ) → find p (blocks_of items) ≡ Some place → IsBlockOf items (position_or_len p (blocks_of items)) place
@@ -44,30 +48,38 @@ found_block items p place e = block_of items (position_or_len p (blocks_of items
 
 -- ---- what is found of the items
 
-sizes_of : (items : List Item) (shape few : Bool) → (has_root (roles_of items) && are_shallow (roles_of items)) ≡ shape → nat_le (length (blocks_of items)) 20000 ≡ few → keeps_sizes items ≡ (shape && few)
-sizes_of items shape few is are =
-    ap (λ (b : Bool). b && nat_le (length (blocks_of items)) 20000) is
-    ∙ ap (λ (b : Bool). shape && b) are
+-- without a root, too deep, or with too many blocks
+pub sizes_break : (known : Known) → AreExtents known.layout.items.now known.extents.items → keeps_sizes known.extents.items known.layout.items.now ≡ false → IsFound known.layout.items.now false known
+sizes_break known are broken = record { items_are = refl; extents = are; kept_is = broken; is_known = λ e. absurd (true≢false (sym e)) }
 
--- without a root, or too deep
-pub no_shape : (known : Known) → (has_root (roles_of known.layout.items.now) && are_shallow (roles_of known.layout.items.now)) ≡ false → IsFound known.layout.items.now false known
-no_shape known none = record { items_are = refl; kept_is = sizes_of known.layout.items.now false (nat_le (length (blocks_of known.layout.items.now)) 20000) none refl; is_known = λ e. absurd (true≢false (sym e)) }
+few_kept : (items : List Item) (extents : List ℕ) → keeps_sizes extents items ≡ true → total extents ≤ 20000
+few_kept items extents keeps = leb-true (total extents) 20000 (right_true (has_root (roles_of items) && are_shallow (roles_of items)) (nat_le (total extents) 20000) keeps)
 
--- with these blocks, which may be too many
-pub blocks_found : (known : Known) (blocks : Blocks) (few : Bool) → known.roles.items ≡ roles_of known.layout.items.now → (has_root (roles_of known.layout.items.now) && are_shallow (roles_of known.layout.items.now)) ≡ true
-    → MatchBool few (AreBlocks known.layout.items.now blocks) (nat_le (length (blocks_of known.layout.items.now)) 20000 ≡ false) → IsFound known.layout.items.now few (record known { blocks = blocks })
-blocks_found known blocks true roles shape are = record {
+-- with these blocks, which are few
+pub blocks_found : (known : Known) (blocks : Blocks) (few : Bool) → known.roles.items ≡ roles_of known.layout.items.now → AreExtents known.layout.items.now known.extents.items
+    → keeps_sizes known.extents.items known.layout.items.now ≡ true → MatchBool few (AreBlocks known.layout.items.now blocks) (nat_le (length (blocks_of known.layout.items.now)) 20000 ≡ false)
+    → IsFound known.layout.items.now few (record known { blocks = blocks })
+blocks_found known blocks true roles are keeps is = record {
   items_are = refl;
-  kept_is = sizes_of known.layout.items.now true true shape (le-leb (length (blocks_of known.layout.items.now)) 20000 are.few);
-  is_known = λ e. record { roles = roles; blocks = are; few = are.few };
+  extents = are;
+  kept_is = keeps;
+  is_known = λ e. record { roles = roles; extents = are; blocks = is; few = few_kept known.layout.items.now known.extents.items keeps };
 }
-blocks_found known blocks false roles shape many = record { items_are = refl; kept_is = sizes_of known.layout.items.now true false shape many; is_known = λ e. absurd (true≢false (sym e)) }
+blocks_found known blocks false roles are keeps many =
+    let few = few_kept known.layout.items.now known.extents.items keeps in
+    let within = blocks_within known.layout.items.now known.extents.items are in
+    let fits : nat_le (length (blocks_of known.layout.items.now)) 20000 ≡ true = le-leb (length (blocks_of known.layout.items.now)) 20000 (omega (arith, few, within)) in
+    absurd (true≢false (sym fits ∙ many))
 
 -- sizes that aren't kept break the rule of structure
-pub broken_sizes : (tree : Tree) → keeps_sizes tree.items ≡ false → Breaks tree (fault_of Rule.Structure [] Nothing)
+pub broken_sizes : (tree : Tree) → AreLarge tree.items → Breaks tree (fault_of Rule.Structure [] Nothing)
 unfolding choice
-broken_sizes tree broken =
-    inl (ap (λ (b : Bool). choice tree.items (b && are_joined_before tree.items (length tree.items))) broken)
+broken_sizes tree large =
+    inl (record {
+      extents = large.extents;
+      are_extents = large.are_extents;
+      finds = ap (λ (b : Bool). choice tree.items (b && are_joined_before tree.items (length tree.items))) large.not_kept;
+    })
 
 -- ---- where nothing is told
 
@@ -85,8 +97,8 @@ mapped_none f None e = refl
 mapped_none f (Some x) e = absurd (none-some (f x) (sym e))
 
 -- a tree that keeps the rule of structure does so at each block
-pub structure_kept : (items : List Item) → structure_fault items ≡ None → (k place : ℕ) → slice_get (blocks_of items) k ≡ Some place → keeps_structure items place ≡ true
-structure_kept items none k place at = by (keeps_model items) none
+pub structure_kept : (items : List Item) (extents : List ℕ) → structure_fault extents items ≡ None → (k place : ℕ) → slice_get (blocks_of items) k ≡ Some place → keeps_structure items place ≡ true
+structure_kept items extents none k place at = by (keeps_model extents items) none
   where
     by : (b : Bool) → cond b (block_fault items) (Some (fault_of Rule.Structure [] Nothing)) ≡ None → keeps_structure items place ≡ true
     by true e = not-false (keeps_structure items place) (none_found (λ (p : ℕ). not (keeps_structure items p)) (blocks_of items) k place

@@ -4,23 +4,35 @@ pub mod BlockPlaces
 pub mod CountLemmas
 pub mod Ends
 mod Examples
+pub mod ExtentLemmas
+mod ExpandedDrawn
+mod ExpandedEdges
+mod ExpandedLists
+mod ExpandedModel
+mod ExpandedPlaces
+mod ExpandedPorts
+mod ExpandedSound
 pub mod FindSteps
 pub mod FirstDefaults
 pub mod Found
+pub mod Fillings
 pub mod KnownLemmas
 pub mod LineLemmas
 pub mod MakingLemmas
 pub mod NameNumbers
+pub mod Numbered
 pub mod PartRanges
 pub mod Places
 pub mod Ranges
 pub mod Readable
+mod ReadableFilter
 pub mod ReadingLemmas
 pub mod RoleLemmas
 pub mod RoleSteps
 pub mod SettingRanges
 pub mod Sound
 pub mod SoundBlocks
+mod SoundFilters
 pub mod SoundLines
 pub mod SoundNames
 pub mod SoundParts

@@ -11,7 +11,7 @@ use Rattle.dg_model.specs.declared.nested.NestedLine.{NestedLine}
 use Rattle.mdl_text.specs.declared.tree.Item.{Item}
 use Rattle.mdl_build.specs.declared.lines.Source.{Source}
 use Rattle.mdl_build.specs.declared.roles.Role.{Role}
-use Rattle.mdl_build.specs.declared.roles.Role.TheVariants.{Other, Model, System, Block, SubSystem, Branch, Defaults, TypeDefaults}
+use Rattle.mdl_build.specs.declared.roles.Role.TheVariants.{Other, Model, System, Block, SubSystem, Filter, Branch, Defaults, TypeDefaults}
 use Rattle.mdl_build.specs.Lines.{branch_of, source_of, keeps_line, line_at}
 use Rattle.mdl_build.specs.Roles.{role_of}
 use Rattle.mdl_build.specs.inner.Lines.{source_if, sources_before, are_joined_before, lines_before, line_list}
@@ -26,6 +26,7 @@ branch_is Model line e = absurd (none-some line e)
 branch_is (System level) line e = absurd (none-some line e)
 branch_is (Block level) line e = absurd (none-some line e)
 branch_is (SubSystem level) line e = absurd (none-some line e)
+branch_is (Filter level) line e = absurd (none-some line e)
 branch_is (Branch other) line e = ap Branch (same_Some other line e)
 branch_is Defaults line e = absurd (none-some line e)
 branch_is (TypeDefaults section) line e = absurd (none-some line e)

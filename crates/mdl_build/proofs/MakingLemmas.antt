@@ -7,12 +7,12 @@ use Rattle.std.proofs.lemmas.Bool.{cases_lt, cases_eq}
 use Rattle.std.proofs.lemmas.List.{get_or-set_same, get_or-set_other, get_or_default, length-set, length-append}
 use Rattle.std.proofs.lemmas.Option.{none-some, same_Some, slice_get_within}
 use Rattle.dg_model.specs.declared.fault.RuleFault.{RuleFault}
-use Rattle.dg_model.specs.declared.nested.NestedBlock.{NestedBlock}
 use Rattle.mdl_text.specs.declared.tree.Item.{Item}
+use Rattle.mdl_build.specs.declared.expanding.DrawnBlock.{DrawnBlock}
 use Rattle.mdl_build.specs.declared.library.BlockType.{BlockType}
 use Rattle.mdl_build.specs.declared.parts.Standing.{Standing}
 use Rattle.mdl_build.specs.Blocks.{number_at, has_enable, standing_in}
-use Rattle.mdl_build.specs.Nested.{IsBlockAt}
+use Rattle.mdl_build.specs.Nested.{IsDrawnAt}
 use Rattle.mdl_build.specs.Roles.{role_of, is_block, blocks_of}
 use Rattle.mdl_build.specs.Rules.{IsWrongFirst, AllRead, type_at}
 use Rattle.mdl_build.specs.Sections.{holder_of}
@@ -101,7 +101,7 @@ module _ (items : List Item) where
   pub none_made : AreMade items 0 []
   none_made = record { long = refl; each = λ k place less there. absurd (omega (arith, less)) }
 
-  pub made_next : (count place : ℕ) (blocks : List NestedBlock) (block : NestedBlock) → slice_get (blocks_of items) count ≡ Some place → AreMade items count blocks → IsBlockAt items place block → AreMade items (count + 1) (blocks ++ block ∷ [])
+  pub made_next : (count place : ℕ) (blocks : List DrawnBlock) (block : DrawnBlock) → slice_get (blocks_of items) count ≡ Some place → AreMade items count blocks → IsDrawnAt items place block → AreMade items (count + 1) (blocks ++ block ∷ [])
   made_next count place blocks block at before is = record {
     long = length-append blocks (block ∷ []) ∙ ap (λ (n : ℕ). n + 1) before.long;
     each = λ k other less there.
@@ -111,12 +111,12 @@ module _ (items : List Item) where
         let last : k ≡ count = omega (arith, above, less) in
         let same : place ≡ other = same_Some place other (sym at ∙ ap (slice_get (blocks_of items)) (sym last) ∙ there) in
         let end : length blocks ≡ k = before.long ∙ sym last in
-        (block, subst (λ (n : ℕ). slice_get (blocks ++ block ∷ []) n ≡ Some block) end (last_at blocks block), subst (λ (p : ℕ). IsBlockAt items p block) same is))
+        (block, subst (λ (n : ℕ). slice_get (blocks ++ block ∷ []) n ≡ Some block) end (last_at blocks block), subst (λ (p : ℕ). IsDrawnAt items p block) same is))
         (cases_lt k count);
   }
 
   -- one that can't be made is the first with a wrong parameter
-  pub wrong_first : (count place : ℕ) (block_type : BlockType) (blocks : List NestedBlock) (fault : RuleFault) → slice_get (blocks_of items) count ≡ Some place → type_at items place ≡ Some block_type → AreMade items count blocks
+  pub wrong_first : (count place : ℕ) (block_type : BlockType) (blocks : List DrawnBlock) (fault : RuleFault) → slice_get (blocks_of items) count ≡ Some place → type_at items place ≡ Some block_type → AreMade items count blocks
       → IsWrongAt items block_type place fault → IsWrongFirst items fault
   wrong_first count place block_type blocks fault at typed before wrong = record {
     number = count;
@@ -124,7 +124,7 @@ module _ (items : List Item) where
     there = at;
     before = λ k other kind less there is.
         let h = before.each k other less there in
-        let made = h.2 in
+        let made = h.2.block in
         let own : made.block_type ≡ kind = same_Some made.block_type kind (sym made.type_is ∙ is) in
         subst (λ (t : BlockType). AllRead items t other) own (read_each items made.block_type other made.settings made.has);
     block_type = block_type;
@@ -134,7 +134,7 @@ module _ (items : List Item) where
     fault_is = wrong.fault_is;
   }
 
-zipped : {X Y : Type 0} (R : X → Y → Type 0) (xs : List X) (ys : List Y) → length ys ≡ length xs → ((k : ℕ) (x : X) → slice_get xs k ≡ Some x → (y : Y) × (slice_get ys k ≡ Some y) × R x y) → AllZip R xs ys
+pub zipped : {X Y : Type 0} (R : X → Y → Type 0) (xs : List X) (ys : List Y) → length ys ≡ length xs → ((k : ℕ) (x : X) → slice_get xs k ≡ Some x → (y : Y) × (slice_get ys k ≡ Some y) × R x y) → AllZip R xs ys
 zipped R [] [] long each = tt
 zipped R [] (y ∷ ys) long each = absurd (omega (arith, long))
 zipped R (x ∷ xs) [] long each = absurd (omega (arith, long))
@@ -142,6 +142,6 @@ zipped {X} {Y} R (x ∷ xs) (y ∷ ys) long each =
     let h = each 0 x refl in
     (subst (R x) (sym (same_Some y h.0 h.1)) h.2, zipped R xs ys (omega (arith, long)) (λ k z there. each (suc k) z there))
 
-pub made_all : (items : List Item) (count : ℕ) (blocks : List NestedBlock) → count ≡ length (blocks_of items) → AreMade items count blocks → AllZip (IsBlockAt items) (blocks_of items) blocks
-made_all items count blocks all made = zipped (IsBlockAt items) (blocks_of items) blocks (made.long ∙ all)
+pub made_all : (items : List Item) (count : ℕ) (blocks : List DrawnBlock) → count ≡ length (blocks_of items) → AreMade items count blocks → AllZip (IsDrawnAt items) (blocks_of items) blocks
+made_all items count blocks all made = zipped (IsDrawnAt items) (blocks_of items) blocks (made.long ∙ all)
     (λ k place there. made.each k place (omega (arith, slice_get_within (blocks_of items) k place there, all)) there)

@@ -1,6 +1,6 @@
 -- A parameter's text says one thing, since no default can be read in another way.
 use Rattle.std.proofs.Common.{◌≡◌, ◌≢◌, ℕ, inl, inr, Bool, true, false, List, [], ◌∷◌, length, Option, None, Some, refl, sym, ◌∙◌, ap, ap₂, subst}
-use Rattle.std.specs.Prelude.{codes, ⊤}
+use Rattle.std.specs.Prelude.{codes, bytes_eq, MatchBool, ⊤}
 use Rattle.fx_type.specs.declared.decimal.Decimal.{Decimal}
 use Rattle.fx_type.specs.declared.kind.FxType.{FxType}
 use Rattle.fx_type.specs.declared.spec.TypeSpec.{TypeSpec}
@@ -9,17 +9,18 @@ use Rattle.mdl_text.specs.Bytes.{is_blank}
 use Rattle.mdl_text.specs.declared.tree.Item.{Item}
 use Rattle.mdl_values.specs.Laws.{ValuesAreOne}
 use Rattle.mdl_values.specs.Lists.{IsListText}
+use Rattle.mdl_values.specs.Numbers.{IsNumberText}
 use Rattle.mdl_values.specs.Pieces.{pieces_at, two_of}
 use Rattle.mdl_values.specs.Types.{IsTypeText, named_type}
 use Rattle.mdl_build.specs.declared.library.BlockType.{BlockType}
-use Rattle.mdl_build.specs.declared.library.BlockType.TheVariants.{Inport, Outport, Constant, Ground, Terminator, Sum, Gain, Product, UnitDelay, Delay, Switch, RelationalOperator, Logic, DataTypeConversion, Mux, Demux, RateTransition, SubSystem, EnablePort}
+use Rattle.mdl_build.specs.declared.library.BlockType.TheVariants.{Inport, Outport, Constant, Ground, Terminator, Sum, Gain, Product, UnitDelay, Delay, Switch, RelationalOperator, Logic, DataTypeConversion, Mux, Demux, RateTransition, SubSystem, EnablePort, DiscreteFir}
 use Rattle.mdl_build.specs.declared.library.Reader.{Reader}
 use Rattle.mdl_build.specs.declared.settings.Setting.{Setting}
 use Rattle.mdl_build.specs.declared.settings.Settings.{Settings}
-use Rattle.mdl_build.specs.Blocks.{AreRead, HasSettings, is_single}
+use Rattle.mdl_build.specs.Blocks.{AreRead, HasSettings, first_text}
 use Rattle.mdl_build.specs.Library.{ParameterRow, parameters_of}
 use Rattle.mdl_build.specs.Lookup.{text_of}
-use Rattle.mdl_build.specs.Settings.{ReadsAs, IsTypeOr, IsTypeOrFirst, IsGivenType, IsCoefficient, IsChosen, IsListOrEmpty, IsPartsText, IsOperands, unset, with_setting}
+use Rattle.mdl_build.specs.Settings.{ReadsAs, IsTypeOr, IsTypeOrFirst, IsGivenType, IsCoefficient, IsChosen, IsListOrEmpty, IsPartsText, IsOperands, IsTapType, unset, with_setting}
 use Rattle.mdl_build.proofs.Found.{differ}
 use Rattle.std.proofs.lemmas.Option.{same_Some}
 
@@ -49,6 +50,10 @@ IsClear Reader.Operands default = ⊤
 IsClear Reader.TypeOrAuto default = IsNoType default
 IsClear Reader.TypeOrFirst default = AreWords (codes "Inherit: Same as first input") default
 IsClear Reader.TypeOrInput default = AreWords (codes "Inherit: Same as input") default
+IsClear Reader.TypeOrInternal default = IsNoType default
+IsClear Reader.TapType default = IsNoType default
+IsClear Reader.Taps default = ⊤
+IsClear Reader.States default = ⊤
 IsClear Reader.CoefficientType default = AreWords (codes "Inherit: Same as input") default
 IsClear Reader.AccumulatorType default = AreWords (codes "Inherit: Same as first input") default
 IsClear Reader.Type default = ⊤
@@ -85,6 +90,9 @@ rule_none = no_type (codes "Inherit: Inherit via internal rule") refl refl
 first_none : IsNoType (codes "Inherit: Same as first input")
 first_none = no_type (codes "Inherit: Same as first input") refl refl
 
+word_none : IsNoType (codes "Inherit: Same word length as input")
+word_none = no_type (codes "Inherit: Same word length as input") refl refl
+
 input_none : IsNoType (codes "Inherit: Same as input")
 input_none = no_type (codes "Inherit: Same as input") refl refl
 
@@ -115,6 +123,7 @@ clear Demux = (tt, (tt, tt))
 clear RateTransition = (tt, (tt, (tt, (tt, tt))))
 clear SubSystem = (tt, tt)
 clear EnablePort = (tt, (tt, tt))
+clear DiscreteFir = (tt, (tt, (tt, (tt, (word_none, (tt, (tt, (rule_none, (tt, (tt, (tt, tt)))))))))))
 
 -- ---- readings
 
@@ -123,9 +132,18 @@ unfolding is_blank
 empty_no_list list is = let bad : ◌≡◌ {A = Option (List (List ℕ))} None (Some is.texts) = is.are_elements in cc
 
 module _ (values : ValuesAreOne) where
-  one_operands : (single : Bool) (text : List ℕ) (one other : ℕ) → IsOperands single text one → IsOperands single text other → one ≡ other
-  one_operands true text one other is too = is ∙ sym too
-  one_operands false text one other is too = values.numbers 2 32 text one other is too
+  one_number : (single : Bool) (text : List ℕ) (one other : ℕ) → MatchBool single (one ≡ 1) (IsNumberText 2 32 text one) → MatchBool single (other ≡ 1) (IsNumberText 2 32 text other) → one ≡ other
+  one_number true text one other is too = is ∙ sym too
+  one_number false text one other is too = values.numbers 2 32 text one other is too
+
+  one_operands : (gate text : List ℕ) (one other : ℕ) → IsOperands gate text one → IsOperands gate text other → one ≡ other
+  one_operands gate text one other is too = one_number (bytes_eq gate (codes "NOT")) text one other is too
+
+  one_tap_type : (default text : List ℕ) → IsNoType default → (one other : Setting) → IsTapType default text one → IsTapType default text other → one ≡ other
+  one_tap_type default text none one other (inl is) (inl too) = is.1 ∙ sym too.1
+  one_tap_type default text none one other (inl is) (inr too) = absurd (none too.0 (subst (λ (t : List ℕ). IsTypeText t too.0) is.0 too.1))
+  one_tap_type default text none one other (inr is) (inl too) = absurd (none is.0 (subst (λ (t : List ℕ). IsTypeText t is.0) too.0 is.1))
+  one_tap_type default text none one other (inr is) (inr too) = is.2 ∙ ap (λ (type : FxType). Setting.Coefficient (Fixed type)) (values.types text is.0 too.0 is.1 too.1) ∙ sym too.2
 
   one_given : (text : List ℕ) (one other : Setting) → IsGivenType text one → IsGivenType text other → one ≡ other
   one_given text one other is too = is.2 ∙ ap (λ (type : FxType). Setting.Result (Fixed type)) (values.types text is.0 too.0 is.1 too.1) ∙ sym too.2
@@ -178,49 +196,53 @@ module _ (values : ValuesAreOne) where
       let same = values.sizes text sizes sizes' is.0 too.0 in
       (is.1 ∙ ap (λ (l : List ℕ). length l) same ∙ sym too.1, same)
 
-  one_conversion : (default text : List ℕ) → default ≢ codes "Stored Integer (SI)" → (one other : Setting) → ReadsAs false Reader.Conversion default text one → ReadsAs false Reader.Conversion default text other → one ≡ other
+  one_conversion : (default text : List ℕ) → default ≢ codes "Stored Integer (SI)" → (one other : Setting) → ReadsAs [] Reader.Conversion default text one → ReadsAs [] Reader.Conversion default text other → one ≡ other
   one_conversion default text apart one other (inl is) (inl too) = is.1 ∙ sym too.1
   one_conversion default text apart one other (inl is) (inr too) = absurd (apart (sym is.0 ∙ too.0))
   one_conversion default text apart one other (inr is) (inl too) = absurd (apart (sym too.0 ∙ is.0))
   one_conversion default text apart one other (inr is) (inr too) = is.1 ∙ sym too.1
 
-  reads_one : (single : Bool) (reader : Reader) (default text : List ℕ) → IsClear reader default → (one other : Setting) → ReadsAs single reader default text one → ReadsAs single reader default text other → one ≡ other
-  reads_one single Reader.Default default text here one other is too = is.1 ∙ sym too.1
-  reads_one single Reader.Port default text here one other is too = is.2 ∙ ap Setting.Number (values.numbers 1 20000 text is.0 too.0 is.1 too.1) ∙ sym too.2
-  reads_one single Reader.Width default text here one other is too = is.2 ∙ ap Setting.Width (values.widths text is.0 too.0 is.1 too.1) ∙ sym too.2
-  reads_one single Reader.Length default text here one other is too = is.2 ∙ ap Setting.Number (values.numbers 1 1024 text is.0 too.0 is.1 too.1) ∙ sym too.2
-  reads_one single Reader.Operands default text here one other is too = is.2 ∙ ap Setting.Number (one_operands single text is.0 too.0 is.1 too.1) ∙ sym too.2
-  reads_one single Reader.TypeOrAuto default text here one other is too = one_type_or default Auto text here one other is too
-  reads_one single Reader.TypeOrFirst default text here one other is too = one_or_first (codes "Inherit: Same as first input") default text here one other is too
-  reads_one single Reader.TypeOrInput default text here one other is too = one_or_first (codes "Inherit: Same as input") default text here one other is too
-  reads_one single Reader.CoefficientType default text here one other is too = one_chosen default (codes "Inherit: Same as input") text here one other is too
-  reads_one single Reader.AccumulatorType default text here one other is too = one_chosen default (codes "Inherit: Same as first input") text here one other is too
-  reads_one single Reader.Type default text here one other is too = one_given text one other is too
-  reads_one single Reader.Truth default text here one other is too = is.1 ∙ sym too.1
-  reads_one single Reader.SampleTime default text here one other is too = is.2 ∙ ap Setting.Period (values.sample_times text is.0 too.0 is.1 too.1) ∙ sym too.2
-  reads_one single Reader.ConstantTime default text here one other is too = is.2 ∙ ap Setting.Period (values.constant_times text is.0 too.0 is.1 too.1) ∙ sym too.2
-  reads_one single Reader.Period default text here one other is too = is.2 ∙ ap Setting.Rate (values.periods text is.0 too.0 is.1 too.1) ∙ sym too.2
-  reads_one single Reader.List default text here one other is too = is.2 ∙ ap Setting.List (values.lists text is.0 too.0 is.1 too.1) ∙ sym too.2
-  reads_one single Reader.ListOrEmpty default text here one other is too = is.2 ∙ ap Setting.List (one_or_empty text is.0 too.0 is.1 too.1) ∙ sym too.2
-  reads_one single Reader.Signs default text here one other is too = is.2 ∙ ap (λ (signs : List Bool). Setting.Signs (length signs) signs) (values.signs text is.0 too.0 is.1 too.1) ∙ sym too.2
-  reads_one single Reader.Factors default text here one other is too = is.1 ∙ sym too.1
-  reads_one single Reader.Parts default text here one other is too =
+  reads_one : (gate : List ℕ) (reader : Reader) (default text : List ℕ) → IsClear reader default → (one other : Setting) → ReadsAs gate reader default text one → ReadsAs gate reader default text other → one ≡ other
+  reads_one gate Reader.Default default text here one other is too = is.1 ∙ sym too.1
+  reads_one gate Reader.Port default text here one other is too = is.2 ∙ ap Setting.Number (values.numbers 1 20000 text is.0 too.0 is.1 too.1) ∙ sym too.2
+  reads_one gate Reader.Width default text here one other is too = is.2 ∙ ap Setting.Width (values.widths text is.0 too.0 is.1 too.1) ∙ sym too.2
+  reads_one gate Reader.Length default text here one other is too = is.2 ∙ ap Setting.Number (values.numbers 1 1024 text is.0 too.0 is.1 too.1) ∙ sym too.2
+  reads_one gate Reader.Operands default text here one other is too = is.2 ∙ ap Setting.Number (one_operands gate text is.0 too.0 is.1 too.1) ∙ sym too.2
+  reads_one gate Reader.TypeOrAuto default text here one other is too = one_type_or default Auto text here one other is too
+  reads_one gate Reader.TypeOrFirst default text here one other is too = one_or_first (codes "Inherit: Same as first input") default text here one other is too
+  reads_one gate Reader.TypeOrInput default text here one other is too = one_or_first (codes "Inherit: Same as input") default text here one other is too
+  reads_one gate Reader.TypeOrInternal default text here one other is too = one_type_or default Internal text here one other is too
+  reads_one gate Reader.TapType default text here one other is too = one_tap_type default text here one other is too
+  reads_one gate Reader.Taps default text here one other is too = is.2 ∙ ap Setting.List (values.lists text is.0 too.0 is.1.list too.1.list) ∙ sym too.2
+  reads_one gate Reader.States default text here one other is too = is.2 ∙ ap Setting.States (values.lists text is.0 too.0 is.1.list too.1.list) ∙ sym too.2
+  reads_one gate Reader.CoefficientType default text here one other is too = one_chosen default (codes "Inherit: Same as input") text here one other is too
+  reads_one gate Reader.AccumulatorType default text here one other is too = one_chosen default (codes "Inherit: Same as first input") text here one other is too
+  reads_one gate Reader.Type default text here one other is too = one_given text one other is too
+  reads_one gate Reader.Truth default text here one other is too = is.1 ∙ sym too.1
+  reads_one gate Reader.SampleTime default text here one other is too = is.2 ∙ ap Setting.Period (values.sample_times text is.0 too.0 is.1 too.1) ∙ sym too.2
+  reads_one gate Reader.ConstantTime default text here one other is too = is.2 ∙ ap Setting.Period (values.constant_times text is.0 too.0 is.1 too.1) ∙ sym too.2
+  reads_one gate Reader.Period default text here one other is too = is.2 ∙ ap Setting.Rate (values.periods text is.0 too.0 is.1 too.1) ∙ sym too.2
+  reads_one gate Reader.List default text here one other is too = is.2 ∙ ap Setting.List (values.lists text is.0 too.0 is.1 too.1) ∙ sym too.2
+  reads_one gate Reader.ListOrEmpty default text here one other is too = is.2 ∙ ap Setting.List (one_or_empty text is.0 too.0 is.1 too.1) ∙ sym too.2
+  reads_one gate Reader.Signs default text here one other is too = is.2 ∙ ap (λ (signs : List Bool). Setting.Signs (length signs) signs) (values.signs text is.0 too.0 is.1 too.1) ∙ sym too.2
+  reads_one gate Reader.Factors default text here one other is too = is.1 ∙ sym too.1
+  reads_one gate Reader.Parts default text here one other is too =
       let same = one_parts text is.0 too.0 is.1.0 too.1.0 is.1.1 too.1.1 in
       is.1.2 ∙ ap₂ (λ (count : ℕ) (sizes : List ℕ). Setting.Parts count sizes) same.0 same.1 ∙ sym too.1.2
-  reads_one single Reader.Rounding default text here one other is too = is.2 ∙ ap Setting.Rounding (same_Some is.0 too.0 (sym is.1 ∙ too.1)) ∙ sym too.2
-  reads_one single Reader.Saturation default text here one other is too = is.2 ∙ ap Setting.Saturate (same_Some is.0 too.0 (sym is.1 ∙ too.1)) ∙ sym too.2
-  reads_one single Reader.Reset default text here one other is too = is.2 ∙ ap Setting.Flag (same_Some is.0 too.0 (sym is.1 ∙ too.1)) ∙ sym too.2
-  reads_one single Reader.Criterion default text here one other is too = is.2 ∙ ap Setting.Criterion (same_Some is.0 too.0 (sym is.1 ∙ too.1)) ∙ sym too.2
-  reads_one single Reader.Relation default text here one other is too = is.2 ∙ ap Setting.Relation (same_Some is.0 too.0 (sym is.1 ∙ too.1)) ∙ sym too.2
-  reads_one single Reader.Gate default text here one other is too = is.2 ∙ ap Setting.Gate (same_Some is.0 too.0 (sym is.1 ∙ too.1)) ∙ sym too.2
-  reads_one single Reader.Conversion default text here one other is too = one_conversion default text here one other is too
+  reads_one gate Reader.Rounding default text here one other is too = is.2 ∙ ap Setting.Rounding (same_Some is.0 too.0 (sym is.1 ∙ too.1)) ∙ sym too.2
+  reads_one gate Reader.Saturation default text here one other is too = is.2 ∙ ap Setting.Saturate (same_Some is.0 too.0 (sym is.1 ∙ too.1)) ∙ sym too.2
+  reads_one gate Reader.Reset default text here one other is too = is.2 ∙ ap Setting.Flag (same_Some is.0 too.0 (sym is.1 ∙ too.1)) ∙ sym too.2
+  reads_one gate Reader.Criterion default text here one other is too = is.2 ∙ ap Setting.Criterion (same_Some is.0 too.0 (sym is.1 ∙ too.1)) ∙ sym too.2
+  reads_one gate Reader.Relation default text here one other is too = is.2 ∙ ap Setting.Relation (same_Some is.0 too.0 (sym is.1 ∙ too.1)) ∙ sym too.2
+  reads_one gate Reader.Gate default text here one other is too = is.2 ∙ ap Setting.Gate (same_Some is.0 too.0 (sym is.1 ∙ too.1)) ∙ sym too.2
+  reads_one gate Reader.Conversion default text here one other is too = one_conversion default text here one other is too
 
   -- ---- the settings of a block
 
   rows_one : (items : List Item) (block_type : BlockType) (place : ℕ) (rows : List ParameterRow) → AreClear rows → (before one other : Settings) → AreRead items block_type place rows before one → AreRead items block_type place rows before other → one ≡ other
   rows_one items block_type place [] here before one other is too = is ∙ sym too
   rows_one items block_type place (row ∷ rows) here before one other is too =
-      let same = reads_one (is_single items block_type place) row.reader row.default (text_of items block_type place row) here.0 is.0 too.0 is.1 too.1 in
+      let same = reads_one (first_text items block_type place (parameters_of block_type)) row.reader row.default (text_of items block_type place row) here.0 is.0 too.0 is.1 too.1 in
       rows_one items block_type place rows here.1 (with_setting before too.0) one other
       (subst (λ (setting : Setting). AreRead items block_type place rows (with_setting before setting) one) same is.2) too.2
 

@@ -29,7 +29,7 @@ of_none number true e gate found = let bad : true ≡ false = e in absurd (cc)
 of_none number false e gate found = let bad : ◌≡◌ {A = Option Gate} None (Some gate) = found in absurd (cc)
 
 -- a gate but NOT has 2 to 32 inputs, and NOT one
-pub operands_are : (text counted : List ℕ) (gate : Gate) (number : ℕ) → gate_of text ≡ Some gate → IsOperands (bytes_eq text (codes "NOT")) counted number → HasOperands gate number
+pub operands_are : (text counted : List ℕ) (gate : Gate) (number : ℕ) → gate_of text ≡ Some gate → IsOperands text counted number → HasOperands gate number
 operands_are text counted gate number read operands = by_word (bytes_eq text (codes "NOT")) refl operands
   where
     by_word : (b : Bool) → bytes_eq text (codes "NOT") ≡ b → MatchBool b (number ≡ 1) (IsNumberText 2 32 counted number) → HasOperands gate number

@@ -3,7 +3,7 @@ use Rattle.std.proofs.Common.{ℕ, List, refl}
 use Rattle.std.proofs.Math.Dec.{lit≤}
 use Rattle.dg_model.specs.Sound.{HasReadable}
 use Rattle.mdl_text.specs.declared.tree.Item.{Item}
-use Rattle.mdl_build.specs.declared.library.BlockType.TheVariants.{Inport, Outport, Constant, Ground, Terminator, SubSystem, EnablePort, Sum, Gain, Product, UnitDelay, Delay, Switch, RelationalOperator, Logic, DataTypeConversion, Mux, Demux, RateTransition}
+use Rattle.mdl_build.specs.declared.library.BlockType.TheVariants.{Inport, Outport, Constant, Ground, Terminator, SubSystem, EnablePort, DiscreteFir, Sum, Gain, Product, UnitDelay, Delay, Switch, RelationalOperator, Logic, DataTypeConversion, Mux, Demux, RateTransition}
 use Rattle.mdl_build.specs.declared.parts.Standing.{Standing}
 use Rattle.mdl_build.specs.declared.settings.Settings.{Settings}
 use Rattle.mdl_build.specs.Blocks.{HasSettings}
@@ -182,3 +182,4 @@ readable items place standing Demux settings h = readable_Demux items place stan
 readable items place standing RateTransition settings h = readable_RateTransition items place standing settings h
 readable items place standing SubSystem settings h = tt
 readable items place standing EnablePort settings h = tt
+readable items place standing DiscreteFir settings h = tt

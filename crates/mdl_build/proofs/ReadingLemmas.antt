@@ -1,5 +1,5 @@
 -- The parameters of a block, read one after the other.
-use Rattle.std.proofs.Common.{◌≡◌, ℕ, zero, suc, ◌+◌, ◌<◌, ◌≤◌, ⊎_elim, List, [], ◌∷◌, length, drop, Option, Some, None, Bool, Bor, get_or, map, refl, sym, ap, subst, ◌∙◌, add-one, arith}
+use Rattle.std.proofs.Common.{◌≡◌, ℕ, zero, suc, ◌+◌, ◌<◌, ◌≤◌, ⊎_elim, List, [], ◌∷◌, length, drop, Option, Some, None, Bor, get_or, map, refl, sym, ap, subst, ◌∙◌, add-one, arith}
 use Rattle.std.specs.Prelude.{slice_get, option_map}
 use Rattle.std.specs.Option.{unwrap_or}
 use Rattle.std.proofs.lemmas.Bool.{cases_lt}
@@ -11,7 +11,7 @@ use Rattle.mdl_build.specs.declared.settings.Setting.{Setting}
 use Rattle.mdl_build.specs.declared.settings.Settings.{Settings}
 use Rattle.mdl_values.specs.Reads.{Finds}
 use Rattle.mdl_build.specs.declared.library.Parameter.{Parameter}
-use Rattle.mdl_build.specs.Blocks.{HasSettings, AreRead, IsRead, IsReadable, is_single}
+use Rattle.mdl_build.specs.Blocks.{HasSettings, AreRead, IsRead, IsReadable, first_text}
 use Rattle.mdl_build.specs.Library.{ParameterRow, row_of, parameters_of}
 use Rattle.mdl_build.specs.Lookup.{value_under, fallback, text_of}
 use Rattle.mdl_build.specs.Rules.{IsFirstWrong, AllRead}
@@ -93,16 +93,16 @@ row_here items block_type place parameters defaults number p d rows texts below 
     record { at_number = there; text_is = ap (unwrap_or (value_under items place row.name)) (same_Some (get_or defaults number d).now (fallback items block_type row) own) }
 
 -- what it is read as
-pub read_some : (items : List Item) (block_type : BlockType) (place : ℕ) (row : ParameterRow) (single : Bool) (text : List ℕ) (found : Option Setting) (setting : Setting)
-    → single ≡ is_single items block_type place → text ≡ text_of items block_type place row → Finds (ReadsAs single row.reader row.default text) found → found ≡ Some setting → IsRead items block_type place row setting
-read_some items block_type place row single text found setting single_is text_is finds is =
-    let here : Finds (ReadsAs single row.reader row.default text) (Some setting) = subst (λ (f : Option Setting). Finds (ReadsAs single row.reader row.default text) f) is finds in
-    subst (λ (s : Bool). ReadsAs s row.reader row.default (text_of items block_type place row) setting) single_is
-    (subst (λ (t : List ℕ). ReadsAs single row.reader row.default t setting) text_is here)
+pub read_some : (items : List Item) (block_type : BlockType) (place : ℕ) (row : ParameterRow) (gate : List ℕ) (text : List ℕ) (found : Option Setting) (setting : Setting)
+    → gate ≡ first_text items block_type place (parameters_of block_type) → text ≡ text_of items block_type place row → Finds (ReadsAs gate row.reader row.default text) found → found ≡ Some setting → IsRead items block_type place row setting
+read_some items block_type place row gate text found setting gate_is text_is finds is =
+    let here : Finds (ReadsAs gate row.reader row.default text) (Some setting) = subst (λ (f : Option Setting). Finds (ReadsAs gate row.reader row.default text) f) is finds in
+    subst (λ (s : List ℕ). ReadsAs s row.reader row.default (text_of items block_type place row) setting) gate_is
+    (subst (λ (t : List ℕ). ReadsAs gate row.reader row.default t setting) text_is here)
 
-pub read_none : (items : List Item) (block_type : BlockType) (place : ℕ) (row : ParameterRow) (single : Bool) (text : List ℕ) (found : Option Setting)
-    → single ≡ is_single items block_type place → text ≡ text_of items block_type place row → Finds (ReadsAs single row.reader row.default text) found → found ≡ None → (setting : Setting) → ¬ IsRead items block_type place row setting
-read_none items block_type place row single text found single_is text_is finds is setting read =
-    let here : Finds (ReadsAs single row.reader row.default text) None = subst (λ (f : Option Setting). Finds (ReadsAs single row.reader row.default text) f) is finds in
-    here setting (subst (λ (t : List ℕ). ReadsAs single row.reader row.default t setting) (sym text_is)
-    (subst (λ (s : Bool). ReadsAs s row.reader row.default (text_of items block_type place row) setting) (sym single_is) read))
+pub read_none : (items : List Item) (block_type : BlockType) (place : ℕ) (row : ParameterRow) (gate : List ℕ) (text : List ℕ) (found : Option Setting)
+    → gate ≡ first_text items block_type place (parameters_of block_type) → text ≡ text_of items block_type place row → Finds (ReadsAs gate row.reader row.default text) found → found ≡ None → (setting : Setting) → ¬ IsRead items block_type place row setting
+read_none items block_type place row gate text found gate_is text_is finds is setting read =
+    let here : Finds (ReadsAs gate row.reader row.default text) None = subst (λ (f : Option Setting). Finds (ReadsAs gate row.reader row.default text) f) is finds in
+    here setting (subst (λ (t : List ℕ). ReadsAs gate row.reader row.default t setting) (sym text_is)
+    (subst (λ (s : List ℕ). ReadsAs s row.reader row.default (text_of items block_type place row) setting) (sym gate_is) read))

@@ -5,7 +5,7 @@ use Rattle.std.proofs.lemmas.List.FromFn.{length-map-range_with_len, get_or-map-
 use Rattle.std.proofs.lemmas.Option.{none-some, same_Some}
 use Rattle.mdl_text.specs.declared.tree.Item.{Item}
 use Rattle.mdl_build.specs.declared.roles.Role.{Role}
-use Rattle.mdl_build.specs.declared.roles.Role.TheVariants.{Other, Model, System, Block, SubSystem, Branch, Defaults, TypeDefaults}
+use Rattle.mdl_build.specs.declared.roles.Role.TheVariants.{Other, Model, System, Block, SubSystem, Filter, Branch, Defaults, TypeDefaults}
 use Rattle.mdl_build.specs.Blocks.{at, if_subsystem, parent_of, path_name, path_at, path_of}
 use Rattle.mdl_build.specs.Roles.{role_of, roles_of, role_at, role_if, role_under, block_role, line_role, deeper, says, is_block}
 use Rattle.mdl_build.specs.Sections.{is_section_at, depth_at, last_above, holder_of, value_of}
@@ -85,6 +85,7 @@ module _ (items : List Item) (holder place : ℕ) where
   under_block (System level) e = (level, refl)
   under_block (Block level) e = absurd (true≢false (sym e))
   under_block (SubSystem level) e = choose (λ r. is_block r ≡ true → (l : ℕ) × (SubSystem level ≡ System l)) (is_section_at items place (codes "System")) (System (deeper level)) Other (λ n. absurd (true≢false (sym n))) (λ n. absurd (true≢false (sym n))) e
+  under_block (Filter level) e = absurd (true≢false (sym e))
   under_block (Branch line) e = choose (λ r. is_block r ≡ true → (l : ℕ) × (Branch line ≡ System l)) (is_section_at items place (codes "Branch")) (Branch line) Other (λ n. absurd (true≢false (sym n))) (λ n. absurd (true≢false (sym n))) e
   under_block Defaults e = choose (λ r. is_block r ≡ true → (l : ℕ) × (Defaults ≡ System l)) (is_section_at items place (codes "Block")) (TypeDefaults holder) Other (λ n. absurd (true≢false (sym n))) (λ n. absurd (true≢false (sym n))) e
   under_block (TypeDefaults section) e = absurd (true≢false (sym e))
@@ -98,12 +99,14 @@ module _ (items : List Item) (holder place : ℕ) where
   under_branch line Model e = choose (λ r. r ≡ Branch line → BranchGoal Model line) (is_section_at items place (codes "System")) (System 1) (cond (is_section_at items place (codes "BlockParameterDefaults")) Defaults Other)
       (λ n. cc) (choose (λ r. r ≡ Branch line → BranchGoal Model line) (is_section_at items place (codes "BlockParameterDefaults")) Defaults Other (λ n. cc) (λ n. cc)) e
   under_branch line (System level) e = choose (λ r. r ≡ Branch line → BranchGoal (System level) line) (is_section_at items place (codes "Block")) (block_role items level place) (cond (is_section_at items place (codes "Line")) (line_role items place) Other)
-      (choose (λ r. r ≡ Branch line → BranchGoal (System level) line) (says items place (codes "BlockType") (codes "SubSystem")) (SubSystem level) (Block level) (λ n. cc) (λ n. cc))
+      (choose (λ r. r ≡ Branch line → BranchGoal (System level) line) (says items place (codes "BlockType") (codes "SubSystem")) (SubSystem level) (cond (says items place (codes "BlockType") (codes "DiscreteFir")) (Filter level) (Block level)) (λ n. cc)
+      (choose (λ r. r ≡ Branch line → BranchGoal (System level) line) (says items place (codes "BlockType") (codes "DiscreteFir")) (Filter level) (Block level) (λ n. cc) (λ n. cc)))
       (choose (λ r. r ≡ Branch line → BranchGoal (System level) line) (is_section_at items place (codes "Line")) (line_role items place) Other
       (choose (λ r. r ≡ Branch line → BranchGoal (System level) line) (is_some (value_of items place (codes "SrcBlock"))) (Branch place) Other (λ n. let same : line ≡ place = cc in inl same) (λ n. cc))
       (λ n. cc)) e
   under_branch line (Block level) e = cc
   under_branch line (SubSystem level) e = choose (λ r. r ≡ Branch line → BranchGoal (SubSystem level) line) (is_section_at items place (codes "System")) (System (deeper level)) Other (λ n. cc) (λ n. cc) e
+  under_branch line (Filter level) e = cc
   under_branch line (Branch other) e = choose (λ r. r ≡ Branch line → BranchGoal (Branch other) line) (is_section_at items place (codes "Branch")) (Branch other) Other (λ n. inr n) (λ n. cc) e
   under_branch line Defaults e = choose (λ r. r ≡ Branch line → BranchGoal Defaults line) (is_section_at items place (codes "Block")) (TypeDefaults holder) Other (λ n. cc) (λ n. cc) e
   under_branch line (TypeDefaults section) e = cc
@@ -117,12 +120,14 @@ module _ (items : List Item) (holder place : ℕ) where
   under_system level Model e = choose (λ r. r ≡ System level → SystemGoal Model level) (is_section_at items place (codes "System")) (System 1) (cond (is_section_at items place (codes "BlockParameterDefaults")) Defaults Other)
       (λ n. let one : level ≡ 1 = cc in inl (refl, one)) (choose (λ r. r ≡ System level → SystemGoal Model level) (is_section_at items place (codes "BlockParameterDefaults")) Defaults Other (λ n. cc) (λ n. cc)) e
   under_system level (System outer) e = choose (λ r. r ≡ System level → SystemGoal (System outer) level) (is_section_at items place (codes "Block")) (block_role items outer place) (cond (is_section_at items place (codes "Line")) (line_role items place) Other)
-      (choose (λ r. r ≡ System level → SystemGoal (System outer) level) (says items place (codes "BlockType") (codes "SubSystem")) (SubSystem outer) (Block outer) (λ n. cc) (λ n. cc))
+      (choose (λ r. r ≡ System level → SystemGoal (System outer) level) (says items place (codes "BlockType") (codes "SubSystem")) (SubSystem outer) (cond (says items place (codes "BlockType") (codes "DiscreteFir")) (Filter outer) (Block outer)) (λ n. cc)
+      (choose (λ r. r ≡ System level → SystemGoal (System outer) level) (says items place (codes "BlockType") (codes "DiscreteFir")) (Filter outer) (Block outer) (λ n. cc) (λ n. cc)))
       (choose (λ r. r ≡ System level → SystemGoal (System outer) level) (is_section_at items place (codes "Line")) (line_role items place) Other
       (choose (λ r. r ≡ System level → SystemGoal (System outer) level) (is_some (value_of items place (codes "SrcBlock"))) (Branch place) Other (λ n. cc) (λ n. cc))
       (λ n. cc)) e
   under_system level (Block outer) e = cc
   under_system level (SubSystem outer) e = choose (λ r. r ≡ System level → SystemGoal (SubSystem outer) level) (is_section_at items place (codes "System")) (System (deeper outer)) Other (λ n. let same : level ≡ deeper outer = cc in inr (outer, refl, same)) (λ n. cc) e
+  under_system level (Filter outer) e = cc
   under_system level (Branch line) e = choose (λ r. r ≡ System level → SystemGoal (Branch line) level) (is_section_at items place (codes "Branch")) (Branch line) Other (λ n. cc) (λ n. cc) e
   under_system level Defaults e = choose (λ r. r ≡ System level → SystemGoal Defaults level) (is_section_at items place (codes "Block")) (TypeDefaults holder) Other (λ n. cc) (λ n. cc) e
   under_system level (TypeDefaults section) e = cc
@@ -198,6 +203,7 @@ if_sub items holder parent (Block level) r e = absurd (none-some parent e)
 if_sub items holder parent (SubSystem level) r e =
     let same : holder ≡ parent = same_Some holder parent e in
     (sym same, ap (λ (p : ℕ). is_block (role_of items p)) (sym same) ∙ ap is_block r)
+if_sub items holder parent (Filter level) r e = absurd (none-some parent e)
 if_sub items holder parent (Branch line) r e = absurd (none-some parent e)
 if_sub items holder parent Defaults r e = absurd (none-some parent e)
 if_sub items holder parent (TypeDefaults section) r e = absurd (none-some parent e)

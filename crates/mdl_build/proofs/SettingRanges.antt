@@ -1,5 +1,5 @@
 -- What is read is in range.
-use Rattle.std.proofs.Common.{◌≡◌, ℕ, Bool, true, false, cond, List, length, Option, Some, None, subst, inl, inr, pos, arith}
+use Rattle.std.proofs.Common.{◌≡◌, ℕ, Bool, true, false, cond, List, [], length, Option, Some, None, subst, inl, inr, pos, arith}
 use Rattle.std.proofs.lemmas.List.{length-replicate}
 use Rattle.std.specs.Prelude.{MatchBool, codes, bytes_eq}
 use Rattle.std.proofs.Math.Dec.{lit≤}
@@ -100,5 +100,5 @@ signs_size text signs read = elim read [
 ]
 
 -- a conversion says one of two
-pub conversion_of : (default text : List ℕ) (setting : Setting) → ReadsAs false Reader.Conversion default text setting → (flag : Bool) × (setting ≡ Setting.Flag flag)
+pub conversion_of : (default text : List ℕ) (setting : Setting) → ReadsAs [] Reader.Conversion default text setting → (flag : Bool) × (setting ≡ Setting.Flag flag)
 conversion_of default text setting read = elim read [ inl value ↦ (false, value.1) | inr stored ↦ (true, stored.1) ]

@@ -16,7 +16,7 @@ use Rattle.mdl_text.specs.declared.tree.Item.{Item}
 use Rattle.mdl_build.specs.declared.lines.Goal.{Goal}
 use Rattle.mdl_build.specs.declared.lines.Source.{Source}
 use Rattle.mdl_build.specs.declared.roles.Role.{Role}
-use Rattle.mdl_build.specs.declared.roles.Role.TheVariants.{Other, Model, System, Block, SubSystem, Branch, Defaults, TypeDefaults}
+use Rattle.mdl_build.specs.declared.roles.Role.TheVariants.{Other, Model, System, Block, SubSystem, Filter, Branch, Defaults, TypeDefaults}
 use Rattle.mdl_build.specs.Blocks.{at, is_named_in, if_subsystem, number_of, number_at, parent_of}
 use Rattle.mdl_build.specs.Lines.{is_port, port_of, to_port, target_of, named_by, source_from, source_of, goal_to, goal_by, goal_of, line_from, line_at, lines_of}
 use Rattle.mdl_build.specs.Nested.{IsBlockAt}
@@ -63,6 +63,7 @@ branch_line_at items place Model line e = absurd (none-some line e)
 branch_line_at items place (System level) line e = absurd (none-some line e)
 branch_line_at items place (Block level) line e = absurd (none-some line e)
 branch_line_at items place (SubSystem level) line e = absurd (none-some line e)
+branch_line_at items place (Filter level) line e = absurd (none-some line e)
 branch_line_at items place (Branch own) line e = (own, made_from (source_of items own) (goal_of items own place) line e)
 branch_line_at items place Defaults line e = absurd (none-some line e)
 branch_line_at items place (TypeDefaults section) line e = absurd (none-some line e)

@@ -8,7 +8,7 @@ use Rattle.dg_model.specs.declared.nested.Part.{Part}
 use Rattle.dg_model.specs.Sound.{IsEnable, HasEnablePort, HasInRole, HasOutRole}
 use Rattle.mdl_text.specs.declared.tree.Item.{Item}
 use Rattle.mdl_build.specs.declared.library.BlockType.{BlockType}
-use Rattle.mdl_build.specs.declared.library.BlockType.TheVariants.{Inport, Outport, Constant, Ground, Terminator, Sum, Gain, Product, UnitDelay, Delay, Switch, RelationalOperator, Logic, DataTypeConversion, Mux, Demux, RateTransition, SubSystem, EnablePort}
+use Rattle.mdl_build.specs.declared.library.BlockType.TheVariants.{Inport, Outport, Constant, Ground, Terminator, Sum, Gain, Product, UnitDelay, Delay, Switch, RelationalOperator, Logic, DataTypeConversion, Mux, Demux, RateTransition, SubSystem, EnablePort, DiscreteFir}
 use Rattle.mdl_build.specs.declared.parts.Standing.{Standing}
 use Rattle.mdl_build.specs.declared.settings.Settings.{Settings}
 use Rattle.mdl_build.specs.Blocks.{at, if_subsystem, number_at, parent_of, is_of, has_enable, standing_in, standing_of}
@@ -57,6 +57,7 @@ in_role items parent system Demux settings = tt
 in_role items parent system RateTransition settings = tt
 in_role items parent system SubSystem settings = tt
 in_role items parent system EnablePort settings = tt
+in_role items parent system DiscreteFir settings = tt
 
 -- the nested System has an EnablePort exactly where the tree's has one
 pub record SameEnable (items : List Item) (blocks : List NestedBlock) (parent : Option ℕ) (system : ℕ) : Type 0 where
@@ -94,6 +95,7 @@ out_role items blocks parent system Demux settings same = tt
 out_role items blocks parent system RateTransition settings same = tt
 out_role items blocks parent system SubSystem settings same = tt
 out_role items blocks parent system EnablePort settings same = tt
+out_role items blocks parent system DiscreteFir settings same = tt
 
 -- ---- the EnablePort of a System
 

@@ -1,20 +1,22 @@
 -- What a tree that keeps the rule of structure has. Crates above may cite this file.
 use Rattle.std.proofs.Common.{◌≡◌, ℕ, zero, suc, ◌+◌, ◌<◌, ◌≤◌, Bool, true, false, cond, not, List, [], ◌∷◌, length, map, Option, Some, None, refl, sym, ◌∙◌, ap, inl, inr, arith}
-use Rattle.std.specs.Prelude.{◌==◌, ◌&&◌, ◌⊎◌, nat_le, count_by, slice_get, option_map, is_some, codes}
+use Rattle.std.specs.Prelude.{◌==◌, ◌&&◌, ◌⊎◌, nat_le, nat_lt, count_by, slice_get, option_map, is_some, codes}
 use Rattle.std.specs.List.{range_with_len, list_all}
 use Rattle.std.proofs.lemmas.Bool.Decides.{nat_tests}
 use Rattle.dg_model.specs.declared.fault.RuleFault.{RuleFault}
 use Rattle.mdl_text.specs.declared.tree.Item.{Item}
 use Rattle.mdl_build.specs.declared.roles.Role.{Role}
-use Rattle.mdl_build.specs.declared.roles.Role.TheVariants.{System, SubSystem}
+use Rattle.mdl_build.specs.declared.roles.Role.TheVariants.{System, SubSystem, Filter}
 use Rattle.mdl_build.specs.Blocks.{at, if_subsystem, parent_of, number_at}
+use Rattle.mdl_build.specs.Extents.{AreExtents, total}
 use Rattle.mdl_build.specs.Lines.{keeps_line}
 use Rattle.mdl_build.specs.Roles.{role_of, roles_of, role_under, role_in_system, is_block, blocks_of, deeper}
-use Rattle.mdl_build.specs.Rules.{is_system, is_system_in, has_root, are_shallow, has_one_system, has_own_name, keeps_model, keeps_structure, structure_fault}
+use Rattle.mdl_build.specs.Rules.{is_system, is_system_in, has_root, is_shallow, are_shallow, has_one_system, has_own_name, keeps_model, keeps_structure, structure_fault}
 use Rattle.mdl_build.specs.Sections.{places_of, holder_of, value_of}
 use Rattle.mdl_build.proofs.BlockNumbers.{count_cons, only_one, none_passes, block_at, one_number}
+use Rattle.mdl_build.proofs.ExtentLemmas.{blocks_within}
 use Rattle.mdl_build.proofs.RoleLemmas.{BlockAbove, SystemAbove, block_above, system_above, holder_before}
-use Rattle.std.proofs.lemmas.Bool.{not-false, not-true}
+use Rattle.std.proofs.lemmas.Bool.{not-false}
 use Rattle.fx_io.proofs.Tests.{left_true, right_true}
 
 -- ---- tests
@@ -49,31 +51,43 @@ count_map P f (x ∷ xs) = count_cons P (f x) (map f xs) ∙ ap (λ (n : ℕ). (
 pub record IsKept (items : List Item) : Type 0 where
   pub one_root : (one other : ℕ) → one < length items → other < length items → role_of items one ≡ System 1 → role_of items other ≡ System 1 → one ≡ other
   pub shallow : (place level : ℕ) → place < length items → role_of items place ≡ System level → level ≤ 64
+  pub filters : (place level : ℕ) → place < length items → role_of items place ≡ Filter level → level ≤ 63
   pub few : length (blocks_of items) ≤ 20000
   pub lines : (place : ℕ) → place < length items → keeps_line items place (role_of items place) ≡ true
   pub blocks : (number place : ℕ) → slice_get (blocks_of items) number ≡ Some place → keeps_structure items place ≡ true
 
-pub kept : (items : List Item) → structure_fault items ≡ None → IsKept items
-kept items none =
-    let parts = if_none (keeps_model items) _ _ none in
-    let fronts = left_true (has_root (roles_of items) && are_shallow (roles_of items) && nat_le (length (blocks_of items)) 20000) _ parts.0 in
+pub kept : (items : List Item) (extents : List ℕ) → AreExtents items extents → structure_fault extents items ≡ None → IsKept items
+kept items extents are none =
+    let parts = if_none (keeps_model extents items) _ _ none in
+    let fronts = left_true (has_root (roles_of items) && are_shallow (roles_of items) && nat_le (total extents) 20000) _ parts.0 in
     let root_shallow = left_true (has_root (roles_of items) && are_shallow (roles_of items)) _ fronts in
     let root = right_true _ (count_by (is_system (λ level. level == 1)) (roles_of items) == 1) (left_true (has_root (roles_of items)) _ root_shallow) in
     let all_shallow = right_true _ (are_shallow (roles_of items)) root_shallow in
-    let small = right_true _ (nat_le (length (blocks_of items)) 20000) fronts in
+    let small = right_true _ (nat_le (total extents) 20000) fronts in
     let joined = right_true _ (list_all (λ place. keeps_line items place (role_of items place)) (places_of items)) parts.0 in
     let one : count_by (λ (place : ℕ). is_system (λ level. level == 1) (role_of items place)) (range_with_len 0 (length items)) ≡ 1 =
     sym (count_map (is_system (λ level. level == 1)) (role_of items) (range_with_len 0 (length items))) ∙ grind (arith, nat_tests, root) in
+    let shallow_at : (place : ℕ) → place < length items → is_shallow (role_of items place) ≡ true =
+    λ place within. all_at (λ (p : ℕ). is_shallow (role_of items p)) 0 (length items) place (sym (all_map is_shallow (role_of items) (range_with_len 0 (length items))) ∙ all_shallow) (omega arith) (omega arith) in
     record {
       one_root = λ a b within within' is is'. only_one (λ (place : ℕ). is_system (λ level. level == 1) (role_of items place)) 0 (length items) a b one (omega arith) (omega arith) (ap (is_system (λ level. level == 1)) is) (omega arith) (omega arith) (ap (is_system (λ level. level == 1)) is');
       shallow = λ place level within is.
-          let test = all_at (λ (p : ℕ). not (is_system (λ l. nat_le 65 l) (role_of items p))) 0 (length items) place (sym (all_map (λ role. not (is_system (λ l. nat_le 65 l) role)) (role_of items) (range_with_len 0 (length items))) ∙ all_shallow) (omega arith) (omega arith) in
-          let small_level : nat_le 65 level ≡ false = sym (ap (is_system (λ l. nat_le 65 l)) is) ∙ not-true _ test in
+          let test : nat_lt level 65 ≡ true = sym (ap is_shallow is) ∙ shallow_at place within in
           grind (arith, nat_tests);
-      few = grind (arith, nat_tests, small);
+      filters = λ place level within is.
+          let test : nat_lt level 64 ≡ true = sym (ap is_shallow is) ∙ shallow_at place within in
+          grind (arith, nat_tests);
+      few = (let least = blocks_within items extents are in grind (arith, nat_tests, small));
       lines = λ place within. all_at (λ (p : ℕ). keeps_line items p (role_of items p)) 0 (length items) place joined (omega arith) (omega arith);
       blocks = λ number place there. not-false _ (none_passes (λ (p : ℕ). not (keeps_structure items p)) (blocks_of items) (map_none _ _ parts.1) number place there);
     }
+
+pub kept_few : (items : List Item) (extents : List ℕ) → structure_fault extents items ≡ None → total extents ≤ 20000
+kept_few items extents none =
+    let parts = if_none (keeps_model extents items) _ _ none in
+    let fronts = left_true (has_root (roles_of items) && are_shallow (roles_of items) && nat_le (total extents) 20000) _ parts.0 in
+    let small = right_true _ (nat_le (total extents) 20000) fronts in
+    grind (arith, nat_tests, small)
 
 -- ---- where a block stands
 

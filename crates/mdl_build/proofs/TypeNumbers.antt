@@ -5,7 +5,7 @@ use Rattle.std.proofs.lemmas.List.{length-map}
 use Rattle.std.proofs.lemmas.Option.{same_Some, slice_get-map, slice_get-get_or, slice_get_within}
 use Rattle.std.proofs.lemmas.Slice.Eq.{bytes_eq-Decides}
 use Rattle.mdl_build.specs.declared.library.BlockType.{BlockType}
-use Rattle.mdl_build.specs.declared.library.BlockType.TheVariants.{Inport, Outport, Constant, Ground, Terminator, Sum, Gain, Product, UnitDelay, Delay, Switch, RelationalOperator, Logic, DataTypeConversion, Mux, Demux, RateTransition, SubSystem, EnablePort}
+use Rattle.mdl_build.specs.declared.library.BlockType.TheVariants.{Inport, Outport, Constant, Ground, Terminator, Sum, Gain, Product, UnitDelay, Delay, Switch, RelationalOperator, Logic, DataTypeConversion, Mux, Demux, RateTransition, SubSystem, EnablePort, DiscreteFir}
 use Rattle.mdl_build.specs.Library.{block_types, number_of, type_name}
 use Rattle.mdl_values.specs.Words.{value_beside}
 
@@ -29,6 +29,7 @@ type_here Demux = refl
 type_here RateTransition = refl
 type_here SubSystem = refl
 type_here EnablePort = refl
+type_here DiscreteFir = refl
 
 -- what a table has of a type at its number, where it has it of all of them
 module _ {V W : Type 0} (view : V → W) (f : BlockType → W) (table : List V) (all : map view table ≡ map f block_types) (block_type : BlockType) (number : ℕ) (is : number ≡ number_of block_type) where

@@ -1,15 +1,15 @@
 -- The blocks of a tree: their names, where they stand, and what their parameters say (Simulink
 -- reference, model files).
-use Rattle.std.specs.Prelude.{◌≡◌, ℕ, zero, suc, ◌++◌, ◌==◌, ◌&&◌, Bool, false, List, [], ◌∷◌, Option, Some, None, position, codes, bytes_eq, if◌then◌else◌}
+use Rattle.std.specs.Prelude.{◌≡◌, ℕ, zero, suc, ◌++◌, ◌==◌, ◌&&◌, Bool, false, List, [], ◌∷◌, Option, Some, None, position, codes, if◌then◌else◌}
 use Rattle.std.specs.List.{list_any}
 use Rattle.std.specs.Option.{unwrap_or}
 use Rattle.dg_model.specs.Naming.{escaped}
 use Rattle.mdl_text.specs.declared.tree.Item.{Item}
 use Rattle.mdl_build.specs.declared.library.BlockType.{BlockType}
-use Rattle.mdl_build.specs.declared.library.BlockType.TheVariants.{Logic, EnablePort}
+use Rattle.mdl_build.specs.declared.library.BlockType.TheVariants.{EnablePort}
 use Rattle.mdl_build.specs.declared.parts.Standing.{Standing}
 use Rattle.mdl_build.specs.declared.roles.Role.{Role}
-use Rattle.mdl_build.specs.declared.roles.Role.TheVariants.{Other, Model, System, Block, SubSystem, Branch, Defaults, TypeDefaults}
+use Rattle.mdl_build.specs.declared.roles.Role.TheVariants.{Other, Model, System, Block, SubSystem, Filter, Branch, Defaults, TypeDefaults}
 use Rattle.mdl_build.specs.declared.settings.Setting.{Setting}
 use Rattle.mdl_build.specs.declared.settings.Settings.{Settings}
 use Rattle.mdl_build.specs.Library.{ParameterRow, parameters_of, type_name}
@@ -41,6 +41,7 @@ if_subsystem place Model = None
 if_subsystem place (System level) = None
 if_subsystem place (Block level) = None
 if_subsystem place (SubSystem level) = Some place
+if_subsystem place (Filter level) = None
 if_subsystem place (Branch line) = None
 if_subsystem place Defaults = None
 if_subsystem place (TypeDefaults section) = None
@@ -101,21 +102,16 @@ path_of items place = path_at items (depth_at items place) place
 
 -- ---- parameters
 
--- the block is a gate of one input
-abbrev pub is_single : List Item → BlockType → ℕ → Bool
-is_single items block_type place = among (parameters_of block_type) block_type where
-  not_gate : ParameterRow → BlockType → Bool
-  not_gate operator Logic = bytes_eq (text_of items Logic place operator) (codes "NOT")
-  not_gate operator other = false
-
-  among : List ParameterRow → BlockType → Bool
-  among [] any = false
-  among (operator ∷ parameters) any = not_gate operator any
+-- the text of the first of these parameters of the block at a place; none is empty
+abbrev pub first_text : List Item → BlockType → ℕ → List ParameterRow → List ℕ
+first_text items block_type place [] = []
+first_text items block_type place (parameter ∷ parameters) = text_of items block_type place parameter
 
 -- a parameter of the block at a place says this
 abbrev pub IsRead : List Item → BlockType → ℕ → ParameterRow → Setting → Type 0
 IsRead items block_type place parameter setting =
-    ReadsAs (is_single items block_type place) parameter.reader parameter.default
+    ReadsAs (first_text items block_type place (parameters_of block_type)) parameter.reader
+    parameter.default
     (text_of items block_type place parameter) setting
 
 -- it says something

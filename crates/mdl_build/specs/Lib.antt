@@ -1,4 +1,6 @@
 pub mod Blocks
+pub mod Expanded
+pub mod Extents
 pub mod Laws
 pub mod Library
 pub mod Lines

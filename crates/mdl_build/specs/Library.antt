@@ -4,7 +4,7 @@ use Rattle.std.specs.Prelude.{ℕ, List, [], ◌∷◌, Option, codes}
 use Rattle.std.specs.List.{find}
 use Rattle.std.specs.Str.{bytes_eq}
 use Rattle.mdl_build.specs.declared.library.BlockType.{BlockType}
-use Rattle.mdl_build.specs.declared.library.BlockType.TheVariants.{Inport, Outport, Constant, Ground, Terminator, Sum, Gain, Product, UnitDelay, Delay, Switch, RelationalOperator, Logic, DataTypeConversion, Mux, Demux, RateTransition, SubSystem, EnablePort}
+use Rattle.mdl_build.specs.declared.library.BlockType.TheVariants.{Inport, Outport, Constant, Ground, Terminator, Sum, Gain, Product, UnitDelay, Delay, Switch, RelationalOperator, Logic, DataTypeConversion, Mux, Demux, RateTransition, SubSystem, EnablePort, DiscreteFir}
 use Rattle.mdl_build.specs.declared.library.Parameter.{Parameter}
 use Rattle.mdl_build.specs.declared.library.Reader.{Reader}
 
@@ -57,6 +57,10 @@ settling =
     row (codes "SaturateOnIntegerOverflow") (codes "off") Reader.Saturation ∷
     sample_time ∷
     []
+
+-- the coefficients of a filter
+abbrev pub taps : ParameterRow
+taps = row (codes "Coefficients") (codes "[0.5 0.5]") Reader.Taps
 
 -- ---- block types
 
@@ -164,6 +168,18 @@ type_row EnablePort = type_as 18 (codes "EnablePort") (
     fixed (codes "ShowOutputPort") (codes "off") ∷
     []
     )
+type_row DiscreteFir = type_as 19 (codes "DiscreteFir") (
+    taps ∷
+    fixed (codes "CoefSource") (codes "Dialog parameters") ∷
+    fixed (codes "FilterStructure") (codes "Direct form") ∷
+    row (codes "InitialStates") (codes "0") Reader.States ∷
+    row (codes "CoefDataTypeStr") (codes "Inherit: Same word length as input") Reader.TapType ∷
+    fixed (codes "ProductDataTypeStr") (codes "Inherit: Inherit via internal rule") ∷
+    fixed (codes "AccumDataTypeStr") (codes "Inherit: Inherit via internal rule") ∷
+    row (codes "OutDataTypeStr")
+    (codes "Inherit: Inherit via internal rule") Reader.TypeOrInternal ∷
+    settling
+    )
 
 -- its columns
 abbrev pub number_of : BlockType → ℕ
@@ -180,7 +196,7 @@ abbrev pub block_types : List BlockType
 block_types =
     Inport ∷ Outport ∷ Constant ∷ Ground ∷ Terminator ∷ Sum ∷ Gain ∷ Product ∷ UnitDelay ∷ Delay
     ∷ Switch ∷ RelationalOperator ∷ Logic ∷
-    DataTypeConversion ∷ Mux ∷ Demux ∷ RateTransition ∷ SubSystem ∷ EnablePort ∷ []
+    DataTypeConversion ∷ Mux ∷ Demux ∷ RateTransition ∷ SubSystem ∷ EnablePort ∷ DiscreteFir ∷ []
 
 -- the block type of a name
 abbrev pub type_of_name : List ℕ → Option BlockType

@@ -2,15 +2,19 @@
 -- reference, model files).
 use Rattle.std.specs.Prelude.{◌≡◌, ℕ, List, Some, None, option_map, codes}
 use Rattle.std.specs.List.{AllZip}
+use Rattle.fx_type.specs.declared.decimal.Decimal.{Decimal}
 use Rattle.dg_model.specs.declared.nested.Nested.{Nested}
 use Rattle.dg_model.specs.declared.nested.NestedBlock.{NestedBlock}
 use Rattle.mdl_text.specs.declared.tree.Item.{Item}
 use Rattle.mdl_text.specs.declared.tree.Tree.{Tree}
+use Rattle.mdl_build.specs.declared.expanding.DrawnBlock.{DrawnBlock}
 use Rattle.mdl_build.specs.declared.library.BlockType.{BlockType}
 use Rattle.mdl_build.specs.declared.settings.Settings.{Settings}
 use Rattle.mdl_build.specs.Blocks.{number_at, parent_of, standing_of, HasSettings}
+use Rattle.mdl_build.specs.Expanded.{expanded_blocks, expanded_lines}
+use Rattle.mdl_build.specs.Extents.{AreExtents, starts}
 use Rattle.mdl_build.specs.Lines.{lines_of}
-use Rattle.mdl_build.specs.Parts.{part_of}
+use Rattle.mdl_build.specs.Parts.{part_of, filter_of}
 use Rattle.mdl_build.specs.Roles.{blocks_of}
 use Rattle.mdl_build.specs.Rules.{structure_fault, library_fault, type_at}
 use Rattle.mdl_build.specs.Sections.{value_of}
@@ -25,9 +29,20 @@ pub record IsBlockAt (items : List Item) (place : ℕ) (block : NestedBlock) : T
   pub has : HasSettings items block_type place settings
   pub part : block.part ≡ part_of (standing_of items place) block_type settings
 
--- the tree keeps the rules, and these are its blocks in file order and its lines
+-- the block as it is drawn, with the filter that it stands for
+pub record IsDrawnAt (items : List Item) (place : ℕ) (drawn : DrawnBlock) : Type 0 where
+  pub block : IsBlockAt items place drawn.block
+  pub filter : drawn.filter ≡ filter_of drawn.block.name block.block_type block.settings
+
+-- the tree keeps the rules, and these are its blocks in file order and its lines, where each filter
+-- is taken apart
 pub record IsNestedOf (tree : Tree) (nested : Nested) : Type 0 where
-  pub structured : structure_fault tree.items ≡ None
+  pub extents : List ℕ
+  pub are_extents : AreExtents tree.items extents
+  pub structured : structure_fault extents tree.items ≡ None
   pub known : library_fault tree.items ≡ None
-  pub blocks : AllZip (IsBlockAt tree.items) (blocks_of tree.items) nested.blocks
-  pub lines : nested.lines ≡ lines_of tree.items
+  pub drawn : List DrawnBlock
+  pub are_drawn : AllZip (IsDrawnAt tree.items) (blocks_of tree.items) drawn
+  pub blocks : (other : Decimal)
+      → nested.blocks ≡ expanded_blocks other (starts 0 extents) drawn
+  pub lines : nested.lines ≡ expanded_lines (starts 0 extents) drawn (lines_of tree.items)

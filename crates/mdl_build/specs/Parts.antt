@@ -1,10 +1,11 @@
 -- The part that a block of a type becomes, by what its parameters say: one row a type (Simulink
 -- reference, each block's page).
-use Rattle.std.specs.Prelude.{ℕ, false, List, [], ◌∷◌, None, replicate}
+use Rattle.std.specs.Prelude.{ℕ, false, List, [], ◌∷◌, Option, Some, None, replicate}
 use Rattle.fx_type.specs.declared.decimal.Decimal.{Decimal}
 use Rattle.dg_model.specs.declared.diagram.Block.{Block}
 use Rattle.dg_model.specs.declared.kind.Kind.{Kind}
 use Rattle.dg_model.specs.declared.nested.Part.{Part}
+use Rattle.fir_block.specs.declared.filter.Fir.{Fir}
 use Rattle.mdl_build.specs.declared.library.BlockType.{BlockType}
 use Rattle.mdl_build.specs.declared.parts.Standing.{Standing}
 use Rattle.mdl_build.specs.declared.settings.Said.{Said}
@@ -80,3 +81,19 @@ part_of standing BlockType.RateTransition settings =
     Part.Plain (block_with settings.said (Kind.RateTransition settings.said.rate settings.list) 1 1)
 part_of standing BlockType.SubSystem settings = Part.SubSystem
 part_of standing BlockType.EnablePort settings = Part.Enable settings.said.flag
+part_of standing BlockType.DiscreteFir settings = Part.SubSystem
+
+-- the filter that a block of this name stands for
+abbrev pub filter_of : List ℕ → BlockType → Settings → Option Fir
+filter_of name BlockType.DiscreteFir settings =
+    Some (record {
+      name = name;
+      coefficients = settings.list;
+      initial = settings.states;
+      param = settings.said.coefficient;
+      result = settings.said.result;
+      rounding = settings.said.rounding;
+      saturate = settings.said.saturate;
+      period = settings.said.period;
+    })
+filter_of name _ settings = None

@@ -3,7 +3,7 @@
 use Rattle.std.specs.Prelude.{ℕ, zero, suc, ◌==◌, Bool, true, false, is_some, List, Option, Some, None, map, filter, nat_lt, codes, bytes_eq, if◌then◌else◌}
 use Rattle.mdl_text.specs.declared.tree.Item.{Item}
 use Rattle.mdl_build.specs.declared.roles.Role.{Role}
-use Rattle.mdl_build.specs.declared.roles.Role.TheVariants.{Other, Model, System, Block, SubSystem, Branch, Defaults, TypeDefaults}
+use Rattle.mdl_build.specs.declared.roles.Role.TheVariants.{Other, Model, System, Block, SubSystem, Filter, Branch, Defaults, TypeDefaults}
 use Rattle.mdl_build.specs.Sections.{places_of, is_section_at, depth_at, last_above, value_of}
 
 -- the level below one; those past 65 aren't told apart
@@ -31,7 +31,8 @@ role_in_model items place =
 abbrev pub block_role : List Item → ℕ → ℕ → Role
 block_role items level place =
     if says items place (codes "BlockType") (codes "SubSystem") then SubSystem level
-    else Block level
+    else (if says items place (codes "BlockType") (codes "DiscreteFir") then Filter level
+    else Block level)
 
 -- what a line is; one without a source is dropped with its branches
 abbrev pub line_role : List Item → ℕ → Role
@@ -52,6 +53,7 @@ role_under items holder (System level) place = role_in_system items level place
 role_under items holder (Block level) place = Other
 role_under items holder (SubSystem level) place =
     if is_section_at items place (codes "System") then System (deeper level) else Other
+role_under items holder (Filter level) place = Other
 role_under items holder (Branch line) place =
     if is_section_at items place (codes "Branch") then Branch line else Other
 role_under items holder Defaults place =
@@ -82,6 +84,7 @@ roles_of items = map (role_of items) (places_of items)
 abbrev pub is_block : Role → Bool
 is_block (Block level) = true
 is_block (SubSystem level) = true
+is_block (Filter level) = true
 is_block _ = false
 
 -- the places of the blocks in file order

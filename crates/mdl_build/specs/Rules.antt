@@ -1,6 +1,6 @@
 -- When a tree keeps the rules of structure, library and parameter, and how a broken one is told
 -- (Simulink reference, model files; limits and places are own).
-use Rattle.std.specs.Prelude.{◌≡◌, ℕ, ◌<◌, ◌==◌, ◌&&◌, ◌⊎◌, nat_le, not, Bool, true, false, List, [], length, Option, Some, None, is_some, is_none, option_map, count_by, find, slice_get, codes, if◌then◌else◌}
+use Rattle.std.specs.Prelude.{◌≡◌, ℕ, ◌<◌, ◌==◌, ◌&&◌, ◌⊎◌, nat_le, nat_lt, not, Bool, true, false, List, [], Option, Some, None, is_some, is_none, option_map, count_by, find, slice_get, codes, if◌then◌else◌}
 use Rattle.std.specs.List.{list_all}
 use Rattle.std.specs.Option.{unwrap_or}
 use Rattle.dg_model.specs.declared.fault.RuleFault.{RuleFault}
@@ -12,8 +12,9 @@ use Rattle.mdl_text.specs.declared.tree.Item.{Item}
 use Rattle.mdl_text.specs.declared.tree.Tree.{Tree}
 use Rattle.mdl_build.specs.declared.library.BlockType.{BlockType}
 use Rattle.mdl_build.specs.declared.roles.Role.{Role}
-use Rattle.mdl_build.specs.declared.roles.Role.TheVariants.{Model, System, SubSystem}
+use Rattle.mdl_build.specs.declared.roles.Role.TheVariants.{Model, System, SubSystem, Filter}
 use Rattle.mdl_build.specs.Blocks.{at, number_of, number_at, path_of, IsReadable}
+use Rattle.mdl_build.specs.Extents.{AreExtents, total}
 use Rattle.mdl_build.specs.Library.{ParameterRow, parameters_of, type_of_name}
 use Rattle.mdl_build.specs.Lines.{keeps_line}
 use Rattle.mdl_build.specs.Roles.{role_of, roles_of, blocks_of}
@@ -35,15 +36,20 @@ abbrev pub has_root : List Role → Bool
 has_root roles =
     (count_by is_model roles == 1) && (count_by (is_system (λ level. level == 1)) roles == 1)
 
--- no System is deeper than 64 levels
+-- no System is deeper than 64 levels; a filter stands for a subsystem, whose System counts too
+abbrev pub is_shallow : Role → Bool
+is_shallow (System level) = nat_lt level 65
+is_shallow (Filter level) = nat_lt level 64
+is_shallow _ = true
+
 abbrev pub are_shallow : List Role → Bool
-are_shallow roles = list_all (λ role. not (is_system (λ level. nat_le 65 level) role)) roles
+are_shallow roles = list_all is_shallow roles
 
 -- the parts of the rule whose place is the model
-abbrev pub keeps_model : List Item → Bool
-keeps_model items =
+abbrev pub keeps_model : List ℕ → List Item → Bool
+keeps_model extents items =
     has_root (roles_of items) && are_shallow (roles_of items)
-    && nat_le (length (blocks_of items)) most_blocks
+    && nat_le (total extents) most_blocks
     && list_all (λ place. keeps_line items place (role_of items place)) (places_of items)
 
 -- ---- structure: each block
@@ -82,10 +88,10 @@ keeps_structure items place =
     is_some (value_of items place (codes "BlockType")) && has_own_name items place
     && has_one_system items place (role_of items place)
 
--- the rule's first fault: the model stands before all blocks
-abbrev pub structure_fault : List Item → Option RuleFault
-structure_fault items =
-    if keeps_model items
+-- the rule's first fault, where the blocks stand for so many: the model stands before all blocks
+abbrev pub structure_fault : List ℕ → List Item → Option RuleFault
+structure_fault extents items =
+    if keeps_model extents items
     then option_map (λ place. fault_of Rule.Structure (path_of items place) Nothing)
     (find (λ place. not (keeps_structure items place)) (blocks_of items))
     else Some (fault_of Rule.Structure [] Nothing)
@@ -144,15 +150,24 @@ pub record IsWrongFirst (items : List Item) (fault : RuleFault) : Type 0 where
 
 -- ---- the first broken rule
 
-abbrev pub BreaksStructure : Tree → RuleFault → Type 0
-BreaksStructure tree fault = structure_fault tree.items ≡ Some fault
+-- the rule of structure finds this
+pub record FindsStructure (tree : Tree) (found : Option RuleFault) : Type 0 where
+  pub extents : List ℕ
+  pub are_extents : AreExtents tree.items extents
+  pub finds : structure_fault extents tree.items ≡ found
 
+-- it finds a fault
+abbrev pub BreaksStructure : Tree → RuleFault → Type 0
+BreaksStructure tree fault = FindsStructure tree (Some fault)
+
+-- the rule of library is broken, and that of structure isn't
 pub record BreaksLibrary (tree : Tree) (fault : RuleFault) : Type 0 where
-  pub structured : structure_fault tree.items ≡ None
+  pub structured : FindsStructure tree None
   pub broken : library_fault tree.items ≡ Some fault
 
+-- the rule of parameter is broken, and those of structure and library aren't
 pub record BreaksParameter (tree : Tree) (fault : RuleFault) : Type 0 where
-  pub structured : structure_fault tree.items ≡ None
+  pub structured : FindsStructure tree None
   pub known : library_fault tree.items ≡ None
   pub broken : IsWrongFirst tree.items fault
 

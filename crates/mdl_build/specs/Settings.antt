@@ -1,7 +1,8 @@
 -- What the value of a parameter says, and what the parameters of a block say together (Simulink
 -- reference, each block's page; the spellings are own).
-use Rattle.std.specs.Prelude.{◌≡◌, ℕ, ◌++◌, Bool, true, false, List, [], ◌∷◌, Some, ◌⊎◌, pos, length, MatchBool, codes}
+use Rattle.std.specs.Prelude.{◌≡◌, ℕ, ◌+◌, ◌++◌, Bool, true, false, List, [], ◌∷◌, Some, ◌⊎◌, pos, length, MatchBool, bytes_eq, codes}
 use Rattle.std.proofs.Math.Dec.{lit<}
+use Rattle.dg_model.specs.KindRow.{IsBetween}
 use Rattle.dg_model.specs.Limits.{longest_delay, longest_list, most_blocks}
 use lib.Signed.{le_z_yes}
 use Rattle.fx_type.specs.declared.decimal.Decimal.{Decimal}
@@ -56,7 +57,7 @@ unsaid = record {
 
 -- the same, with no lists
 abbrev pub unset : Settings
-unset = record { said = unsaid; list = []; signs = []; sizes = [] }
+unset = record { said = unsaid; list = []; states = []; signs = []; sizes = [] }
 
 -- one setting in its place
 abbrev pub with_setting : Settings → Setting → Settings
@@ -68,6 +69,7 @@ with_setting settings (Setting.Coefficient spec) = record settings { said = reco
 with_setting settings (Setting.Period spec) = record settings { said = record settings.said { period = spec } }
 with_setting settings (Setting.Rate rate) = record settings { said = record settings.said { period = Every rate; rate = rate } }
 with_setting settings (Setting.List list) = record settings { list = list }
+with_setting settings (Setting.States states) = record settings { states = states }
 with_setting settings (Setting.Signs count signs) =
     record settings { said = record settings.said { number = count }; signs = signs }
 with_setting settings (Setting.Parts count sizes) =
@@ -119,62 +121,91 @@ abbrev pub IsPartsText : List ℕ → ℕ → List ℕ → Type 0
 IsPartsText text count sizes =
     (IsNumberText 1 longest_list text count × (sizes ≡ [])) ⊎ (IsSizesText text sizes × (count ≡ length sizes))
 
--- a number of operands; a gate of one input doesn't look at it
-abbrev pub IsOperands : Bool → List ℕ → ℕ → Type 0
-IsOperands single text number = MatchBool single (number ≡ 1) (IsNumberText 2 32 text number)
+-- a number of operands; a gate of one input, which has this word, doesn't look at it
+abbrev pub IsOperands : List ℕ → List ℕ → ℕ → Type 0
+IsOperands gate text number =
+    MatchBool (bytes_eq gate (codes "NOT")) (number ≡ 1) (IsNumberText 2 32 text number)
+
+-- the coefficients of a filter
+pub record AreTaps (text : List ℕ) (taps : List Decimal) : Type 0 where
+  pub list : IsListText text taps
+  pub count : IsBetween 2 32 (length taps)
+
+-- how many
+abbrev pub IsTapCount : List ℕ → ℕ → Type 0
+IsTapCount text count = (taps : List Decimal) × AreTaps text taps × (count ≡ length taps)
+
+-- what the delays of a filter begin with: one value for all, or one for each of them
+pub record AreStates (coefficients text : List ℕ) (states : List Decimal) : Type 0 where
+  pub list : IsListText text states
+  pub taps : List Decimal
+  pub are_taps : AreTaps coefficients taps
+  pub count : (length states ≡ 1) ⊎ (length states + 1 ≡ length taps)
+
+-- a type for the coefficients of a filter, or the internal rule
+abbrev pub IsTapType : List ℕ → List ℕ → Setting → Type 0
+IsTapType default text setting =
+    ((text ≡ default) × (setting ≡ Setting.Coefficient Internal))
+    ⊎ ((type : FxType) × IsTypeText text type × (setting ≡ Setting.Coefficient (Fixed type)))
 
 -- `boolean`, which is the default, or a text that begins so
 abbrev pub IsTruth : List ℕ → List ℕ → Type 0
 IsTruth default text = (text ≡ default) ⊎ ((more : List ℕ) × (text ≡ codes "Inherit: Logical" ++ more))
 
--- a reader, at its parameter's default, reads a text as a setting; `single` says that the block is
--- a gate of one input
-abbrev pub ReadsAs : Bool → Reader → List ℕ → List ℕ → Setting → Type 0
-ReadsAs single Reader.Default default text setting = (text ≡ default) × (setting ≡ Setting.Unsaid)
-ReadsAs single Reader.Port default text setting =
+-- a reader, at its parameter's default, reads a text as a setting, where the first parameter of the
+-- block has this text
+abbrev pub ReadsAs : List ℕ → Reader → List ℕ → List ℕ → Setting → Type 0
+ReadsAs first Reader.Default default text setting = (text ≡ default) × (setting ≡ Setting.Unsaid)
+ReadsAs first Reader.Port default text setting =
     (number : ℕ) × IsNumberText 1 most_blocks text number × (setting ≡ Setting.Number number)
-ReadsAs single Reader.Width default text setting = (width : ℕ) × IsWidthText text width × (setting ≡ Setting.Width width)
-ReadsAs single Reader.Length default text setting =
+ReadsAs first Reader.Width default text setting = (width : ℕ) × IsWidthText text width × (setting ≡ Setting.Width width)
+ReadsAs first Reader.Length default text setting =
     (number : ℕ) × IsNumberText 1 longest_delay text number × (setting ≡ Setting.Number number)
-ReadsAs single Reader.Operands default text setting =
-    (number : ℕ) × IsOperands single text number × (setting ≡ Setting.Number number)
-ReadsAs single Reader.TypeOrAuto default text setting = IsTypeOr default Auto text setting
-ReadsAs single Reader.TypeOrFirst default text setting = IsTypeOrFirst default (codes "Inherit: Same as first input") text setting
-ReadsAs single Reader.TypeOrInput default text setting = IsTypeOrFirst default (codes "Inherit: Same as input") text setting
-ReadsAs single Reader.CoefficientType default text setting =
+ReadsAs first Reader.Operands default text setting =
+    (number : ℕ) × IsOperands first text number × (setting ≡ Setting.Number number)
+ReadsAs first Reader.TypeOrAuto default text setting = IsTypeOr default Auto text setting
+ReadsAs first Reader.TypeOrFirst default text setting = IsTypeOrFirst default (codes "Inherit: Same as first input") text setting
+ReadsAs first Reader.TypeOrInput default text setting = IsTypeOrFirst default (codes "Inherit: Same as input") text setting
+ReadsAs first Reader.TypeOrInternal default text setting = IsTypeOr default Internal text setting
+ReadsAs first Reader.CoefficientType default text setting =
     IsChosen default (codes "Inherit: Same as input") text setting
-ReadsAs single Reader.AccumulatorType default text setting =
+ReadsAs first Reader.AccumulatorType default text setting =
     IsChosen default (codes "Inherit: Same as first input") text setting
-ReadsAs single Reader.Type default text setting = IsGivenType text setting
-ReadsAs single Reader.Truth default text setting = IsTruth default text × (setting ≡ Setting.Unsaid)
-ReadsAs single Reader.SampleTime default text setting =
+ReadsAs first Reader.TapType default text setting = IsTapType default text setting
+ReadsAs first Reader.Type default text setting = IsGivenType text setting
+ReadsAs first Reader.Truth default text setting = IsTruth default text × (setting ≡ Setting.Unsaid)
+ReadsAs first Reader.SampleTime default text setting =
     (spec : PeriodSpec) × IsSampleTime text spec × (setting ≡ Setting.Period spec)
-ReadsAs single Reader.ConstantTime default text setting =
+ReadsAs first Reader.ConstantTime default text setting =
     (spec : PeriodSpec) × IsConstantTime text spec × (setting ≡ Setting.Period spec)
-ReadsAs single Reader.Period default text setting =
+ReadsAs first Reader.Period default text setting =
     (period : Decimal) × IsPeriodText text period × (setting ≡ Setting.Rate period)
-ReadsAs single Reader.List default text setting = (list : List Decimal) × IsListText text list × (setting ≡ Setting.List list)
-ReadsAs single Reader.ListOrEmpty default text setting =
+ReadsAs first Reader.List default text setting = (list : List Decimal) × IsListText text list × (setting ≡ Setting.List list)
+ReadsAs first Reader.ListOrEmpty default text setting =
     (list : List Decimal) × IsListOrEmpty text list × (setting ≡ Setting.List list)
-ReadsAs single Reader.Signs default text setting =
+ReadsAs first Reader.Taps default text setting =
+    (taps : List Decimal) × AreTaps text taps × (setting ≡ Setting.List taps)
+ReadsAs first Reader.States default text setting =
+    (states : List Decimal) × AreStates first text states × (setting ≡ Setting.States states)
+ReadsAs first Reader.Signs default text setting =
     (signs : List Bool) × IsSignsText text signs × (setting ≡ Setting.Signs (length signs) signs)
-ReadsAs single Reader.Factors default text setting = ((text ≡ codes "2") ⊎ (text ≡ codes "**")) × (setting ≡ Setting.Unsaid)
-ReadsAs single Reader.Parts default text setting =
+ReadsAs first Reader.Factors default text setting = ((text ≡ codes "2") ⊎ (text ≡ codes "**")) × (setting ≡ Setting.Unsaid)
+ReadsAs first Reader.Parts default text setting =
     (count : ℕ)
     × ((sizes : List ℕ) × IsPartsText text count sizes × (setting ≡ Setting.Parts count sizes))
-ReadsAs single Reader.Rounding default text setting =
+ReadsAs first Reader.Rounding default text setting =
     (rounding : Rounding) × (rounding_of text ≡ Some rounding)
     × (setting ≡ Setting.Rounding rounding)
-ReadsAs single Reader.Saturation default text setting =
+ReadsAs first Reader.Saturation default text setting =
     (flag : Bool) × (switch_of text ≡ Some flag) × (setting ≡ Setting.Saturate flag)
-ReadsAs single Reader.Reset default text setting = (flag : Bool) × (reset_of text ≡ Some flag) × (setting ≡ Setting.Flag flag)
-ReadsAs single Reader.Criterion default text setting =
+ReadsAs first Reader.Reset default text setting = (flag : Bool) × (reset_of text ≡ Some flag) × (setting ≡ Setting.Flag flag)
+ReadsAs first Reader.Criterion default text setting =
     (criterion : Criterion) × (criterion_of text ≡ Some criterion)
     × (setting ≡ Setting.Criterion criterion)
-ReadsAs single Reader.Relation default text setting =
+ReadsAs first Reader.Relation default text setting =
     (relation : Relation) × (relation_of text ≡ Some relation)
     × (setting ≡ Setting.Relation relation)
-ReadsAs single Reader.Gate default text setting = (gate : Gate) × (gate_of text ≡ Some gate) × (setting ≡ Setting.Gate gate)
-ReadsAs single Reader.Conversion default text setting =
+ReadsAs first Reader.Gate default text setting = (gate : Gate) × (gate_of text ≡ Some gate) × (setting ≡ Setting.Gate gate)
+ReadsAs first Reader.Conversion default text setting =
     ((text ≡ default) × (setting ≡ Setting.Flag false))
     ⊎ ((text ≡ codes "Stored Integer (SI)") × (setting ≡ Setting.Flag true))

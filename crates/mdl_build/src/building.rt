@@ -3,17 +3,20 @@ ghost use Rattle.std.specs.Prelude.{◌≡◌, true, [], None, IfOk, IfErr, OnOk
 ghost use Rattle.std.specs.List.{AllZip};
 ghost use Rattle.dg_model.specs.Faults.{IsRefusal};
 ghost use Rattle.dg_model.specs.Sound.{IsSound};
-ghost use Rattle.mdl_build.specs.Nested.{IsBlockAt, IsNestedOf};
+ghost use Rattle.mdl_build.specs.Nested.{IsDrawnAt, IsNestedOf};
 ghost use Rattle.mdl_build.specs.Roles.{blocks_of};
 ghost use Rattle.mdl_build.specs.Rules.{structure_fault, library_fault, IsWrongFirst, Breaks};
+ghost use Rattle.mdl_build.specs.inner.Drawn.{AreDrawn};
 ghost use Rattle.mdl_build.specs.inner.Known.{IsKnown, keeps_sizes};
-ghost use Rattle.mdl_build.specs.inner.Makers.{IsMaker, items_of};
+ghost use Rattle.mdl_build.specs.inner.Makers.{IsMaker, extents_of, items_of};
 
+use crate::expanding::{DrawnBlocks, put_expanded};
+use crate::extents::starts;
 use crate::known::{Known, broken_model, known_of};
 use crate::lines::put_lines;
 use crate::making::{Maker, text_or_empty};
 use crate::structure::{first_unknown, type_at};
-use dg_model::{CheckFault, Nested, NestedBlocks, NestedLines, Rule, RuleFault};
+use dg_model::{CheckFault, Nested, NestedBlocks, NestedLine, NestedLines, Rule, RuleFault};
 use fx_io::OutOfMemory;
 use mdl_text::Tree;
 use std::alloc::Global;
@@ -32,13 +35,13 @@ fn library_fault(alloc: Global, known: &Known) -> Result<Option<RuleFault>, OutO
 }
 
 /// Puts the blocks of a tree that keeps the rules of structure and of library.
-fn put_blocks(alloc: Global, maker: &Maker, blocks: &mut NestedBlocks) -> Result<(), CheckFault>
+fn put_blocks(alloc: Global, maker: &Maker, blocks: &mut DrawnBlocks) -> Result<(), CheckFault>
     requires maker { IsMaker maker.now }
-    requires structured { structure_fault (items_of maker.now) ≡ None }
+    requires structured { structure_fault (extents_of maker.now) (items_of maker.now) ≡ None }
     requires known { library_fault (items_of maker.now) ≡ None }
     requires none { blocks.old ≡ [] }
     ensures ok { OnOk result
-        (AllZip (IsBlockAt (items_of maker.now)) (blocks_of (items_of maker.now)) blocks.new) }
+        (AllZip (IsDrawnAt (items_of maker.now)) (blocks_of (items_of maker.now)) blocks.new) }
     ensures err { IfErr result (IsRefusal (IsWrongFirst (items_of maker.now))) }
 {
     for place in maker.known.blocks.places() {
@@ -51,18 +54,22 @@ fn put_blocks(alloc: Global, maker: &Maker, blocks: &mut NestedBlocks) -> Result
     Ok(())
 }
 
-/// Puts the blocks and lines of a tree whose sizes are kept.
-fn put_nested(alloc: Global, known: &Known, nested: &mut Nested) -> Result<(), CheckFault>
+/// Puts the blocks and lines of a tree whose sizes are kept, as they are drawn.
+fn put_tree(
+    alloc: Global,
+    known: &Known,
+    blocks: &mut DrawnBlocks,
+    lines: &mut NestedLines,
+) -> Result<(), CheckFault>
     requires known { IsKnown known.now }
-    requires sizes { keeps_sizes known.now.layout.items.now ≡ true }
-    requires no_blocks { nested.old.blocks ≡ [] }
-    requires no_lines { nested.old.lines ≡ [] }
+    requires sizes { keeps_sizes known.now.extents.items known.now.layout.items.now ≡ true }
+    requires no_blocks { blocks.old ≡ [] }
+    requires no_lines { lines.old ≡ [] }
     ensures ok { OnOk result
-        (IsNestedOf (record { items = known.now.layout.items.now }) nested.new) }
+        (AreDrawn known.now.layout.items.now known.now.extents.items blocks.new lines.new) }
     ensures err { IfErr result
         (IsRefusal (Breaks (record { items = known.now.layout.items.now }))) }
 {
-    let lines = &mut nested.lines;
     if !put_lines(alloc, lines, &known.layout, &known.roles, &known.blocks)? {
         return Err(broken_model());
     }
@@ -73,15 +80,58 @@ fn put_nested(alloc: Global, known: &Known, nested: &mut Nested) -> Result<(), C
         return Err(CheckFault::Broken(unknown));
     }
     let maker = Maker::new(alloc, known)?;
-    let put = put_blocks(alloc, &maker, &mut nested.blocks);
+    let put = put_blocks(alloc, &maker, blocks);
     drop(maker);
     put
+}
+
+/// Puts the blocks and lines of a tree by those that are drawn.
+fn put_by_drawn(
+    alloc: Global,
+    known: &Known,
+    nested: &mut Nested,
+    blocks: DrawnBlocks,
+    lines: &[NestedLine],
+) -> Result<(), OutOfMemory>
+    requires known { IsKnown known.now }
+    requires drawn { AreDrawn known.now.layout.items.now known.now.extents.items blocks
+        lines.now }
+    requires no_blocks { nested.old.blocks ≡ [] }
+    requires no_lines { nested.old.lines ≡ [] }
+    ensures { OnOk result
+        (IsNestedOf (record { items = known.now.layout.items.now }) nested.new) }
+{
+    mdl_values::values_are_one();
+    let numbers = starts(alloc, &known.extents)?;
+    put_expanded(alloc, nested, &numbers, blocks, lines)?;
+    Ok(())
+}
+
+/// Puts the blocks and lines of a tree whose sizes are kept.
+fn put_nested(alloc: Global, known: &Known, nested: &mut Nested) -> Result<(), CheckFault>
+    requires known { IsKnown known.now }
+    requires sizes { keeps_sizes known.now.extents.items known.now.layout.items.now ≡ true }
+    requires no_blocks { nested.old.blocks ≡ [] }
+    requires no_lines { nested.old.lines ≡ [] }
+    ensures ok { OnOk result
+        (IsNestedOf (record { items = known.now.layout.items.now }) nested.new) }
+    ensures err { IfErr result
+        (IsRefusal (Breaks (record { items = known.now.layout.items.now }))) }
+{
+    let mut blocks = DrawnBlocks::new(alloc);
+    let mut lines = NestedLines::new(alloc);
+    if let Err(fault) = put_tree(alloc, known, &mut blocks, &mut lines) {
+        drop(blocks);
+        return Err(fault);
+    }
+    put_by_drawn(alloc, known, nested, blocks, lines.as_slice())?;
+    Ok(())
 }
 
 /// The blocks and lines of a tree whose sizes are kept.
 fn nested_of(alloc: Global, known: &Known) -> Result<Nested, CheckFault>
     requires known { IsKnown known.now }
-    requires sizes { keeps_sizes known.now.layout.items.now ≡ true }
+    requires sizes { keeps_sizes known.now.extents.items known.now.layout.items.now ≡ true }
     ensures ok { IfOk result (IsNestedOf (record { items = known.now.layout.items.now })) }
     ensures err { IfErr result
         (IsRefusal (Breaks (record { items = known.now.layout.items.now }))) }
@@ -113,6 +163,10 @@ pub fn build(alloc: Global, tree: &Tree) -> Result<Nested, CheckFault>
     ensures ok { IfOk result (λ nested. IsNestedOf tree.now nested × IsSound nested) }
     ensures err { IfErr result (IsRefusal (Breaks tree.now)) }
 {
+    mdl_values::values_are_one();
+    fir_block::are_sound_blocks();
+    fir_block::names_differ();
+    fir_block::blocks_are_counted();
     let Some(known) = known_of(alloc, tree.items.as_slice())? else {
         return Err(broken_model());
     };

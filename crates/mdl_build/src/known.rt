@@ -9,6 +9,7 @@ ghost use Rattle.mdl_build.specs.Roles.{role_of, is_block, blocks_of};
 ghost use Rattle.mdl_build.specs.Rules.{keeps_structure};
 ghost use Rattle.mdl_build.specs.inner.Known.{IsKnown, IsKnownOf};
 
+use crate::extents::{are_few, extents_of};
 use crate::layout::Layout;
 use crate::names::Blocks;
 use crate::paths::path_of;
@@ -28,6 +29,8 @@ pub struct Known<'a> {
     pub roles: Vec<Role>,
     /// The blocks among them.
     pub blocks: Blocks<'a>,
+    /// How many blocks each of these stands for.
+    pub extents: Vec<u32>,
 }
 
 /// A broken rule.
@@ -51,10 +54,12 @@ pub fn known_of<'a>(alloc: Global, items: &'a [Item]) -> Result<Option<Known<'a>
 {
     let layout = Layout::new(alloc, items)?;
     let roles = roles(alloc, &layout)?;
+    let extents = extents_of(alloc, &layout, &roles)?;
     let mut known = Known {
         layout,
         roles,
         blocks: Blocks::none(alloc),
+        extents,
     };
     match known.find_blocks() {
         Ok(true) => Ok(Some(known)),
@@ -70,19 +75,30 @@ pub fn known_of<'a>(alloc: Global, items: &'a [Item]) -> Result<Option<Known<'a>
 }
 
 impl<'a> Known<'a> {
+    ghost use Rattle.mdl_build.specs.Extents.{AreExtents};
     ghost use Rattle.mdl_build.specs.Roles.{roles_of};
-    ghost use Rattle.mdl_build.specs.inner.Known.{IsFound};
+    ghost use Rattle.mdl_build.specs.inner.Known.{IsFound, keeps_sizes};
     ghost use Rattle.mdl_build.specs.inner.Names.{AreNumbered};
+
+    /// Whether the model has its root, is shallow, and has no more blocks than it may.
+    fn keeps_sizes(&self) -> bool
+        requires roles { self.now.roles.items ≡ roles_of self.now.layout.items.now }
+        requires extents { AreExtents self.now.layout.items.now self.now.extents.items }
+        ensures { result ≡ keeps_sizes self.now.extents.items self.now.layout.items.now }
+    {
+        has_shape(&self.roles) && are_few(&self.extents)
+    }
 
     /// Finds the blocks. Tells whether the model has its root, is shallow, and has no more blocks
     /// than it may.
     fn find_blocks(&mut self) -> Result<bool, OutOfMemory>
         requires roles { self.old.roles.items ≡ roles_of self.old.layout.items.now }
+        requires extents { AreExtents self.old.layout.items.now self.old.extents.items }
         requires none { self.old.blocks.places.items ≡ [] }
         requires numbered { AreNumbered self.old.layout.items.now self.old.blocks }
         ensures { IfOk result (λ kept. IsFound self.old.layout.items.now kept self.new) }
     {
-        if !has_shape(&self.roles) {
+        if !self.keeps_sizes() {
             return Ok(false);
         }
         self.blocks.add_all(&self.layout, &self.roles)

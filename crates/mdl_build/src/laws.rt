@@ -11,14 +11,23 @@ pub fn nested_is_one()
 /// The first of the rules of structure, library and parameter that is broken is told as one fault.
 pub fn fault_is_one()
     ensures { FaultIsOne }
-{}
+{
+    mdl_values::values_are_one();
+}
 
 /// A tree that has blocks and lines breaks none of these rules.
 pub fn nested_is_not_broken()
     ensures { NestedIsNotBroken }
-{}
+{
+    mdl_values::values_are_one();
+}
 
 /// A tree can't both have no blocks and lines and break none of these rules.
 pub fn nested_is_there()
     ensures { NestedIsThere }
-{}
+{
+    mdl_values::values_are_one();
+    fir_block::are_sound_blocks();
+    fir_block::names_differ();
+    fir_block::blocks_are_counted();
+}

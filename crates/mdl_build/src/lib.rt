@@ -9,6 +9,8 @@
 
 mod blocks;
 mod building;
+mod expanding;
+mod extents;
 mod known;
 mod laws;
 mod layout;
@@ -25,6 +27,7 @@ mod reading;
 mod roles;
 mod settings;
 mod structure;
+mod type_names;
 
 pub use building::{build, discard};
 pub use laws::{fault_is_one, nested_is_not_broken, nested_is_one, nested_is_there};

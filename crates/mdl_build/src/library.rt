@@ -1,11 +1,9 @@
 //! The block types that are known, and the parameters that are read of each, in one table.
 //!
-//! A new block type is a variant of `BlockType`, a row here, the same row in `specs/Library.antt`,
-//! and a row of its kind in `dg_model`.
+//! A new block type is a variant of `BlockType`, a row here and in `type_names.rt`, the same row in
+//! `specs/Library.antt`, and a row of its kind in `dg_model`.
 ghost use Rattle.std.specs.Prelude.{◌≡◌, map};
-ghost use Rattle.mdl_build.specs.Library.{row_of, parameters_of, number_of, type_name, type_of_name};
-
-use mdl_values::value_beside;
+ghost use Rattle.mdl_build.specs.Library.{row_of, parameters_of};
 
 /// A block type (Simulink reference, block library).
 #[derive(Clone, Copy)]
@@ -29,6 +27,7 @@ pub enum BlockType {
     RateTransition,
     SubSystem,
     EnablePort,
+    DiscreteFir,
 }
 
 /// How the value of a parameter is read, and which setting it gives (own).
@@ -50,8 +49,13 @@ pub enum Reader {
     TypeOrFirst,
     /// A type, the default, which is the internal rule, or `Inherit: Same as input`.
     TypeOrInput,
-    /// The same, for a coefficient.
+    /// A type, or the default, which is the internal rule.
+    TypeOrInternal,
+    /// A type, the default, which is the internal rule, or `Inherit: Same as input`, for a
+    /// coefficient.
     CoefficientType,
+    /// A type, or the default, which is the internal rule, for the coefficients of a filter.
+    TapType,
     /// A type, the default, which is the internal rule, or `Inherit: Same as first input`, for an
     /// accumulator.
     AccumulatorType,
@@ -69,6 +73,10 @@ pub enum Reader {
     List,
     /// The same, or `[]`, which is 0.
     ListOrEmpty,
+    /// 2 to 32 decimals, the coefficients of a filter.
+    Taps,
+    /// One decimal, or one less than the filter has coefficients.
+    States,
     /// Signs, or their number.
     Signs,
     /// `2` or `**`; it gives no setting.
@@ -273,53 +281,37 @@ const ENABLE_PORT: &[Parameter] = &[
     Parameter("ShowOutputPort", "off", Reader::Default),
 ];
 
-/// How many block types there are.
-pub const TYPES: usize = 19;
+/// The coefficients of a filter.
+pub const COEFFICIENTS: Parameter = Parameter("Coefficients", "[0.5 0.5]", Reader::Taps);
 
-/// All block types, each at its number.
-pub const BLOCK_TYPES: [BlockType; TYPES] = [
-    BlockType::Inport,
-    BlockType::Outport,
-    BlockType::Constant,
-    BlockType::Ground,
-    BlockType::Terminator,
-    BlockType::Sum,
-    BlockType::Gain,
-    BlockType::Product,
-    BlockType::UnitDelay,
-    BlockType::Delay,
-    BlockType::Switch,
-    BlockType::RelationalOperator,
-    BlockType::Logic,
-    BlockType::DataTypeConversion,
-    BlockType::Mux,
-    BlockType::Demux,
-    BlockType::RateTransition,
-    BlockType::SubSystem,
-    BlockType::EnablePort,
-];
-
-/// The name of each block type, at its number.
-const NAMES: &[(&str, BlockType)] = &[
-    ("Inport", BlockType::Inport),
-    ("Outport", BlockType::Outport),
-    ("Constant", BlockType::Constant),
-    ("Ground", BlockType::Ground),
-    ("Terminator", BlockType::Terminator),
-    ("Sum", BlockType::Sum),
-    ("Gain", BlockType::Gain),
-    ("Product", BlockType::Product),
-    ("UnitDelay", BlockType::UnitDelay),
-    ("Delay", BlockType::Delay),
-    ("Switch", BlockType::Switch),
-    ("RelationalOperator", BlockType::RelationalOperator),
-    ("Logic", BlockType::Logic),
-    ("DataTypeConversion", BlockType::DataTypeConversion),
-    ("Mux", BlockType::Mux),
-    ("Demux", BlockType::Demux),
-    ("RateTransition", BlockType::RateTransition),
-    ("SubSystem", BlockType::SubSystem),
-    ("EnablePort", BlockType::EnablePort),
+const DISCRETE_FIR: &[Parameter] = &[
+    COEFFICIENTS,
+    Parameter("CoefSource", "Dialog parameters", Reader::Default),
+    Parameter("FilterStructure", "Direct form", Reader::Default),
+    Parameter("InitialStates", "0", Reader::States),
+    Parameter(
+        "CoefDataTypeStr",
+        "Inherit: Same word length as input",
+        Reader::TapType,
+    ),
+    Parameter(
+        "ProductDataTypeStr",
+        "Inherit: Inherit via internal rule",
+        Reader::Default,
+    ),
+    Parameter(
+        "AccumDataTypeStr",
+        "Inherit: Inherit via internal rule",
+        Reader::Default,
+    ),
+    Parameter(
+        "OutDataTypeStr",
+        "Inherit: Inherit via internal rule",
+        Reader::TypeOrInternal,
+    ),
+    ROUNDING,
+    SATURATION,
+    SAMPLE_TIME,
 ];
 
 /// Those of a block type that has none.
@@ -350,27 +342,6 @@ pub fn parameters(block_type: BlockType) -> &'static [Parameter]
         BlockType::RateTransition => RATE_TRANSITION,
         BlockType::SubSystem => SUB_SYSTEM,
         BlockType::EnablePort => ENABLE_PORT,
+        BlockType::DiscreteFir => DISCRETE_FIR,
     }
-}
-
-/// The place of a block type among all of them.
-pub fn number_of(block_type: BlockType) -> usize
-    ensures { result ≡ number_of block_type }
-{
-    block_type as usize
-}
-
-/// The name of a block type.
-pub fn type_name(block_type: BlockType) -> &'static str
-    ensures { result.now ≡ type_name block_type }
-{
-    let number = number_of(block_type);
-    NAMES[number].0
-}
-
-/// The block type of a name.
-pub fn type_of_name(name: &[u8]) -> Option<BlockType>
-    ensures { result ≡ type_of_name name.now }
-{
-    value_beside(NAMES, name)
 }

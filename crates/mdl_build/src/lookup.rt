@@ -8,8 +8,9 @@ ghost use Rattle.mdl_build.specs.Roles.{roles_of, says};
 ghost use Rattle.mdl_build.specs.inner.Texts.{contents_of, fallbacks_in, fallbacks_of};
 
 use crate::layout::Layout;
-use crate::library::{BLOCK_TYPES, BlockType, Parameter, parameters, type_name};
+use crate::library::{BlockType, Parameter, parameters};
 use crate::roles::Role;
+use crate::type_names::{BLOCK_TYPES, type_name};
 use fx_io::OutOfMemory;
 use std::alloc::Global;
 
@@ -167,4 +168,18 @@ pub fn defaults<'a>(
         ≡ map (fallbacks_of layout.now.items.now) block_types) }
 {
     texts_of_all(alloc, layout, roles, &BLOCK_TYPES)
+}
+
+/// The value of a parameter of a type where a block's section has none.
+pub fn default_of<'a>(
+    layout: &Layout<'a>,
+    roles: &[Role],
+    block_type: BlockType,
+    parameter: &Parameter,
+) -> &'a [u8]
+    requires { roles.now ≡ roles_of layout.now.items.now }
+    ensures { result.now ≡ fallback layout.now.items.now block_type (row_of parameter.now) }
+{
+    let section = section_of(layout, roles, first_defaults(roles), block_type);
+    fallback(layout, section, parameter)
 }

@@ -3,20 +3,22 @@ ghost use Rattle.std.specs.Prelude.{◌≡◌, ℕ, ◌<◌, ◌++◌, ◌∷◌
 ghost use Rattle.std.specs.Option.{ForSome};
 ghost use Rattle.dg_model.specs.Faults.{IsRefusal};
 ghost use Rattle.mdl_build.specs.Blocks.{number_at, standing_in};
-ghost use Rattle.mdl_build.specs.Nested.{IsBlockAt};
+ghost use Rattle.mdl_build.specs.Nested.{IsDrawnAt};
 ghost use Rattle.mdl_build.specs.Roles.{role_of, is_block, blocks_of};
 ghost use Rattle.mdl_build.specs.Sections.{holder_of, value_of};
 ghost use Rattle.mdl_build.specs.Settings.{unset};
 ghost use Rattle.mdl_build.specs.inner.Known.{IsKnown, AreEnabled, AreNumbersTo, AreNumbers, IsWrongAt};
 
 use crate::blocks::read_block;
+use crate::expanding::DrawnBlock;
 use crate::known::Known;
 use crate::layout::Layout;
-use crate::library::{BlockType, number_of};
+use crate::library::BlockType;
 use crate::lookup::{Defaults, defaults};
-use crate::parts::{Standing, part_of};
+use crate::parts::{Standing, filter_of, part_of};
 use crate::paths::parent;
 use crate::settings::Settings;
+use crate::type_names::number_of;
 use dg_model::{CheckFault, NestedBlock, Rule};
 use fx_io::{OutOfMemory, Text};
 use std::alloc::Global;
@@ -77,13 +79,14 @@ fn note_blocks(enabled: &mut Vec<bool>, numbers: &mut Vec<u32>, known: &Known)
 }
 
 impl<'k, 'a> Maker<'k, 'a> {
-    ghost use Rattle.mdl_build.specs.inner.Makers.{IsMaker, IsNamedBlock, items_of};
+    ghost use Rattle.mdl_build.specs.inner.Makers.{IsMaker, IsNamedBlock, extents_of, items_of};
 
     /// What makes the blocks of a tree.
     pub fn new(alloc: Global, known: &'k Known<'a>) -> Result<Maker<'k, 'a>, OutOfMemory>
         requires { IsKnown known.now }
         ensures maker { IfOk result IsMaker }
         ensures items { IfOk result (λ maker. items_of maker ≡ known.now.layout.items.now) }
+        ensures extents { IfOk result (λ maker. extents_of maker ≡ known.now.extents.items) }
     {
         let count = known.layout.count();
         let mut enabled = vec![in alloc; false; count]?;
@@ -139,11 +142,11 @@ impl<'k, 'a> Maker<'k, 'a> {
         place: usize,
         block_type: BlockType,
         settings: &mut Settings,
-    ) -> Result<NestedBlock, CheckFault>
+    ) -> Result<DrawnBlock, CheckFault>
         requires maker { IsMaker self.now }
         requires block { IsNamedBlock (items_of self.now) place block_type }
         requires unset { settings.old ≡ unset }
-        ensures ok { IfOk result (IsBlockAt (items_of self.now) place) }
+        ensures ok { IfOk result (IsDrawnAt (items_of self.now) place) }
         ensures err { IfErr result (IsRefusal (IsWrongAt (items_of self.now) block_type place)) }
     {
         let layout = &self.known.layout;
@@ -154,14 +157,17 @@ impl<'k, 'a> Maker<'k, 'a> {
                 .broken_at(alloc, Rule::Parameter, place, wrong.as_bytes())?;
             return Err(CheckFault::Broken(fault));
         }
-        let name = Text::copy(alloc, text_or_empty(layout, place, b"Name"))?;
+        let name = text_or_empty(layout, place, b"Name");
+        let filter = filter_of(alloc, name, block_type, settings)?;
+        let name = Text::copy(alloc, name)?;
         let parent = parent(layout, &self.known.roles, place);
         let part = part_of(alloc, self.standing(place, parent), block_type, settings)?;
-        Ok(NestedBlock {
+        let block = NestedBlock {
             name,
             parent: self.number(parent),
             part,
-        })
+        };
+        Ok(DrawnBlock { block, filter })
     }
 
     /// The block at a place.
@@ -170,10 +176,10 @@ impl<'k, 'a> Maker<'k, 'a> {
         alloc: Global,
         place: usize,
         block_type: BlockType,
-    ) -> Result<NestedBlock, CheckFault>
+    ) -> Result<DrawnBlock, CheckFault>
         requires maker { IsMaker self.now }
         requires block { IsNamedBlock (items_of self.now) place block_type }
-        ensures ok { IfOk result (IsBlockAt (items_of self.now) place) }
+        ensures ok { IfOk result (IsDrawnAt (items_of self.now) place) }
         ensures err { IfErr result (IsRefusal (IsWrongAt (items_of self.now) block_type place)) }
     {
         let mut settings = Settings::unset(alloc);

@@ -28,7 +28,7 @@ pub struct Blocks<'a> {
 pub fn is_block(role: Role) -> bool
     ensures { result ≡ is_block role }
 {
-    matches!(role, Role::Block(_) | Role::SubSystem(_))
+    matches!(role, Role::Block(_) | Role::SubSystem(_) | Role::Filter(_))
 }
 
 /// The name of the block at a place, in its System.

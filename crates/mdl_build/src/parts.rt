@@ -1,11 +1,13 @@
 //! The part that a block of a type becomes, by what its parameters say.
 ghost use Rattle.std.specs.Prelude.{◌≡◌, false, IfOk};
 ghost use Rattle.dg_model.specs.declared.kind.Kind.{Kind};
-ghost use Rattle.mdl_build.specs.Parts.{block_with, open_sizes, in_part, out_part, part_of};
+ghost use Rattle.mdl_build.specs.declared.parts.Standing.{Standing};
+ghost use Rattle.mdl_build.specs.Parts.{block_with, open_sizes, in_part, out_part, part_of, filter_of};
 
 use crate::library::BlockType;
 use crate::settings::{Said, Settings};
 use dg_model::{Block, Criterion, Decimals, Gate, Kind, Part, Path, Relation};
+use fir_block::Fir;
 use fx_io::{Flags, OutOfMemory, Sizes, Text};
 use fx_type::{Decimal, TypeSpec};
 use std::alloc::Global;
@@ -173,7 +175,7 @@ pub fn part_of(
     Ok(match block_type {
         BlockType::Inport => in_part(standing, said),
         BlockType::Outport => out_part(standing, said, settings.take_list(alloc)),
-        BlockType::SubSystem => Part::SubSystem,
+        BlockType::SubSystem | BlockType::DiscreteFir => Part::SubSystem,
         BlockType::EnablePort => Part::Enable { reset: said.flag },
         BlockType::Constant => plain(said, constant(settings.take_list(alloc)), 0, 1),
         BlockType::Ground => plain(said, Kind::Ground, 0, 1),
@@ -206,4 +208,35 @@ pub fn part_of(
             plain(said, transition(said.rate, initial), 1, 1)
         }
     })
+}
+
+/// The filter that a block of a type stands for, by what its parameters say. Its lists are taken out
+/// of them, which say the same of the part.
+pub fn filter_of(
+    alloc: Global,
+    name: &[u8],
+    block_type: BlockType,
+    settings: &mut Settings,
+) -> Result<Option<Fir>, OutOfMemory>
+    ensures filter { IfOk result (λ filter. filter
+        ≡ filter_of name.now block_type settings.old) }
+    ensures part { IfOk result (λ filter. (standing : Standing)
+        → part_of standing block_type settings.new ≡ part_of standing block_type settings.old) }
+{
+    let BlockType::DiscreteFir = block_type else {
+        return Ok(None);
+    };
+    let said = settings.said;
+    let name = Text::copy(alloc, name)?;
+    let (coefficients, initial) = settings.take_filter(alloc);
+    Ok(Some(Fir {
+        name,
+        coefficients,
+        initial,
+        param: said.coefficient,
+        result: said.result,
+        rounding: said.rounding,
+        saturate: said.saturate,
+        period: said.period,
+    }))
 }

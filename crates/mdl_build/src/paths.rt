@@ -17,6 +17,7 @@ fn if_subsystem(place: usize, role: Role) -> Option<usize>
     match role {
         Role::SubSystem(_) => Some(place),
         Role::Block(_)
+        | Role::Filter(_)
         | Role::Other
         | Role::Model
         | Role::System(_)

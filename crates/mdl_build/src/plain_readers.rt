@@ -1,8 +1,8 @@
 //! The readers that take no memory.
-ghost use Rattle.std.specs.Prelude.{true, false, []};
+ghost use Rattle.std.specs.Prelude.{true, []};
 ghost use Rattle.mdl_values.specs.Reads.{Finds};
 ghost use Rattle.mdl_build.specs.declared.library.Reader.{Reader};
-ghost use Rattle.mdl_build.specs.Settings.{IsChosen, IsTypeOr, IsTypeOrFirst, ReadsAs};
+ghost use Rattle.mdl_build.specs.Settings.{IsChosen, IsTapType, IsTypeOr, IsTypeOrFirst, ReadsAs};
 
 use crate::settings::Setting;
 use fx_type::TypeSpec;
@@ -10,7 +10,7 @@ use mdl_values::{read_number, read_type};
 
 /// The default alone.
 pub fn default_alone(text: &[u8], default: &[u8]) -> Option<Setting>
-    ensures { Finds (ReadsAs false Reader.Default default.now text.now) result }
+    ensures { Finds (ReadsAs [] Reader.Default default.now text.now) result }
 {
     if text == default {
         Some(Setting::Unsaid)
@@ -19,11 +19,11 @@ pub fn default_alone(text: &[u8], default: &[u8]) -> Option<Setting>
     }
 }
 
-/// A number of operands, which a gate of one input doesn't look at.
-pub fn operands(single: bool, text: &[u8]) -> Option<Setting>
-    ensures { Finds (ReadsAs single Reader.Operands [] text.now) result }
+/// A number of operands. A gate of one input, which has this word, doesn't look at it.
+pub fn operands(gate: &[u8], text: &[u8]) -> Option<Setting>
+    ensures { Finds (ReadsAs gate.now Reader.Operands [] text.now) result }
 {
-    if single {
+    if gate == b"NOT".as_slice() {
         return Some(Setting::Number(1));
     }
     read_number(text, 2, 32).map(Setting::Number)
@@ -31,7 +31,7 @@ pub fn operands(single: bool, text: &[u8]) -> Option<Setting>
 
 /// A type alone.
 pub fn type_alone(text: &[u8]) -> Option<Setting>
-    ensures { Finds (ReadsAs false Reader.Type [] text.now) result }
+    ensures { Finds (ReadsAs [] Reader.Type [] text.now) result }
 {
     match read_type(text) {
         None => None,
@@ -77,9 +77,22 @@ pub fn coefficient(text: &[u8], default: &[u8], same: &[u8]) -> Option<Setting>
     }
 }
 
+/// How the type of the coefficients of a filter is chosen.
+pub fn tap_type(text: &[u8], default: &[u8]) -> Option<Setting>
+    ensures { Finds (IsTapType default.now text.now) result }
+{
+    if text == default {
+        return Some(Setting::Coefficient(TypeSpec::Internal));
+    }
+    match read_type(text) {
+        None => None,
+        Some(read) => Some(Setting::Coefficient(TypeSpec::Fixed(read))),
+    }
+}
+
 /// `boolean`, which is the default, or a text that begins so.
 pub fn truth(text: &[u8], default: &[u8]) -> Option<Setting>
-    ensures { Finds (ReadsAs false Reader.Truth default.now text.now) result }
+    ensures { Finds (ReadsAs [] Reader.Truth default.now text.now) result }
 {
     if text == default {
         return Some(Setting::Unsaid);
@@ -92,7 +105,7 @@ pub fn truth(text: &[u8], default: &[u8]) -> Option<Setting>
 
 /// A number of factors, which is 2.
 pub fn factors(text: &[u8]) -> Option<Setting>
-    ensures { Finds (ReadsAs false Reader.Factors [] text.now) result }
+    ensures { Finds (ReadsAs [] Reader.Factors [] text.now) result }
 {
     if text == b"2".as_slice() || text == b"**".as_slice() {
         Some(Setting::Unsaid)
@@ -103,7 +116,7 @@ pub fn factors(text: &[u8]) -> Option<Setting>
 
 /// The default, or `Stored Integer (SI)`.
 pub fn conversion(text: &[u8], default: &[u8]) -> Option<Setting>
-    ensures { Finds (ReadsAs false Reader.Conversion default.now text.now) result }
+    ensures { Finds (ReadsAs [] Reader.Conversion default.now text.now) result }
 {
     if text == default {
         return Some(Setting::Flag(false));

@@ -4,10 +4,10 @@ ghost use Rattle.mdl_values.specs.Reads.{Finds};
 ghost use Rattle.mdl_build.specs.inner.Readings.{IsReadAs};
 
 use crate::library::{Parameter, Reader};
-use crate::list_readers::{list, list_or_empty, parts, signs};
+use crate::list_readers::{list, list_or_empty, parts, signs, states, taps};
 use crate::plain_readers::{
-    coefficient, conversion, default_alone, factors, operands, truth, type_alone, type_or,
-    type_or_first,
+    coefficient, conversion, default_alone, factors, operands, tap_type, truth, type_alone,
+    type_or, type_or_first,
 };
 use crate::settings::Setting;
 use fx_io::OutOfMemory;
@@ -18,15 +18,14 @@ use mdl_values::{
 };
 use std::alloc::Global;
 
-/// Reads the value of a parameter. `single` says that the block is a gate of one input, which doesn't
-/// look at the number of its inputs.
+/// Reads the value of a parameter of a block whose first parameter has the text `first`.
 pub fn read_setting(
     alloc: Global,
     parameter: Parameter,
-    single: bool,
+    first: &[u8],
     text: &[u8],
 ) -> Result<Option<Setting>, OutOfMemory>
-    ensures { IfOk result (λ found. Finds (IsReadAs single parameter text.now) found) }
+    ensures { IfOk result (λ found. Finds (IsReadAs first.now parameter text.now) found) }
 {
     let default = parameter.default().as_bytes();
     match parameter.reader() {
@@ -34,12 +33,14 @@ pub fn read_setting(
         Reader::Port => Ok(read_number(text, 1, 20000).map(Setting::Number)),
         Reader::Width => Ok(read_width(alloc, text)?.map(Setting::Width)),
         Reader::Length => Ok(read_number(text, 1, 1024).map(Setting::Number)),
-        Reader::Operands => Ok(operands(single, text)),
+        Reader::Operands => Ok(operands(first, text)),
         Reader::TypeOrAuto => Ok(type_or(text, default, TypeSpec::Auto)),
         Reader::TypeOrFirst => Ok(type_or_first(text, default, b"Inherit: Same as first input")),
         Reader::TypeOrInput => Ok(type_or_first(text, default, b"Inherit: Same as input")),
+        Reader::TypeOrInternal => Ok(type_or(text, default, TypeSpec::Internal)),
         Reader::CoefficientType => Ok(coefficient(text, default, b"Inherit: Same as input")),
         Reader::AccumulatorType => Ok(coefficient(text, default, b"Inherit: Same as first input")),
+        Reader::TapType => Ok(tap_type(text, default)),
         Reader::Type => Ok(type_alone(text)),
         Reader::Truth => Ok(truth(text, default)),
         Reader::SampleTime => Ok(read_sample_time(alloc, text)?.map(Setting::Period)),
@@ -47,6 +48,8 @@ pub fn read_setting(
         Reader::Period => Ok(read_period(alloc, text)?.map(Setting::Rate)),
         Reader::List => list(alloc, text),
         Reader::ListOrEmpty => list_or_empty(alloc, text),
+        Reader::Taps => Ok(taps(alloc, text)?.map(Setting::List)),
+        Reader::States => states(alloc, first, text),
         Reader::Signs => signs(alloc, text),
         Reader::Factors => Ok(factors(text)),
         Reader::Parts => parts(alloc, text),

@@ -20,6 +20,8 @@ pub enum Role {
     Block(u32),
     /// A block of a System of this level whose type is SubSystem.
     SubSystem(u32),
+    /// A block of a System of this level whose type is DiscreteFir.
+    Filter(u32),
     /// A line that has a source, or a branch of one, by the place of the line.
     Branch(usize),
     /// The defaults of block types.
@@ -69,6 +71,8 @@ fn role_in_system(layout: &Layout, level: u32, place: usize) -> Role
     if layout.is_section(place, b"Block") {
         if layout.says(place, b"BlockType", b"SubSystem") {
             Role::SubSystem(level)
+        } else if layout.says(place, b"BlockType", b"DiscreteFir") {
+            Role::Filter(level)
         } else {
             Role::Block(level)
         }
@@ -88,7 +92,7 @@ fn role_under(layout: &Layout, holder: usize, role: Role, place: usize) -> Role
         Role::Other => Role::Other,
         Role::Model => role_in_model(layout, place),
         Role::System(level) => role_in_system(layout, level, place),
-        Role::Block(_) => Role::Other,
+        Role::Block(_) | Role::Filter(_) => Role::Other,
         Role::SubSystem(level) if layout.is_section(place, b"System") => {
             Role::System(deeper(level))
         }

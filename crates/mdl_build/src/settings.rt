@@ -26,6 +26,8 @@ pub enum Setting {
     Rate(Decimal),
     /// A value of each element.
     List(Decimals),
+    /// What the delays of a filter begin with.
+    States(Decimals),
     /// How many inputs there are, and of each whether it is subtracted.
     Signs(u32, Flags),
     /// How many parts there are, and their sizes where these are given.
@@ -81,6 +83,8 @@ pub struct Settings {
     pub said: Said,
     /// A value of each element.
     pub list: Decimals,
+    /// What the delays of a filter begin with.
+    pub states: Decimals,
     /// Of each input, whether it is subtracted.
     pub signs: Flags,
     /// The sizes of its parts where these are given.
@@ -117,6 +121,7 @@ impl Settings {
         Settings {
             said: UNSAID,
             list: Decimals::new(alloc),
+            states: Decimals::new(alloc),
             signs: Flags::new(alloc),
             sizes: Sizes::new(alloc),
         }
@@ -127,6 +132,17 @@ impl Settings {
         ensures { result ≡ self.old.list }
     {
         mem::replace(&mut self.list, Decimals::new(alloc))
+    }
+
+    /// Takes out the coefficients of a filter, and what its delays begin with.
+    pub fn take_filter(&mut self, alloc: Global) -> (Decimals, Decimals)
+        ensures { result ≡ (self.old.list, self.old.states) }
+    {
+        let coefficients = mem::replace(&mut self.list, Decimals::new(alloc));
+        (
+            coefficients,
+            mem::replace(&mut self.states, Decimals::new(alloc)),
+        )
     }
 
     /// Takes out, of each input, whether it is subtracted.
@@ -159,6 +175,7 @@ impl Settings {
                 self.said.rate = rate;
             }
             Setting::List(list) => self.list = list,
+            Setting::States(states) => self.states = states,
             Setting::Signs(count, signs) => {
                 self.said.number = count;
                 self.signs = signs;

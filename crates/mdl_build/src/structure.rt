@@ -1,18 +1,19 @@
 //! The rules of structure and of library.
-ghost use Rattle.std.specs.Prelude.{◌≡◌, ℕ, ◌<◌, ◌+◌, ◌==◌, ◌&&◌, not, nat_le, true, length, count_by, find, is_none, All, IfOk, Some, List, Bool, false};
+ghost use Rattle.std.specs.Prelude.{◌≡◌, ℕ, ◌<◌, ◌+◌, ◌==◌, ◌&&◌, not, true, length, count_by, find, is_none, All, IfOk, Some, List, Bool, false};
 ghost use Rattle.std.specs.Option.{option_map_or};
 ghost use Rattle.mdl_text.specs.declared.tree.Item.{Item};
 ghost use Rattle.mdl_build.specs.Blocks.{number_at};
 ghost use Rattle.mdl_build.specs.Roles.{role_of, roles_of, blocks_of};
-ghost use Rattle.mdl_build.specs.Rules.{has_root, is_model, is_system, are_shallow, is_system_in, has_own_name, has_one_system, keeps_structure, type_at};
+ghost use Rattle.mdl_build.specs.Rules.{has_root, is_model, is_system, is_shallow, are_shallow, is_system_in, has_own_name, has_one_system, keeps_structure, type_at};
 ghost use Rattle.mdl_build.specs.Sections.{places_of};
 ghost use Rattle.mdl_build.specs.inner.Names.{AreBlocks};
 ghost use Rattle.mdl_build.specs.inner.Structure.{AreCounts, IsFoundBlock};
 
 use crate::layout::Layout;
-use crate::library::{BlockType, type_of_name};
+use crate::library::BlockType;
 use crate::names::Blocks;
 use crate::roles::Role;
+use crate::type_names::type_of_name;
 use fx_io::OutOfMemory;
 use std::alloc::Global;
 
@@ -43,13 +44,20 @@ fn is_first(role: Role) -> bool
     }
 }
 
-/// Whether an item is no System that is too deep.
+/// Whether an item is no System that is too deep, and no filter that stands for a subsystem with such.
 fn is_shallow(role: Role) -> bool
-    ensures { result ≡ not (is_system (λ level. nat_le 65 level) role) }
+    ensures { result ≡ is_shallow role }
 {
-    match level_of(role) {
-        None => true,
-        Some(level) => level < 65,
+    match role {
+        Role::System(level) => level < 65,
+        Role::Filter(level) => level < 64,
+        Role::Block(_)
+        | Role::SubSystem(_)
+        | Role::Other
+        | Role::Model
+        | Role::Branch(_)
+        | Role::Defaults
+        | Role::TypeDefaults(_) => true,
     }
 }
 
@@ -134,6 +142,7 @@ fn has_one_system(role: Role, systems: usize) -> bool
     match role {
         Role::SubSystem(_) => systems == 1,
         Role::Block(_)
+        | Role::Filter(_)
         | Role::System(_)
         | Role::Other
         | Role::Model

@@ -14,6 +14,7 @@ use Rattle.dg_model.specs.declared.nested.Part.TheVariants.{Plain, In, Out}
 use Rattle.dg_model.specs.declared.nested.Target.TheVariants.{Port}
 use Rattle.mdl_text.specs.declared.tree.Item.{Item}
 use Rattle.mdl_text.specs.declared.tree.Value.TheVariants.{Section, Bare, Quoted}
+use Rattle.mdl_build.specs.declared.expanding.DrawnBlock.{DrawnBlock}
 use Rattle.dg_flat.specs.Parts.{in_number, out_number}
 use Rattle.dg_flat.specs.Rules.{AllNestedKeep, KeepsWiring, IsNumbered, HasEnd, drivers, is_port}
 use Rattle.dg_model.proofs.Written.{all_of, each_of}
@@ -66,6 +67,10 @@ whole_number text d digits some negative is few exponent =
     }))
 
 -- ---- the three blocks, and the two lines from each to the next
+
+-- a block that stands for no filter
+abbrev pub as_drawn : NestedBlock → DrawnBlock
+as_drawn block = record { block = block; filter = None }
 
 module _ (input middle output : Block) (name : List ℕ) where
   abbrev first : NestedBlock

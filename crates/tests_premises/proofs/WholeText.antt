@@ -1,5 +1,5 @@
 -- The text of the whole model: the tree that it stands for, its blocks and lines, and its diagram.
-use Rattle.std.proofs.Common.{◌≡◌, false, List, [], ◌∷◌, ◌++◌, Some, inl, inr, codes, refl}
+use Rattle.std.proofs.Common.{◌≡◌, false, List, [], ◌∷◌, ◌++◌, map, Some, inl, inr, codes, refl}
 use Rattle.std.proofs.Math.Dec.{lit<, lit≤}
 use Rattle.fx_type.specs.declared.rounding.Rounding.TheVariants.{Floor}
 use Rattle.fx_type.specs.declared.spec.TypeSpec.TheVariants.{Fixed, Auto}
@@ -25,7 +25,7 @@ use Rattle.fx_model.specs.Model.{IsModelOf}
 use Rattle.dg_model.proofs.Written.{pairs_of}
 use Rattle.hw_shows.proofs.Small.{each_by}
 use Rattle.tests_premises.specs.Whole.{model_text, diagram, input, gain, output, int8, int16, three, five, coefficients}
-use Rattle.tests_premises.proofs.Three.{section, bare, quoted, line_items, three_nested, three_wired, whole_number}
+use Rattle.tests_premises.proofs.Three.{section, bare, quoted, line_items, as_drawn, three_nested, three_wired, whole_number}
 use Rattle.tests_premises.proofs.WholeChecked.{checked}
 
 -- ---- the tree that the text stands for
@@ -142,18 +142,22 @@ nested = three_nested (input []) (gain []) (output []) (codes "G")
 
 is_nested : IsNestedOf tree nested
 is_nested = record {
+  extents = 1 ∷ 1 ∷ 1 ∷ [];
+  are_extents = (refl, (refl, (refl, tt)));
   structured = refl;
   known = refl;
-  blocks = (
-    record { name = refl; parent = refl; block_type = block_type.Inport; type_is = refl; settings = in_settings; has = has_in; part = refl },
+  drawn = map as_drawn nested.blocks;
+  are_drawn = (
+    record { block = record { name = refl; parent = refl; block_type = block_type.Inport; type_is = refl; settings = in_settings; has = has_in; part = refl }; filter = refl },
     (
-      record { name = refl; parent = refl; block_type = block_type.Gain; type_is = refl; settings = gain_settings; has = has_gain; part = refl },
+      record { block = record { name = refl; parent = refl; block_type = block_type.Gain; type_is = refl; settings = gain_settings; has = has_gain; part = refl }; filter = refl },
       (
-        record { name = refl; parent = refl; block_type = block_type.Outport; type_is = refl; settings = out_settings; has = has_out; part = refl },
+        record { block = record { name = refl; parent = refl; block_type = block_type.Outport; type_is = refl; settings = out_settings; has = has_out; part = refl }; filter = refl },
         tt,
       ),
     ),
   );
+  blocks = λ other. refl;
   lines = refl;
 }
 

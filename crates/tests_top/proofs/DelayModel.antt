@@ -1,5 +1,5 @@
 -- The model of one delay with initial value 3, as text: the tree that it stands for, its blocks and lines, and its diagram, worked out by hand.
-use Rattle.std.proofs.Common.{◌≡◌, ℕ, false, List, [], ◌∷◌, ◌++◌, Some, inl, inr, codes, refl}
+use Rattle.std.proofs.Common.{◌≡◌, ℕ, false, List, [], ◌∷◌, ◌++◌, map, Some, inl, inr, codes, refl}
 use Rattle.std.proofs.Math.Dec.{lit<, lit≤}
 use Rattle.fx_type.specs.declared.decimal.Decimal.{Decimal}
 use Rattle.fx_type.specs.declared.spec.TypeSpec.TheVariants.{Fixed, Auto}
@@ -26,7 +26,7 @@ use Rattle.dg_flat.specs.Flat.{IsFlatOf}
 use Rattle.dg_flat.specs.Rules.{AllNestedKeep, KeepsWiring, KeepsEnable}
 use Rattle.dg_model.proofs.Written.{each_of, pairs_of}
 use Rattle.tests_premises.specs.Whole.{block_of, edge_of, int8}
-use Rattle.tests_premises.proofs.Three.{section, bare, quoted, line_items, three_nested, three_wired, whole_number}
+use Rattle.tests_premises.proofs.Three.{section, bare, quoted, line_items, as_drawn, three_nested, three_wired, whole_number}
 
 -- ---- the text, and the tree that it stands for
 
@@ -147,18 +147,22 @@ nested = three_nested (inport []) (delay []) (outport []) (codes "D")
 
 pub is-nested : IsNestedOf tree nested
 is-nested = record {
+  extents = 1 ∷ 1 ∷ 1 ∷ [];
+  are_extents = (refl, (refl, (refl, tt)));
   structured = refl;
   known = refl;
-  blocks = (
-    record { name = refl; parent = refl; block_type = block_type.Inport; type_is = refl; settings = in_settings; has = has_in; part = refl },
+  drawn = map as_drawn nested.blocks;
+  are_drawn = (
+    record { block = record { name = refl; parent = refl; block_type = block_type.Inport; type_is = refl; settings = in_settings; has = has_in; part = refl }; filter = refl },
     (
-      record { name = refl; parent = refl; block_type = block_type.UnitDelay; type_is = refl; settings = delay_settings; has = has_delay; part = refl },
+      record { block = record { name = refl; parent = refl; block_type = block_type.UnitDelay; type_is = refl; settings = delay_settings; has = has_delay; part = refl }; filter = refl },
       (
-        record { name = refl; parent = refl; block_type = block_type.Outport; type_is = refl; settings = out_settings; has = has_out; part = refl },
+        record { block = record { name = refl; parent = refl; block_type = block_type.Outport; type_is = refl; settings = out_settings; has = has_out; part = refl }; filter = refl },
         tt,
       ),
     ),
   );
+  blocks = λ other. refl;
   lines = refl;
 }
 

@@ -11,6 +11,7 @@ use Rattle.mdl_build.specs.declared.known.Known.{Known}
 use Rattle.mdl_build.specs.declared.library.BlockType.{BlockType}
 use Rattle.mdl_build.specs.declared.library.BlockType.TheVariants.{EnablePort}
 use Rattle.mdl_build.specs.Blocks.{at, is_of, number_at, path_of}
+use Rattle.mdl_build.specs.Extents.{AreExtents, total}
 use Rattle.mdl_build.specs.Library.{parameters_of}
 use Rattle.mdl_build.specs.Roles.{role_of, roles_of, is_block, blocks_of}
 use Rattle.mdl_build.specs.Rules.{has_root, are_shallow, IsFirstWrong}
@@ -18,26 +19,33 @@ use Rattle.mdl_build.specs.Sections.{holder_of}
 use Rattle.mdl_build.specs.inner.Names.{AreBlocks}
 
 -- the model has its root, is shallow, and has no more blocks than it may
-abbrev pub keeps_sizes : List Item → Bool
-keeps_sizes items =
-    has_root (roles_of items) && are_shallow (roles_of items)
-    && nat_le (length (blocks_of items)) most_blocks
+abbrev pub keeps_sizes : List ℕ → List Item → Bool
+keeps_sizes extents items =
+    has_root (roles_of items) && are_shallow (roles_of items) && nat_le (total extents) most_blocks
 
--- the roles and the blocks are those of the items
+-- the roles, the blocks and how many these stand for are those of the items
 pub record IsKnown (known : Known) : Type 0 where
   pub roles : known.roles.items ≡ roles_of known.layout.items.now
+  pub extents : AreExtents known.layout.items.now known.extents.items
   pub blocks : AreBlocks known.layout.items.now known.blocks
-  pub few : length (blocks_of known.layout.items.now) ≤ most_blocks
+  pub few : total known.extents.items ≤ most_blocks
 
 -- these are the items, and it tells whether they keep their sizes, and then is known
 pub record IsFound (items : List Item) (kept : Bool) (known : Known) : Type 0 where
   pub items_are : known.layout.items.now ≡ items
-  pub kept_is : keeps_sizes items ≡ kept
+  pub extents : AreExtents items known.extents.items
+  pub kept_is : keeps_sizes known.extents.items items ≡ kept
   pub is_known : kept ≡ true → IsKnown known
+
+-- items that don't keep their sizes
+pub record AreLarge (items : List Item) : Type 0 where
+  pub extents : List ℕ
+  pub are_extents : AreExtents items extents
+  pub not_kept : keeps_sizes extents items ≡ false
 
 -- what is known of items that keep their sizes
 abbrev pub IsKnownOf : List Item → Option Known → Type 0
-IsKnownOf items None = keeps_sizes items ≡ false
+IsKnownOf items None = AreLarge items
 IsKnownOf items (Some known) = IsFound items true known
 
 -- the block at a place is an EnablePort of the System at another

@@ -1,11 +1,11 @@
 -- What the blocks of a tree are made by (own).
 use Rattle.std.specs.Prelude.{◌≡◌, ℕ, ◌<◌, true, List, length, map, slice_get, Some, is_some, codes}
-use Rattle.dg_model.specs.declared.nested.NestedBlock.{NestedBlock}
 use Rattle.mdl_text.specs.declared.tree.Item.{Item}
+use Rattle.mdl_build.specs.declared.expanding.DrawnBlock.{DrawnBlock}
 use Rattle.mdl_build.specs.declared.library.BlockType.{BlockType}
 use Rattle.mdl_build.specs.declared.making.Maker.{Maker}
 use Rattle.mdl_build.specs.Library.{block_types}
-use Rattle.mdl_build.specs.Nested.{IsBlockAt}
+use Rattle.mdl_build.specs.Nested.{IsDrawnAt}
 use Rattle.mdl_build.specs.Roles.{role_of, is_block, blocks_of}
 use Rattle.mdl_build.specs.Rules.{type_at}
 use Rattle.mdl_build.specs.Sections.{value_of}
@@ -15,6 +15,10 @@ use Rattle.mdl_build.specs.inner.Texts.{contents_of, fallbacks_of}
 -- the items
 abbrev pub items_of : Maker → List Item
 items_of maker = maker.known.now.layout.items.now
+
+-- how many blocks each of their blocks stands for
+abbrev pub extents_of : Maker → List ℕ
+extents_of maker = maker.known.now.extents.items
 
 -- all that it holds is that of its items
 pub record IsMaker (maker : Maker) : Type 0 where
@@ -32,7 +36,7 @@ pub record IsNamedBlock (items : List Item) (place : ℕ) (block_type : BlockTyp
   pub typed : type_at items place ≡ Some block_type
 
 -- so many blocks are made
-pub record AreMade (items : List Item) (count : ℕ) (blocks : List NestedBlock) : Type 0 where
+pub record AreMade (items : List Item) (count : ℕ) (blocks : List DrawnBlock) : Type 0 where
   pub long : length blocks ≡ count
   pub each : (k place : ℕ) → k < count → slice_get (blocks_of items) k ≡ Some place
-      → (block : NestedBlock) × (slice_get blocks k ≡ Some block) × IsBlockAt items place block
+      → (block : DrawnBlock) × (slice_get blocks k ≡ Some block) × IsDrawnAt items place block

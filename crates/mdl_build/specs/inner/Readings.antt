@@ -1,5 +1,5 @@
 -- What the parameters of a block are read as (own).
-use Rattle.std.specs.Prelude.{◌≡◌, ℕ, ◌<◌, Bool, List, drop, slice_get, Some}
+use Rattle.std.specs.Prelude.{◌≡◌, ℕ, ◌<◌, List, drop, slice_get, Some}
 use Rattle.mdl_text.specs.declared.tree.Item.{Item}
 use Rattle.mdl_build.specs.declared.library.BlockType.{BlockType}
 use Rattle.mdl_build.specs.declared.library.Parameter.{Parameter}
@@ -9,11 +9,10 @@ use Rattle.mdl_build.specs.Blocks.{HasSettings, AreRead, IsReadable}
 use Rattle.mdl_build.specs.Library.{ParameterRow, row_of, parameters_of}
 use Rattle.mdl_build.specs.Settings.{ReadsAs}
 
--- a parameter with this text is read as a setting; `single` says that the block is a gate of one
--- input
-abbrev pub IsReadAs : Bool → Parameter → List ℕ → Setting → Type 0
-IsReadAs single parameter text =
-    ReadsAs single (row_of parameter).reader (row_of parameter).default text
+-- a parameter with this text is read as a setting, where the first one has the text `first`
+abbrev pub IsReadAs : List ℕ → Parameter → List ℕ → Setting → Type 0
+IsReadAs first parameter text =
+    ReadsAs first (row_of parameter).reader (row_of parameter).default text
 
 -- so many parameters are read, and these are the settings so far
 pub record AreReadTo (items : List Item) (block_type : BlockType) (place number : ℕ)

@@ -14,7 +14,7 @@ returns-in-None c =
     let items = c.args.layout.now.items.now in
     let row = row_here items c.args.block_type c.args.place c.parameters-parameter-items.result.now c.args.defaults.now c.loop-number.number _ _ c.parameters-parameter-items.ensures c.requires.texts c.loop-number-test.true in
     first_wrong items c.args.block_type c.args.place c.loop-number.number _ c.loop-number.settings c.name.result.now c.loop-number.invariant row.at_number
-    (read_none items c.args.block_type c.args.place _ c.is_single-single.result _ c.in_ok-read_parameter.field-0 c.is_single-single.ensures row.text_is c.in_ok-read_parameter.ensures c.in-None.is)
+    (read_none items c.args.block_type c.args.place _ c.first_text-first.result.now _ c.in_ok-read_parameter.field-0 c.first_text-first.ensures row.text_is c.in_ok-read_parameter.ensures c.in-None.is)
     c.name.ensures
 
 pub loop-number-preserved : goal.loop-number-preserved
@@ -23,7 +23,7 @@ loop-number-preserved c =
     let row = row_here items c.args.block_type c.args.place c.parameters-parameter-items.result.now c.args.defaults.now c.loop-number.number _ _ c.parameters-parameter-items.ensures c.requires.texts c.loop-number-test.true in
     subst (AreReadTo items c.args.block_type c.args.place _) (sym c.put.ensures)
     (one_read items c.args.block_type c.args.place c.loop-number.number _ c.loop-number.settings c.in-Some.setting c.loop-number.invariant row.at_number
-    (read_some items c.args.block_type c.args.place _ c.is_single-single.result _ c.in_ok-read_parameter.field-0 c.in-Some.setting c.is_single-single.ensures row.text_is c.in_ok-read_parameter.ensures c.in-Some.is))
+    (read_some items c.args.block_type c.args.place _ c.first_text-first.result.now _ c.in_ok-read_parameter.field-0 c.in-Some.setting c.first_text-first.ensures row.text_is c.in_ok-read_parameter.ensures c.in-Some.is))
 
 pub returns : goal.returns
 returns c =

@@ -2,7 +2,7 @@ use Rattle.std.proofs.Common.{◌≡◌, ◌+◌, subst, length, get_or, Some, s
 use Rattle.std.proofs.lemmas.Result.{err_from_is_err_and}
 use Rattle.mdl_build.specs.Rules.{IsWrongFirst, type_at}
 use Rattle.mdl_build.specs.inner.Known.{IsWrongAt}
-use Rattle.mdl_build.specs.inner.Makers.{AreMade, items_of}
+use Rattle.mdl_build.specs.inner.Makers.{AreMade, extents_of, items_of}
 use Rattle.mdl_build.proofs.BlockPlaces.{listed, block_here}
 use Rattle.mdl_build.proofs.KnownLemmas.{structure_kept, name_kept, type_kept}
 use Rattle.dg_model.proofs.Refused.{refused_as}
@@ -35,7 +35,7 @@ block-requires-clause-block c =
     record {
       within = here.within;
       counts = here.counts;
-      named = name_kept items place (structure_kept items c.requires.structured k place (listed items places k 0 list c.loop-place-test.true));
+      named = name_kept items place (structure_kept items (extents_of c.args.maker.now) c.requires.structured k place (listed items places k 0 list c.loop-place-test.true));
       typed = sym c.type_at.ensures ∙ c.in-Some.is;
     }
 

@@ -1,6 +1,6 @@
-use Rattle.std.proofs.Common.{List, Bool, true, subst, sym, ap, ◌∙◌}
+use Rattle.std.proofs.Common.{List, Bool, true, subst, ◌∙◌}
 use Rattle.mdl_text.specs.declared.tree.Item.{Item}
-use Rattle.mdl_build.specs.inner.Known.{IsFound, keeps_sizes}
+use Rattle.mdl_build.specs.inner.Known.{AreLarge, IsFound}
 use Rattle.mdl_build.proofs.known.known_of.Goals as goal
 
 pub find_blocks-requires-clause-none : goal.find_blocks-requires-clause-none
@@ -15,4 +15,6 @@ returns-in-Ok-true c =
     (subst (λ (kept : Bool). IsFound c.in_ok-layout.layout.items.now kept c.find_blocks.new.self) c.in-Ok-true.field-0-test c.in-Ok-true.ensures)
 
 pub returns-in-Ok-false : goal.returns-in-Ok-false
-returns-in-Ok-false c = ap keeps_sizes (sym c.in_ok-layout.ensures) ∙ c.in-Ok-false.ensures.kept_is ∙ c.in-Ok-false.field-0-test
+returns-in-Ok-false c =
+    subst AreLarge c.in_ok-layout.ensures
+    (record { extents = c.find_blocks.new.self.extents.items; are_extents = c.in-Ok-false.ensures.extents; not_kept = c.in-Ok-false.ensures.kept_is ∙ c.in-Ok-false.field-0-test })

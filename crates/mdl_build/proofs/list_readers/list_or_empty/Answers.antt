@@ -1,4 +1,4 @@
-use Rattle.std.proofs.Common.{false, [], inl, inr, refl, sym, ◌∙◌}
+use Rattle.std.proofs.Common.{[], inl, inr, refl, sym, ◌∙◌}
 use Rattle.mdl_build.specs.declared.library.Reader.{Reader}
 use Rattle.mdl_build.specs.Settings.{ReadsAs}
 use Rattle.mdl_build.proofs.Found.{ok_found_same, differ_by_not, same_by_not}
@@ -7,7 +7,7 @@ use Rattle.mdl_build.proofs.list_readers.list_or_empty.Goals as goal
 
 pub returns-then-ne : goal.returns-then-ne
 returns-then-ne c =
-    ok_found_same (ReadsAs false Reader.List [] c.args.text.now) (ReadsAs false Reader.ListOrEmpty [] c.args.text.now) c.list.result
+    ok_found_same (ReadsAs [] Reader.List [] c.args.text.now) (ReadsAs [] Reader.ListOrEmpty [] c.args.text.now) c.list.result
     (λ setting given. (given.0, inr given.1, given.2))
     (λ setting given. elim given.1 [
       | inl word ↦ absurd (differ_by_not c.args.text.now c.as_slice.result.now c.if-ne.ensures (word.0 ∙ sym c.as_slice.ensures))

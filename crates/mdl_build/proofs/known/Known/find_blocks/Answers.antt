@@ -1,19 +1,16 @@
-use Rattle.std.proofs.Common.{sym, ap, ◌∙◌}
-use Rattle.std.specs.Prelude.{◌&&◌}
+use Rattle.std.proofs.Common.{sym, ◌∙◌}
 use Rattle.std.proofs.lemmas.Result.{IfOk-weaker}
-use Rattle.mdl_build.specs.Rules.{has_root, are_shallow}
-use Rattle.mdl_build.proofs.KnownLemmas.{no_shape, blocks_found}
+use Rattle.mdl_build.proofs.KnownLemmas.{sizes_break, blocks_found}
 use Rattle.mdl_build.proofs.known.Known.find_blocks.Goals as goal
 
 pub add_all-requires-clause-roles : goal.add_all-requires-clause-roles
-add_all-requires-clause-roles c = c.deref-2.ensures.value ∙ c.requires.roles
+add_all-requires-clause-roles c = c.deref.ensures.value ∙ c.requires.roles
 
-pub returns-then-not-has_shape : goal.returns-then-not-has_shape
-returns-then-not-has_shape c = no_shape c.args.self.now (ap (λ roles. has_root roles && are_shallow roles) (sym (c.deref.ensures.value ∙ c.requires.roles)) ∙ sym c.has_shape.ensures ∙ c.if-not-has_shape.true)
+pub returns-then-not-keeps_sizes : goal.returns-then-not-keeps_sizes
+returns-then-not-keeps_sizes c = sizes_break c.args.self.now c.requires.extents (sym c.keeps_sizes.ensures ∙ c.if-not-keeps_sizes.true)
 
 pub returns : goal.returns
 returns c =
     IfOk-weaker c.add_all.result _ _
-    (λ few are. blocks_found c.args.self.now c.add_all.new.self few c.requires.roles
-    (ap (λ roles. has_root roles && are_shallow roles) (sym (c.deref.ensures.value ∙ c.requires.roles)) ∙ sym c.has_shape.ensures ∙ c.if-not-has_shape.false) are)
+    (λ few are. blocks_found c.args.self.now c.add_all.new.self few c.requires.roles c.requires.extents (sym c.keeps_sizes.ensures ∙ c.if-not-keeps_sizes.false) are)
     c.add_all.ensures

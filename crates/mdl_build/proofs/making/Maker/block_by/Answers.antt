@@ -1,8 +1,8 @@
-use Rattle.std.proofs.Common.{ℕ, Option, sym, ap, ◌∙◌, arith}
+use Rattle.std.proofs.Common.{ℕ, List, Option, sym, ap, ◌∙◌, arith}
 use Rattle.std.specs.Prelude.{codes, option_map}
 use Rattle.mdl_build.specs.declared.parts.Standing.{Standing}
-use Rattle.mdl_build.specs.Blocks.{number_at, standing_in}
-use Rattle.mdl_build.specs.Parts.{part_of}
+use Rattle.mdl_build.specs.Blocks.{number_at, parent_of, standing_in}
+use Rattle.mdl_build.specs.Parts.{part_of, filter_of}
 use Rattle.mdl_build.specs.Sections.{holder_of, value_of}
 use Rattle.mdl_build.specs.inner.Makers.{items_of}
 use Rattle.mdl_build.specs.inner.Texts.{contents_of, fallbacks_of}
@@ -34,13 +34,17 @@ pub returns-clause-ok : goal.returns-clause-ok
 returns-clause-ok c =
     let items = items_of c.args.self.now in
     record {
-      name = some_text (value_of items c.args.place (codes "Name")) c.in_ok-name.name c.requires.block.named (c.in_ok-name.ensures ∙ c.text_or_empty.ensures);
-      parent = c.number.ensures ∙ ap (option_map (number_at items)) c.parent-parent.ensures;
-      block_type = c.args.block_type;
-      type_is = c.requires.block.typed;
-      settings = c.read_block.new.settings;
-      has = rw c.in_default.is at c.in_ok-wrong.ensures;
-      part =
-          c.in_ok-part.ensures
-          ∙ ap (λ (s : Standing). part_of s c.args.block_type c.read_block.new.settings) (c.standing.ensures ∙ ap (λ (p : Option ℕ). standing_in items p (holder_of items c.args.place)) c.parent-parent.ensures);
+      block = record {
+        name = some_text (value_of items c.args.place (codes "Name")) c.in_ok-name.name c.requires.block.named (c.in_ok-name.ensures ∙ c.text_or_empty-name.ensures);
+        parent = c.number.ensures ∙ ap (option_map (number_at items)) c.parent-parent.ensures;
+        block_type = c.args.block_type;
+        type_is = c.requires.block.typed;
+        settings = c.read_block.new.settings;
+        has = rw c.in_default.is at c.in_ok-wrong.ensures;
+        part =
+            c.in_ok-part.ensures
+            ∙ ap (λ (s : Standing). part_of s c.args.block_type c.filter_of.new.settings) (c.standing.ensures ∙ ap (λ (p : Option ℕ). standing_in items p (holder_of items c.args.place)) c.parent-parent.ensures)
+            ∙ c.in_ok-filter.ensures.part (standing_in items (parent_of items c.args.place) (holder_of items c.args.place));
+      };
+      filter = c.in_ok-filter.ensures.filter ∙ ap (λ (name : List ℕ). filter_of name c.args.block_type c.read_block.new.settings) (sym c.in_ok-name.ensures);
     }
