@@ -3,11 +3,12 @@
 import re
 
 from layout import lay_out
+from library import taps_of
 from markup import plain
 from mdl import is_number, systems_of
 
 SIGN = {"==": "=", "~=": "≠", "<": "<", "<=": "≤", ">=": "≥", ">": ">"}
-SMALL = {"Inport": (30, 14), "Outport": (30, 14), "Ground": (20, 20), "Terminator": (20, 20), "Sum": (30, 40), "Mux": (6, 60), "Demux": (6, 60), "EnablePort": (24, 20)}
+SMALL = {"Inport": (30, 14), "Outport": (30, 14), "Ground": (20, 20), "Terminator": (20, 20), "Sum": (30, 40), "Mux": (6, 60), "Demux": (6, 60), "EnablePort": (24, 20), "DiscreteFir": (60, 40)}
 # The most ports of a side that are drawn.
 MOST = 1024
 SUPERSCRIPT = str.maketrans("0123456789-", "⁰¹²³⁴⁵⁶⁷⁸⁹⁻")
@@ -98,6 +99,9 @@ class Box:
         if self.kind == "Switch":
             criterion = get("Criteria", "u2 >= Threshold").replace("Threshold", short(get("Threshold", "0")))
             return criterion.replace("u2", "").replace(">=", "≥").replace("~=", "≠").strip()
+        if self.kind == "DiscreteFir":
+            taps = taps_of(get("Coefficients", "[0.5 0.5]"))
+            return "FIR" if taps is None else f"FIR {taps}"
         plain = {
             "Gain": short(get("Gain", "1")), "Constant": short(get("Value", "1")), "Product": "×", "Logic": get("Operator", "AND"),
             "RelationalOperator": SIGN.get(get("Operator", "<="), "?"), "DataTypeConversion": "convert",
@@ -115,8 +119,8 @@ class Box:
             parts.append(get("RndMeth").lower())
         if get("SaturateOnIntegerOverflow") == "on" and (parts or self.kind == "Sum" and not kind.endswith("internal rule")):
             parts.append("saturates")
-        initial = get("InitialCondition") or get("X0") or get("InitialOutput")
-        if self.kind in ("UnitDelay", "Delay", "RateTransition", "Outport") and not re.fullmatch(r"[0.]*|\[\]", initial):
+        initial = get("InitialCondition") or get("X0") or get("InitialOutput") or get("InitialStates")
+        if self.kind in ("UnitDelay", "Delay", "RateTransition", "Outport", "DiscreteFir") and not re.fullmatch(r"[0.]*|\[\]", initial):
             parts.append("starts at " + short(initial))
         if self.kind == "EnablePort":
             parts.append("states " + get("StatesWhenEnabling", "held"))

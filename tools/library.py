@@ -8,6 +8,7 @@ from typing import Callable, NamedTuple
 
 BLANKS = " \t\r"
 INTERNAL = "Inherit: Inherit via internal rule"
+WORD_LENGTH = "Inherit: Same word length as input"
 TYPE_NAMES = ("int8", "int16", "int32", "uint8", "uint16", "uint32", "boolean")
 SAID_TYPE = ", ".join(TYPE_NAMES) + ", or fixdt(S,W,F) of 2 to 128 bits with a sign and 1 to 127 without, F from -64 to 128"
 SAID_LIST = "a decimal of at most 18 digits, or 1 to 1024 of them in brackets"
@@ -98,6 +99,18 @@ def is_list(text: str) -> bool:
     return elements is not None and 1 <= len(elements) <= 1024 and all(map(is_decimal, elements))
 
 
+def taps_of(text: str) -> int | None:
+    """How many coefficients of a filter a text has, where it has 2 to 32."""
+    count = len(elements_of(text) or []) if is_list(text) else 0
+    return count if 2 <= count <= 32 else None
+
+
+def are_states(text: str, coefficients: str) -> bool:
+    """Whether a text is one decimal, or one less than a filter has coefficients."""
+    taps = taps_of(coefficients)
+    return is_list(text) and (taps is None or len(elements_of(text) or []) in (1, taps - 1))
+
+
 def is_period(text: str) -> bool:
     if not text.startswith("["):
         return is_above_zero(text)
@@ -162,6 +175,8 @@ def period_or(*also: str) -> Reader:
 
 
 LIST = Reader(is_list, SAID_LIST)
+TAPS = Reader(lambda text: taps_of(text) is not None, "2 to 32 decimals of at most 18 digits in brackets")
+STATES = Reader(is_list, "a decimal of at most 18 digits, or one less than there are coefficients in brackets")
 SIGNS = Reader(is_signs, "2 to 32 signs + and -, or a whole number from 2 to 32")
 PARTS = Reader(is_parts, "a whole number from 1 to 1024, or 1 to 1024 of them in brackets")
 WIDTH = Reader(is_width, "-1, or a whole number from 1 to 1024, which may stand in brackets")
@@ -222,6 +237,11 @@ LIBRARY: dict[str, tuple[Parameter, ...]] = {
     "RateTransition": (
         Parameter("OutPortSampleTime", "-1", Reader(is_period, SAID_PERIOD)), only("OutPortSampleTimeOpt", "Specify"),
         only("Deterministic", "on"), CONDITION,
+    ),
+    "DiscreteFir": (
+        Parameter("Coefficients", "[0.5 0.5]", TAPS), only("CoefSource", "Dialog parameters"), only("FilterStructure", "Direct form"),
+        Parameter("InitialStates", "0", STATES), Parameter("CoefDataTypeStr", WORD_LENGTH, type_or(WORD_LENGTH)),
+        only("ProductDataTypeStr", INTERNAL), only("AccumDataTypeStr", INTERNAL), Parameter("OutDataTypeStr", INTERNAL, type_or(INTERNAL)), *ROUNDED,
     ),
     "SubSystem": (only("SystemSampleTime", "-1"),),
     "EnablePort": (Parameter("StatesWhenEnabling", "held", HELD_OR_RESET), only("ShowOutputPort", "off")),

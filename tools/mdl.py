@@ -191,7 +191,7 @@ PASSED_OVER = (
     (("SubSystem",), "DataTypeOverride", ("UseLocalSettings", "Off"), "the types are those of the blocks"),
     (("Inport", "Constant"), "SignalType", ("auto", "real"), "the signal is read as real"),
     (("Inport", "Constant"), "SamplingMode", ("auto", "Sample based"), "the signal is read sample by sample"),
-    (("UnitDelay", "Delay"), "InputProcessing", ("Elements as channels (sample based)",), "each element is delayed by samples"),
+    (("UnitDelay", "Delay", "DiscreteFir"), "InputProcessing", ("Elements as channels (sample based)",), "each element is delayed by samples"),
     (("Inport",), "LatchByDelayingOutsideSignal", ("off",), "the input is not delayed"),
     (("Inport",), "LatchInputForFeedbackSignals", ("off",), "the input is not latched"),
     (("Inport",), "LatchByCopyingInsideSignal", ("off",), "the input is not latched"),

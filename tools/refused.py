@@ -6,7 +6,7 @@ It is no part of what is proved: it restates docs/RULES.md and the tables of doc
 from collections import Counter
 from typing import Iterator, NamedTuple
 
-from library import BLANKS, LIBRARY, Parameter, number
+from library import BLANKS, LIBRARY, Parameter, are_states, number, taps_of
 from mdl import Defaults, Section, branches_of, shown, step_of
 from remedies import of_parameter, of_type
 
@@ -67,15 +67,29 @@ def of_roots(root: Section) -> Iterator[Refused]:
             yield Refused(section.line, STRUCTURE, "model", f"a second {name}; allowed: one; remedy: a file for each model")
 
 
-def of_sizes(found: list[Place]) -> Iterator[Refused]:
-    """Systems that are too deep, and blocks that are too many."""
+def extent_of(block: Section, defaults: Defaults) -> int:
+    """How many blocks a block stands for: a filter for its subsystem and what stands in that."""
+    if block.get("BlockType") != "DiscreteFir":
+        return 1
+    taps = taps_of(value_of(block, LIBRARY["DiscreteFir"][0], defaults)[0])
+    return 1 if taps is None else 2 * taps + 3
+
+
+def too_deep(line: int) -> Refused:
+    return Refused(line, STRUCTURE, "model", f"a System deeper than {MOST_LEVELS}; allowed: {MOST_LEVELS}; remedy: expand subsystems")
+
+
+def of_sizes(found: list[Place], defaults: Defaults) -> Iterator[Refused]:
+    """Systems that are too deep, that of a filter among them, and blocks that are too many."""
     blocks = 0
     for place in found:
         if place.level == MOST_LEVELS + 1:
-            yield Refused(place.system.line, STRUCTURE, "model", f"a System deeper than {MOST_LEVELS}; allowed: {MOST_LEVELS}; remedy: expand subsystems")
+            yield too_deep(place.system.line)
         for block in place.system.all("Block"):
-            blocks += 1
-            if blocks == MOST_BLOCKS + 1:
+            if place.level == MOST_LEVELS and block.get("BlockType") == "DiscreteFir":
+                yield too_deep(block.line)
+            before, blocks = blocks, blocks + extent_of(block, defaults)
+            if before <= MOST_BLOCKS < blocks:
                 yield Refused(block.line, STRUCTURE, "model", f"more than {MOST_BLOCKS} blocks; allowed: {MOST_BLOCKS}; remedy: a model for each part")
 
 
@@ -130,6 +144,15 @@ def value_of(block: Section, parameter: Parameter, defaults: Defaults) -> tuple[
     return parameter.default, block.line
 
 
+def is_read(kind: str, parameter: Parameter, value: str, first: str) -> bool:
+    """Whether a value reads, where the first parameter of the block has this one."""
+    if (kind, parameter.name, first) == ("Logic", "Inputs", "NOT"):
+        return True
+    if parameter.name == "InitialStates":
+        return are_states(value, first)
+    return parameter.reader.reads(value)
+
+
 def of_parameters(block: Section, path: str, defaults: Defaults) -> Iterator[Refused]:
     """A type that isn't in the library, or parameters that don't read."""
     kind = block.get("BlockType")
@@ -139,10 +162,10 @@ def of_parameters(block: Section, path: str, defaults: Defaults) -> Iterator[Ref
         said = f"{kind if kind.isidentifier() else brief(kind)}; allowed: the block types of docs/FORMATS.md; remedy: {of_type(kind)}"
         yield Refused(block.lines["BlockType"], LIBRARY_RULE, path, said)
         return
-    is_single = kind == "Logic" and value_of(block, LIBRARY[kind][0], defaults)[0] == "NOT"
+    first = value_of(block, LIBRARY[kind][0], defaults)[0] if LIBRARY[kind] else ""
     for parameter in LIBRARY[kind]:
         value, line = value_of(block, parameter, defaults)
-        if not parameter.reader.reads(value) and not (is_single and parameter.name == "Inputs"):
+        if not is_read(kind, parameter, value, first):
             remedy = of_parameter(parameter.name, value.strip(BLANKS))
             yield Refused(line, PARAMETER, path, f"{parameter.name} {brief(value)}; allowed: {parameter.reader.allowed}; remedy: {remedy}")
 
@@ -150,7 +173,7 @@ def of_parameters(block: Section, path: str, defaults: Defaults) -> Iterator[Ref
 def refused(root: Section) -> list[Refused]:
     """All that rules 1 to 3 refuse, by lines."""
     found, defaults = list(places(root)), Defaults(root)
-    faults = [*of_roots(root), *of_sizes(found)]
+    faults = [*of_roots(root), *of_sizes(found, defaults)]
     for place in found:
         faults += of_lines(place)
         stood: Counter = Counter()

@@ -9,7 +9,7 @@ IMPORTED: dict[str, str] = {
     **dict.fromkeys(("From", "Goto", "GotoTagVisibility"), "makes lines of it"),
     "Reference": "rebuilds a link to a library block that it knows",
     **dict.fromkeys(
-        ("DiscreteFir", "MultiPortSwitch", "Saturate", "Abs", "MinMax", "Signum", "DiscreteIntegrator", "Lookup", "Lookup_n-D", "ZeroOrderHold"),
+        ("MultiPortSwitch", "Saturate", "Abs", "MinMax", "Signum", "DiscreteIntegrator", "Lookup", "Lookup_n-D", "ZeroOrderHold"),
         "rebuilds it",
     ),
 }

@@ -4,6 +4,7 @@ import re
 from dataclasses import dataclass, field
 from typing import Optional
 
+from filters import unfold
 from mdl import Defaults, Section, read_file, step_of, systems_of
 from written import Failed, whole
 
@@ -162,7 +163,7 @@ def outputs_of(block: Block) -> int:
 
 def read(path: str) -> list[Block]:
     """The flat diagram of a model's file, which keeps the program's rules of structure."""
-    _, root = read_file(path)
+    root = unfold(read_file(path)[1])
     reader = Reader(root)
     try:
         reader.system(root.all("Model")[0].all("System")[0], [], None, True)

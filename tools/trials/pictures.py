@@ -73,6 +73,7 @@ class Pictures(unittest.TestCase):
             ("Delay", 'DelayLength "16"', (">z⁻¹⁶<",)),
             ("RelationalOperator", 'Operator ">="', (">≥<", ">1<", ">2<")),
             ("RateTransition", 'OutPortSampleTime "4"', (">rate<", ">every 4<")),
+            ("DiscreteFir", 'Coefficients "[1 2 3]"\nInitialStates "[5 7]"\nOutDataTypeStr "int16"', (">FIR 3<", ">int16, starts at [5 7]<")),
         )
         for kind, parameters, shown in rows:
             drawn = self.drawn(block % (kind, parameters))

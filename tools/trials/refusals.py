@@ -34,6 +34,10 @@ VALUES = (
     ("DataTypeConversion", "OutDataTypeStr", ("uint16",), ("Inherit: Inherit via back propagation",)),
     ("RateTransition", "OutPortSampleTime", ("2",), ("-1",)),
     ("Outport", "InitialOutput", ("[]", "[1 2]"), ("[ ]",)),
+    ("DiscreteFir", "Coefficients", ("[1 2]", "[1;2;3]", "[" + "1 " * 32 + "]"), ("1", "[1]", "[k 1]", "[" + "1 " * 33 + "]")),
+    ("DiscreteFir", "InitialStates", ("0", "[1]"), ("k", "[]")),
+    ("DiscreteFir", "CoefDataTypeStr", ("Inherit: Same word length as input", "int8"), ("Inherit: Same as input",)),
+    ("DiscreteFir", "FilterStructure", ("Direct form",), ("Direct form transposed",)),
 )
 BLOCK = "Block {\nBlockType %s\nName \"%s\"\n%s}\n"
 
@@ -105,6 +109,21 @@ class Refusals(unittest.TestCase):
         self.assertEqual(told(model(BLOCK % ("SubSystem", "s", "")))[0][0], 3)
         many = told(model(*(BLOCK % ("Ground", f"g{at}", "") for at in range(20001))))
         self.assertEqual([it[3].partition(";")[0] for it in many], ["more than 20000 blocks"])
+
+    def test_a_filter_counts_as_what_it_stands_for(self):
+        of_states = lambda taps, states: [it[3].split()[0] for it in told(model(BLOCK % ("DiscreteFir", "f", f'Coefficients "{taps}"\nInitialStates "{states}"\n')))]
+        rows = (("[1 2 3]", "[5 7]", []), ("[1 2 3]", "4", []), ("[1 2 3]", "[5 7 9]", ["InitialStates"]), ("[1]", "[5 7]", ["Coefficients"]))
+        for taps, states, names in rows:
+            self.assertEqual(of_states(taps, states), names, (taps, states))
+        taps = 'Coefficients "[' + "1 " * 32 + ']"\n'
+        for count, said in ((298, []), (299, ["more than 20000 blocks"])):
+            found = told(model(*(BLOCK % ("DiscreteFir", f"f{at}", taps) for at in range(count))))
+            self.assertEqual([it[3].partition(";")[0] for it in found], said)
+        for levels, said in ((62, []), (63, ["a System deeper than 64"])):
+            deep = BLOCK % ("DiscreteFir", "f", "")
+            for _ in range(levels):
+                deep = BLOCK % ("SubSystem", "s", "System {\n" + deep + "}\n")
+            self.assertEqual([it[3].partition(";")[0] for it in told(model(deep))], said)
 
     def test_defaults_count(self):
         defaults = "BlockParameterDefaults {\n" + BLOCK % ("UnitDelay", "d", 'X0 "k"\n') + "}\n"

@@ -15,6 +15,7 @@ sys.path.insert(0, TOOLS)
 import mdl
 from belongs import blocks_of_lines
 from checked import checked
+from filters import unfold
 from page import inside
 from sharing import Sharing
 from subset import module_of
@@ -83,6 +84,34 @@ class Why(unittest.TestCase):
         command, shown = re.search(r"^\$ (tools/why .*)\n((?:.*\n)*?)```", read(os.path.join(TOP, "examples/README.md")), re.M).groups()
         done = subprocess.run([sys.executable, *command.split()], cwd=TOP, env={**os.environ, "TILECATNIP": program()}, capture_output=True, text=True)
         self.assertEqual(done.stdout, shown, done.stderr)
+
+
+class Filters(unittest.TestCase):
+    """A filter as the subsystem that it stands for."""
+
+    MODEL = "\n".join(["Model {", "System {", block("DiscreteFir", "P", 'Coefficients "[1 2 3]"', 'InitialStates "[5 7]"', 'CoefDataTypeStr "int8"', 'RndMeth "Zero"'), "}", "}", ""])
+
+    def test_blocks_and_lines(self):
+        [(root, _), (inner, above)] = mdl.systems(unfold(mdl.read(self.MODEL)))
+        self.assertEqual((above, root.all("Block")[0].get("BlockType")), (["P"], "SubSystem"))
+        blocks = inner.all("Block")
+        self.assertEqual([it.get("Name") for it in blocks], ["in", "d1", "d2", "c0", "c1", "c2", "sum", "out"])
+        self.assertEqual([it.get("InitialCondition") for it in blocks[1:3]], ["5", "7"])
+        self.assertEqual([(it.get("Gain"), it.get("ParamDataTypeStr")) for it in blocks[3:6]], [("1", "int8"), ("2", "int8"), ("3", "int8")])
+        self.assertEqual((blocks[6].get("Inputs"), blocks[6].get("RndMeth")), ("+++", "Zero"))
+        lines = [f'{it.get("SrcBlock")} {it.get("DstBlock")} {it.get("DstPort")}' for it in inner.all("Line")]
+        self.assertEqual(lines, ["in d1 1", "d1 d2 1", "in c0 1", "d1 c1 1", "d2 c2 1", "c0 sum 1", "c1 sum 2", "c2 sum 3", "sum out 1"])
+
+    def test_one_that_does_not_read_stays(self):
+        [(root, _)] = mdl.systems(unfold(mdl.read(self.MODEL.replace("[5 7]", "[5 7 9]"))))
+        self.assertEqual(root.all("Block")[0].get("BlockType"), "DiscreteFir")
+
+    @unittest.skipUnless(program(), "there is no proved program")
+    def test_the_check_names_these_blocks(self):
+        folder = os.path.join(TOP, "examples/designs/fir_lowpass")
+        told = subprocess.run([program(), "check", "one_block.mdl", "model.plan"], cwd=folder, capture_output=True, text=True).stdout
+        [_, (inner, _)] = mdl.systems(unfold(mdl.read_file(os.path.join(folder, "one_block.mdl"))[1]))
+        self.assertEqual(list(checked(told).blocks), ["u", *(f'h/{it.get("Name")}' for it in inner.all("Block")), "y"])
 
 
 class Looking(html.parser.HTMLParser):
