@@ -7,7 +7,7 @@ use Rattle.hw_run.specs.State.{State, row_of}
 use Rattle.hw_run.specs.Run.{IsAt, RunsGoOn, StateShowsRows}
 use Rattle.hw_net.specs.Step.{Row, Goes}
 use Rattle.hw_net.proofs.Steps.{steps-give-rows}
-use Rattle.hw_run.proofs.Unique.{rows-are-one}
+use Rattle.hw_order.proofs.Unique.{rows-are-one}
 
 lt-is : (a b : ℕ) → a < b → nat_lt a b ≡ true
 lt-is a b below = by (nat_lt a b) refl

@@ -1,8 +1,7 @@
 -- A run of a netlist as it stands: how many clocks were made, and the numbers of the last (own).
-use Rattle.std.specs.Prelude.{◌≡◌, ℕ, ◌<◌, ℤ, pos, List, length, slice_index, slice_index_or}
-use Rattle.hw_net.specs.declared.netlist.Net.{Net}
+use Rattle.std.specs.Prelude.{◌≡◌, ℕ, ℤ, pos, List, length, slice_index_or}
 use Rattle.hw_net.specs.Circuit.{Circuit}
-use Rattle.hw_net.specs.Netlist.{IsRanked}
+use Rattle.hw_order.specs.Order.{IsOrder}
 
 -- a list of numbers as a row
 abbrev pub row_of : List ℤ → ℕ → ℤ
@@ -14,15 +13,6 @@ pub record State : Type 0 where
   pub clocks : ℕ
   pub values : List ℤ
   pub order : List ℕ
-
--- all nets, each once, each after those that it reads in the same clock
-pub record IsOrder (nets : List Net) (order : List ℕ) : Type 0 where
-  pub rank : ℕ → ℕ
-  pub there : (i : ℕ) → i < length order → slice_index order i < length nets
-  pub at : (i : ℕ) → i < length order → rank (slice_index order i) ≡ i
-  pub all : (k : ℕ) → k < length nets → rank k < length order
-  pub each : (k : ℕ) → k < length nets → slice_index order (rank k) ≡ k
-  pub ranked : IsRanked nets rank
 
 -- the state is one of this netlist
 pub record IsStateOf (netlist : Circuit) (state : State) : Type 0 where

@@ -9,11 +9,11 @@ ghost use Rattle.hw_net.specs.Operation.{arity};
 ghost use Rattle.hw_net.specs.Netlist.{IsNetlist, IsKind, HasWord, HasBits, HasParts};
 ghost use Rattle.hw_net.specs.Netlist.{HoldsProducts, IsInput, reads};
 
-use crate::order::is_ranked;
 use crate::timing::first_count;
 use fx_io::OutOfMemory;
 use fx_num::{fits, highest, is_word, lowest};
 use hw_net::{Frame, Net, NetKind, NetOp, NetPort, Netlist, arity};
+use hw_order::is_ranked;
 use std::alloc::Global;
 
 /// Whether all nets have words.

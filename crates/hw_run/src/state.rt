@@ -1,13 +1,14 @@
 ghost use Rattle.std.specs.Prelude.{◌≡◌, ◌+◌, ◌^◌, ◌<◌, length, All, IfOk};
 ghost use Rattle.hw_net.specs.Netlist.{IsNetlist};
 ghost use Rattle.hw_run.specs.inner.Running.{CanStep};
-ghost use Rattle.hw_run.specs.State.{State, IsOrder, IsStateOf, row_of};
+ghost use Rattle.hw_run.specs.State.{State, IsStateOf, row_of};
+ghost use Rattle.hw_order.specs.Order.{IsOrder};
 ghost use Rattle.hw_net.specs.Step.{Goes};
 
-use crate::order::order_of;
 use crate::stepping::net_value;
 use fx_io::OutOfMemory;
 use hw_net::Netlist;
+use hw_order::order_of;
 use std::alloc::Global;
 use std::marker::Model;
 use std::mem;

@@ -8,9 +8,9 @@ use crate::keeping::keep;
 use crate::spreading::needed;
 use fx_io::OutOfMemory;
 use hw_net::Netlist;
+use hw_order::{rows_are_one, rows_are_there};
 use hw_refine::drops_refine;
 use hw_renumber::{renumbered, renumbered_emits, renumbered_runs};
-use hw_run::{rows_are_one, rows_are_there};
 use std::alloc::Global;
 
 /// The netlist of the nets that are marked.

@@ -1,0 +1,4 @@
+pub mod Exists
+pub mod Ordering
+pub mod Same
+pub mod Unique

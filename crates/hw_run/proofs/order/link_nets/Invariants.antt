@@ -1,5 +1,0 @@
-use Rattle.hw_run.specs.inner.Ordering.{IsLinked}
-use Rattle.hw_run.proofs.order.link_nets.Given as goal
-
-abbrev pub invariant-loop-k : goal.invariant-loop-k
-invariant-loop-k l = IsLinked l.nets l.readers l.k
