@@ -1,6 +1,5 @@
-pub mod Counters
 pub mod Kept
 pub mod Marked
-pub mod Moving
 pub mod Result
 pub mod Trimmed
+pub mod Unmultiplied

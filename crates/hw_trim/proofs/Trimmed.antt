@@ -1,5 +1,5 @@
 -- The netlist of what must stay stands in the place of the whole.
-use Rattle.std.proofs.Common.{◌≡◌, ℕ, zero, suc, ◌+◌, ◌<◌, ◌≤◌, List, [], ◌∷◌, ◌++◌, map, flat_map, length, All, Contains, Option, None, Some, IsSome, Bool, true, false, slice_get, slice_index, slice_index_or, get_or, append-nil, refl, ap, sym, ◌∙◌, subst, arith}
+use Rattle.std.proofs.Common.{◌≡◌, ℕ, zero, suc, ◌+◌, ◌<◌, ◌≤◌, List, [], ◌∷◌, ◌++◌, map, flat_map, length, All, Contains, Option, None, Some, IsSome, Bool, true, false, slice_get, slice_index, slice_index_or, append-nil, refl, ap, sym, ◌∙◌, subst, arith}
 use Rattle.std.specs.List.{AllZip}
 use Rattle.std.proofs.lemmas.Grind.{flat_map-append}
 use Rattle.std.proofs.lemmas.List.{map-append}
@@ -8,16 +8,12 @@ use Rattle.hw_net.specs.declared.netlist.Frame.{Frame}
 use Rattle.hw_net.specs.declared.netlist.Net.{Net}
 use Rattle.hw_net.specs.declared.netlist.NetLabel.{NetLabel}
 use Rattle.hw_net.specs.declared.netlist.NetPort.{NetPort}
-use Rattle.hw_net.specs.declared.netlist.NetOp.{NetOp}
-use Rattle.hw_net.specs.declared.netlist.NetOp.TheVariants.{Input, Const, Resize, ShiftUp, ShiftDown, Add, Subtract, Negate, Multiply, And, Or, Xor, Not, Less, Equal, Choose, Slice}
 use Rattle.hw_net.specs.declared.netlist.NetKind.{NetKind}
-use Rattle.hw_net.specs.declared.netlist.NetKind.TheVariants.{Comb, Reg, EnReg, Bridge, Unit, Counter}
 use Rattle.hw_net.specs.Circuit.{Circuit}
 use Rattle.hw_net.specs.Emittable.{IsEmittable}
 use Rattle.hw_net.specs.Frames.{counted_frame, counter_of, frame_of}
 use Rattle.hw_net.specs.Netlist.{IsKind, IsNetlist, reads, reads_now}
-use Rattle.hw_net.specs.Operation.{arity}
-use Rattle.hw_net.specs.Products.{Product, comb_product, net_at, no_net, op_product, places, products_of, unit_product}
+use Rattle.hw_net.specs.Products.{Product, net_at, no_net, places, products_of}
 use Rattle.hw_refine.specs.Drops.{Drops, IsKept}
 use Rattle.hw_refine.specs.Redirects.{redirected}
 use Rattle.hw_refine.specs.Refines.{IsReadBy, KeepsLabel, face, held, held_count}
@@ -25,10 +21,10 @@ use Rattle.hw_refine.proofs.Lists.{by-place, combs-in, found, map-get, products-
 use Rattle.hw_renumber.specs.Renumbered.{moved_label, moved_net, moved_nets, moved_port, renumbered}
 use Rattle.hw_renumber.specs.Sound.{CanStay, IsCounted, IsStanding}
 use Rattle.hw_renumber.proofs.Sound.{all-at, all-in, image, map-has, reads-moved}
+use Rattle.hw_renumber.proofs.Products.{comb-zip, counter-at, further, held-append, held-moved, now-read, ones, unit-zip, zip-map}
 use Rattle.hw_trim.specs.inner.Keeping.{kept_of}
 use Rattle.hw_trim.specs.inner.Marking.{IsNeeded, is_marked, multiplies}
-use Rattle.hw_trim.proofs.Counters.{counter-at}
-use Rattle.hw_trim.proofs.Moving.{further, zip-map, now-read, held-moved, held-append, ones, no-unit, no-comb}
+use Rattle.hw_trim.proofs.Unmultiplied.{no-unit, no-comb}
 use Rattle.hw_trim.proofs.Kept.{kept-at, kept-is, kept-no, kept-yes}
 
 module _ (old : Circuit) (runs : IsNetlist old) (emits : IsEmittable old) (marks : List Bool) (needed : IsNeeded old marks) (place : ℕ → ℕ) (counted : (k : ℕ) → k < length old.nets → place k ≡ length (kept_of marks k)) where
@@ -187,47 +183,6 @@ module _ (old : Circuit) (runs : IsNetlist old) (emits : IsEmittable old) (marks
   abbrev Both : Product → Product → Type 0
   Both was is = IsKept new place back was.left is.left × IsKept new place back was.right is.right
 
-  unit-zip : (w v : ℕ) (kind : NetKind) → ((read : ℕ) → Contains (reads kind) read → On read) → AllZip Both (unit_product w kind) (unit_product v (redirected place kind))
-  unit-zip w v (Comb op args) on = tt
-  unit-zip w v (Reg frame slot first from) on = tt
-  unit-zip w v (EnReg frame enable reset first from) on = tt
-  unit-zip w v (Bridge frame live from) on = tt
-  unit-zip w v (Unit left right) on = ((kept-on left (on left (0, omega arith, refl)), kept-on right (on right (1, omega arith, refl))), tt)
-  unit-zip w v (Counter frame) on = tt
-
-  factors-zip : (args : List ℕ) → length args ≡ 2 → ((read : ℕ) → Contains args read → On read)
-      → IsKept new place back (get_or args 0 0) (get_or (map place args) 0 0) × IsKept new place back (get_or args 1 0) (get_or (map place args) 1 0)
-  factors-zip [] e on = absurd (omega (arith, e))
-  factors-zip (x ∷ []) e on = absurd (omega (arith, e))
-  factors-zip (x ∷ y ∷ rest) e on = (kept-on x (on x (0, omega arith, refl)), kept-on y (on y (1, omega arith, refl)))
-
-  op-zip : (w v : ℕ) (args : List ℕ) (op : NetOp) → length args ≡ arity op → ((read : ℕ) → Contains args read → On read) → AllZip Both (op_product w args op) (op_product v (map place args) op)
-  op-zip w v args (Input number) e on = tt
-  op-zip w v args (Const value) e on = tt
-  op-zip w v args Resize e on = tt
-  op-zip w v args (ShiftUp places) e on = tt
-  op-zip w v args (ShiftDown places) e on = tt
-  op-zip w v args Add e on = tt
-  op-zip w v args Subtract e on = tt
-  op-zip w v args Negate e on = tt
-  op-zip w v args Multiply e on = (factors-zip args e on, tt)
-  op-zip w v args And e on = tt
-  op-zip w v args Or e on = tt
-  op-zip w v args Xor e on = tt
-  op-zip w v args Not e on = tt
-  op-zip w v args Less e on = tt
-  op-zip w v args Equal e on = tt
-  op-zip w v args Choose e on = tt
-  op-zip w v args (Slice high low) e on = tt
-
-  comb-zip : (w v u : ℕ) (s : Bool) (kind : NetKind) → IsKind old.nets old.cycles (length old.inputs) u s kind → ((read : ℕ) → Contains (reads kind) read → On read) → AllZip Both (comb_product w kind) (comb_product v (redirected place kind))
-  comb-zip w v u s (Comb op args) is on = op-zip w v args op is.0 on
-  comb-zip w v u s (Reg frame slot first from) is on = tt
-  comb-zip w v u s (EnReg frame enable reset first from) is on = tt
-  comb-zip w v u s (Bridge frame live from) is on = tt
-  comb-zip w v u s (Unit left right) is on = tt
-  comb-zip w v u s (Counter frame) is on = tt
-
   module _ (f : Net → List Product) (each : (k : ℕ) → On k → AllZip Both (f (net_at old.nets k)) (f (moved k))) (none : (k : ℕ) → k < length old.nets → is_marked marks k ≡ false → f (net_at old.nets k) ≡ []) where
     abbrev before : ℕ → List Product
     before n = flat_map (λ k. f (net_at old.nets k)) (places n)
@@ -262,10 +217,10 @@ module _ (old : Circuit) (runs : IsNetlist old) (emits : IsEmittable old) (marks
 
   factors : AllZip Both (products_of old) (products_of new)
   factors =
-      let units = zip-until units-in (λ k on. unit-zip (net_at old.nets k).width (net_at old.nets k).width (net_at old.nets k).kind (λ read c. reads-on k read on c))
+      let units = zip-until units-in (λ k on. unit-zip place (IsKept new place back) (net_at old.nets k).width (net_at old.nets k).width (net_at old.nets k).kind (λ read c. kept-on read (reads-on k read on c)))
       (λ k below absent. no-unit (net_at old.nets k).width (net_at old.nets k).kind (no-multiply k below absent)) (length old.nets) (omega arith) in
-      let combs = zip-until combs-in (λ k on. comb-zip (net_at old.nets k).width (net_at old.nets k).width (net_at old.nets k).width (net_at old.nets k).signed (net_at old.nets k).kind
-      (all-at (λ (n : Net). IsKind old.nets old.cycles (length old.inputs) n.width n.signed n.kind) old.nets runs.kinds k (net_at old.nets k) (net-there k on)) (λ read c. reads-on k read on c))
+      let combs = zip-until combs-in (λ k on. comb-zip place (IsKept new place back) (net_at old.nets k).width (net_at old.nets k).width old.nets old.cycles (length old.inputs) (net_at old.nets k).width (net_at old.nets k).signed (net_at old.nets k).kind
+      (all-at (λ (n : Net). IsKind old.nets old.cycles (length old.inputs) n.width n.signed n.kind) old.nets runs.kinds k (net_at old.nets k) (net-there k on)) (λ read c. kept-on read (reads-on k read on c)))
       (λ k below absent. no-comb (net_at old.nets k).width (net_at old.nets k).kind (no-multiply k below absent)) (length old.nets) (omega arith) in
       subst (AllZip Both (products_of old)) (sym (products-are new)) (zip-append Both _ (flat_map units-in new.nets) _ (flat_map combs-in new.nets) units combs)
 

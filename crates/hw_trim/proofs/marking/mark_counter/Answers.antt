@@ -1,5 +1,5 @@
 use Rattle.std.proofs.Common.{sym, ◌∙◌, arith}
-use Rattle.hw_trim.proofs.Counters.{counter-below}
+use Rattle.hw_renumber.proofs.Products.{counter-below}
 use Rattle.hw_trim.proofs.marking.mark_counter.Goals as goal
 
 pub mark-requires-clause-there : goal.mark-requires-clause-there
