@@ -1,6 +1,7 @@
 ghost use Rattle.std.specs.Prelude.{IfOk, flat_map};
 ghost use Rattle.fx_generated.specs.Generating.{IsPlanOn, IsTextOf, IsVerilogModule, IsWrittenOf};
 ghost use Rattle.fx_generated.specs.Streaming.{IsCoreOf};
+ghost use Rattle.hw_build.specs.Built.{IsBuiltBy};
 ghost use Rattle.vl_ast.specs.Grammar.{Spells};
 ghost use Rattle.vl_ast.specs.Spelling.{spelling};
 
@@ -9,9 +10,10 @@ use fx_designed::{DesignFault, designed_of};
 use fx_io::{OpenGate, OutOfMemory, Text};
 use hw_build::build;
 use hw_module::module_of;
-use hw_refine::refines_itself;
+use hw_net::Netlist;
 use hw_rules::Planned;
 use hw_sched::SizeFault;
+use hw_tidy::tidy;
 use std::alloc::Global;
 use std::thread::Threads;
 use vl_ast::Module;
@@ -32,16 +34,33 @@ pub fn made_of(alloc: Global, checked: &Checked, planned: &Planned) -> Result<Mo
         Err(SizeFault::Size { .. }) => unreachable!(),
         Err(SizeFault::OutOfMemory) => return Err(OutOfMemory),
     };
-    refines_itself();
+    let made = tidied_module(alloc, checked, planned, &netlist);
+    netlist.discard();
+    made
+}
+
+/// The module of a built netlist, whose nets the passes of `hw_tidy` went over.
+fn tidied_module(
+    alloc: Global,
+    checked: &Checked,
+    planned: &Planned,
+    netlist: &Netlist,
+) -> Result<Module, OutOfMemory>
+    requires plan { IsPlanOn checked.now.diagram planned.now }
+    requires built { IsBuiltBy checked.now.diagram planned.now.resolved planned.now.times.latencies
+        planned.now.times.slots netlist.now }
+    ensures { IfOk result (IsCoreOf checked.now.diagram planned.now.resolved planned.now.times) }
+{
+    let tidied = tidy(alloc, netlist)?;
     let made = module_of(
         alloc,
         checked,
         &planned.resolved,
         &planned.times.latencies,
         &planned.times.slots,
-        &netlist,
+        &tidied,
     );
-    netlist.discard();
+    tidied.discard();
     made
 }
 

@@ -1,7 +1,7 @@
 //! Rows, one after another.
 
 use crate::answers;
-use crate::comparing::put_comparison;
+use crate::comparing::{Asked, put_comparison};
 use anyhow::{Error, Result};
 use std::alloc::Global;
 use std::io::Write;
@@ -37,8 +37,12 @@ impl Case {
         put_words(row.words.as_slice(), out)?;
         let (model, plan) = (row.text.as_slice(), self.plan.as_slice());
         match row.command {
-            "built" => put_comparison(alloc, model, plan, Some(self.stimulus.as_slice()), out),
-            "held" => put_comparison(alloc, model, plan, None, out),
+            "built" => {
+                let asked = Asked::Run(self.stimulus.as_slice());
+                put_comparison(alloc, model, plan, asked, out)
+            }
+            "held" => put_comparison(alloc, model, plan, Asked::Held, out),
+            "tidied" => put_comparison(alloc, model, plan, Asked::Tidied, out),
             "scheduled" => answers::answer(alloc, model, plan, out),
             _ => Err(Error::msg("no command")),
         }

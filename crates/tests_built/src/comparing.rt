@@ -1,5 +1,6 @@
 //! What is printed of a model by a plan.
 ghost use Rattle.dg_model.specs.PlanOf.{IsPlanOf};
+ghost use Rattle.hw_net.specs.Emittable.{IsEmittable};
 ghost use Rattle.hw_net.specs.Netlist.{IsNetlist};
 ghost use Rattle.hw_rules.specs.Times.{AreTimes};
 
@@ -11,22 +12,33 @@ use fx_designed::{DesignFault, Designed, designed_of};
 use hw_build::build;
 use hw_net::{Net, NetKind, Netlist};
 use hw_run::is_netlist;
+use hw_tidy::tidy;
 use std::alloc::Global;
 use std::io::Write;
 use tests_rows::write_result;
 
-/// Prints the rule that a model by a plan breaks, or what its netlist shows under a stimulus;
-/// without one, how many registers and Counters it has.
+/// What is asked of a netlist.
+#[derive(Clone, Copy)]
+pub enum Asked<'a> {
+    /// What it shows under a stimulus, as it is built and as it is tidied.
+    Run(&'a [u8]),
+    /// How many registers and Counters it has.
+    Held,
+    /// How many nets it has, and how many it has when it is tidied.
+    Tidied,
+}
+
+/// Prints the rule that a model by a plan breaks, or what is asked of its netlist.
 pub fn put_comparison<W: Write>(
     alloc: Global,
     model: &[u8],
     plan: &[u8],
-    stimulus: Option<&[u8]>,
+    asked: Asked<'_>,
     out: &mut W,
 ) -> Result<()> {
     match designed_of(alloc, model, plan) {
         Ok(designed) => {
-            let put = put_designed(alloc, &designed, stimulus, out);
+            let put = put_designed(alloc, &designed, asked, out);
             drop(designed);
             put
         }
@@ -37,7 +49,7 @@ pub fn put_comparison<W: Write>(
 fn put_designed<W: Write>(
     alloc: Global,
     designed: &Designed,
-    stimulus: Option<&[u8]>,
+    asked: Asked<'_>,
     out: &mut W,
 ) -> Result<()>
     requires plan { IsPlanOf designed.now.checked.diagram designed.now.planned.resolved }
@@ -53,7 +65,7 @@ fn put_designed<W: Write>(
         &plan.times.slots,
     ) {
         Ok(netlist) => {
-            let put = put_netlist(alloc, designed, &netlist, stimulus, out);
+            let put = put_built(alloc, designed, &netlist, asked, out);
             drop(netlist);
             put
         }
@@ -61,19 +73,37 @@ fn put_designed<W: Write>(
     }
 }
 
-fn put_netlist<W: Write>(
+fn put_built<W: Write>(
     alloc: Global,
     designed: &Designed,
     netlist: &Netlist,
-    stimulus: Option<&[u8]>,
+    asked: Asked<'_>,
+    out: &mut W,
+) -> Result<()>
+    requires runs { IsNetlist netlist.now }
+    requires emittable { IsEmittable netlist.now }
+{
+    let tidied = tidy(alloc, netlist)?;
+    let put = put_netlists(alloc, designed, netlist, &tidied, asked, out);
+    drop(tidied);
+    put
+}
+
+fn put_netlists<W: Write>(
+    alloc: Global,
+    designed: &Designed,
+    netlist: &Netlist,
+    tidied: &Netlist,
+    asked: Asked<'_>,
     out: &mut W,
 ) -> Result<()> {
-    if !is_netlist(alloc, netlist)? {
+    if !is_netlist(alloc, netlist)? || !is_netlist(alloc, tidied)? {
         return Err(Error::msg("a netlist can't be run"));
     }
-    match stimulus {
-        Some(stimulus) => put_run(alloc, designed, netlist, stimulus, out),
-        None => put_held(netlist, out),
+    match asked {
+        Asked::Run(stimulus) => put_run(alloc, designed, netlist, tidied, stimulus, out),
+        Asked::Held => put_held(netlist, out),
+        Asked::Tidied => put_sizes(netlist, tidied, out),
     }
 }
 
@@ -81,31 +111,62 @@ fn put_run<W: Write>(
     alloc: Global,
     designed: &Designed,
     netlist: &Netlist,
+    tidied: &Netlist,
     stimulus: &[u8],
     out: &mut W,
 ) -> Result<()>
-    requires { IsNetlist netlist.now }
+    requires built { IsNetlist netlist.now }
+    requires tidied { IsNetlist tidied.now }
 {
     let simulated = simulate(alloc, &designed.checked, stimulus)?;
-    let put = put_simulated(alloc, designed, netlist, &simulated, out);
+    let put = put_simulated(alloc, designed, netlist, tidied, &simulated, out);
     drop(simulated);
     put
 }
 
-/// Prints what the netlist of a design shows beside a simulation.
+/// Prints what the netlist of a design shows beside a simulation, as it is built, and where it shows
+/// something else when it is tidied, that too.
 fn put_simulated<W: Write>(
     alloc: Global,
     designed: &Designed,
     netlist: &Netlist,
+    tidied: &Netlist,
     simulated: &Simulated,
     out: &mut W,
 ) -> Result<()>
-    requires { IsNetlist netlist.now }
+    requires built { IsNetlist netlist.now }
+    requires tidied { IsNetlist tidied.now }
 {
     put_inputs(netlist, out)?;
+    let tallies = shown_of(alloc, designed, netlist, simulated)?;
+    put_outputs(netlist, tallies.as_slice(), out)?;
+    let others = shown_of(alloc, designed, tidied, simulated)?;
+    if tallies == others {
+        return Ok(());
+    }
+    out.write_all(b"tidied\n")?;
+    put_outputs(tidied, others.as_slice(), out)
+}
+
+/// What each output of a netlist of a design showed beside a simulation.
+fn shown_of(
+    alloc: Global,
+    designed: &Designed,
+    netlist: &Netlist,
+    simulated: &Simulated,
+) -> Result<Vec<Tally>>
+    requires { IsNetlist netlist.now }
+{
     let windows = windows_of(alloc, designed, netlist)?;
-    let tallies = tallies_of(alloc, simulated, netlist, windows.as_slice())?;
-    put_outputs(netlist, tallies.as_slice(), out)
+    tallies_of(alloc, simulated, netlist, windows.as_slice())
+}
+
+/// Prints how many nets a netlist has before and after.
+fn put_sizes<W: Write>(netlist: &Netlist, tidied: &Netlist, out: &mut W) -> Result<()> {
+    let nets = netlist.nets().len();
+    let left = tidied.nets().len();
+    let held = held_of(tidied.nets());
+    write_result(writeln!(out, "nets {nets} tidied {left} held {held}"))
 }
 
 /// Prints how many registers and Counters a netlist has.

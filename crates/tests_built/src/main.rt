@@ -8,12 +8,13 @@
 //! |---|---|
 //! | `plan NAME` | the text, with the parts of the row exchanged, is the plan from here on |
 //! | `stimulus NAME` | the text is the stimulus from here on |
-//! | `built NAME WORD ..` | the text is a model, whose netlist by the plan is stepped under the stimulus |
+//! | `built NAME WORD ..` | the text is a model, whose netlist by the plan is stepped under the stimulus, as it is built and as it is tidied |
 //! | `held NAME WORD ..` | the text is a model, in whose netlist by the plan registers and Counters are counted |
+//! | `tidied NAME WORD ..` | the text is a model, whose nets by the plan are counted, as it is built and as it is tidied |
 //! | `scheduled NAME WORD ..` | the text is a model, whose schedule by the plan is told |
 //!
-//! The words of the last three are printed as they stand, without their parts, and then the rule that
-//! is broken, how many registers and Counters there are, the schedule, or of each input port its name, and of each
+//! The words of the last four are printed as they stand, without their parts, and then the rule that
+//! is broken, how many registers and Counters there are, how many nets there were, are left and hold numbers, the schedule, or of each input port its name, and of each
 //! output port its name, its declared latency and how many numbers, of all that it showed in the
 //! windows of its hits, were equal to those of the simulation.
 //!

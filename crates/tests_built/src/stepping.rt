@@ -11,7 +11,7 @@ use std::alloc::Global;
 
 /// How many numbers an output showed in its windows, and how many of them were equal to those of the
 /// simulation.
-#[derive(Clone, Copy)]
+#[derive(Clone, Copy, PartialEq, Eq)]
 pub struct Tally {
     pub equal: u64,
     pub seen: u64,

@@ -1,7 +1,7 @@
 //! Rows, one after another.
 
 use crate::lines::{put_chain, put_line};
-use crate::modules::{put_items, put_module, put_spelled};
+use crate::modules::{put_items, put_module, put_spelled, tidied};
 use crate::nets::{connect, frame_of, put_label, put_net, put_output, put_port, put_sums};
 use crate::reading::told_in;
 use crate::shared::put_units;
@@ -40,6 +40,7 @@ enum Command {
     Label,
     Connect,
     Sums,
+    Tidy,
     Inputs,
     Parts,
     Put,
@@ -70,6 +71,7 @@ fn command_of(row: &Row<'_>) -> Result<Command> {
             ("label", Command::Label),
             ("connect", Command::Connect),
             ("sums", Command::Sums),
+            ("tidy", Command::Tidy),
             ("inputs", Command::Inputs),
             ("chain", Command::Parts),
             ("line", Command::Parts),
@@ -131,6 +133,7 @@ impl Bench {
             Command::Label => put_label(alloc, &mut self.netlist, row),
             Command::Connect => connect(alloc, &mut self.netlist, row),
             Command::Sums => put_sums(alloc, &mut self.netlist, row),
+            Command::Tidy => self.tidy(alloc),
             Command::Inputs => self.take_inputs(alloc, text),
             Command::Parts => self.put_parts(alloc, row),
             Command::Put => self.put(row),
@@ -151,6 +154,12 @@ impl Bench {
     /// Takes the numbers of a text as those of the inputs.
     fn take_inputs(&mut self, alloc: Global, text: &[u8]) -> Result<()> {
         self.inputs = told_in(alloc, text, 1)?;
+        Ok(())
+    }
+
+    /// Has the passes go over the netlist.
+    fn tidy(&mut self, alloc: Global) -> Result<()> {
+        self.netlist = tidied(alloc, &self.netlist)?;
         Ok(())
     }
 

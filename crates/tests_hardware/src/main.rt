@@ -14,6 +14,7 @@
 //! | `connect = NET ARGUMENT` | gives a `resize` its argument |
 //! | `counter = FRAME` | prints the number and the width of the frame's Counter |
 //! | `sums = COUNT` | so many nets more, sums and registers in turn, the first of nets 0 and 0 |
+//! | `tidy =` | has the passes go over the netlist, which has neither ports nor labels |
 //! | `sound =` | prints whether the netlist can be run |
 //! | `size =` | prints how many nets, ports, labels, registers and Units there are, and answers |
 //! | `inputs NAME` | the text has the numbers of the inputs, clock by clock |

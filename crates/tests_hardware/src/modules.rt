@@ -7,6 +7,7 @@ use anyhow::{Error, Result};
 use fx_io::{OpenGate, Text};
 use hw_net::{NetKind, Netlist};
 use hw_run::is_netlist;
+use hw_tidy::tidy;
 use std::alloc::Global;
 use std::io::Write;
 use std::thread::Threads;
@@ -47,6 +48,14 @@ fn is_bare(netlist: &Netlist) -> bool
         return false;
     }
     netlist.labels().is_empty()
+}
+
+/// The netlist that the passes make of one.
+pub fn tidied(alloc: Global, netlist: &Netlist) -> Result<Netlist> {
+    if !is_netlist(alloc, netlist)? || !is_bare(netlist) {
+        return Err(Error::msg("the netlist has no module"));
+    }
+    Ok(tidy(alloc, netlist)?)
 }
 
 fn module_of(alloc: Global, netlist: &Netlist) -> Result<Module> {
