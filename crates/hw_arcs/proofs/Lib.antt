@@ -4,6 +4,8 @@ mod Taking
 mod Chains
 mod WayBack
 mod Rings
+mod Waits
+mod Places
 mod Stepping
 mod Zero
 mod Closing

@@ -1,12 +1,13 @@
 -- A relaxation's steps: what it begins with, a block that is taken from the queue, and what stands when none is left.
 use Rattle.std.proofs.Common.{◌≡◌, ℕ, zero, suc, ◌+◌, ◌<◌, ◌≤◌, Bool, true, false, cond, List, [], ◌∷◌, ◌++◌, length, drop, get_or, replicate, inl, inr, ⊎_elim, refl, sym, ap, subst, ◌∙◌, arith}
-use Rattle.std.specs.Prelude.{slice_get, slice_set, Some, None, Option, ◌⊎◌, nat_lt}
+use Rattle.std.specs.Prelude.{slice_get, Some, None, Option, ◌⊎◌, nat_lt}
 use Rattle.std.proofs.lemmas.Bool.{cases_eq, cases_lt, false≢true, ltb-true, ltb-false}
 use Rattle.std.proofs.lemmas.List.{length-set, length-replicate, get_or-replicate, drop_more}
 use Rattle.std.proofs.lemmas.Option.{none-some, same_Some, slice_get_within, slice_get-get_or, get_or_from_slice_get}
 use Rattle.hw_arcs.specs.declared.arc.Arc.{Arc}
 use Rattle.hw_arcs.specs.Latencies.{latency_at, IsFeasible}
 use Rattle.hw_arcs.specs.Found.{IsIn, IsWhole, AreKnown, AreLeast}
+use Rattle.hw_arcs.specs.inner.Parts.{IsTakenFrom}
 use Rattle.hw_arcs.specs.inner.State.{State, label_of, taken, relaxed, begun, popped, IsState, AreSettled, AreWithin, work_of, AreCounted, AreRows, AreRowsOf, IsRowEnd, IsStepOn}
 use Rattle.fx_io.specs.Rows.{noted, row_at}
 use Rattle.fx_io.proofs.Places.{get_left, last_at, push_cases}
@@ -96,10 +97,9 @@ row_looked arcs count limit s now after row i d known counted inside is on =
 
 -- ---- a block of the queue
 
-pub pop_state : (arcs : List Arc) (count block : ℕ) (rest : List ℕ) (s after : State) → IsState arcs count s → s.queue ≡ block ∷ rest → after ≡ record { lat = s.lat; tight = s.tight; pending = slice_set s.pending block false; queue = rest } → IsState arcs count after
-pop_state arcs count block rest s after state queue is =
-    let first : slice_get s.queue 0 ≡ Some block = ap (λ (q : List ℕ). slice_get q 0) queue in
-    let there = state.inside 0 block first in
+pub pop_state : (arcs : List Arc) (count block : ℕ) (rest : List ℕ) (s after : State) → IsState arcs count s → IsTakenFrom s.queue block rest → after ≡ popped s block rest → IsState arcs count after
+pop_state arcs count block rest s after state takes is =
+    let there = state.inside takes.here.place block takes.here.at in
     let pending = state.pending in
     let marks = set_moves s.pending block false false (omega (arith, pending, there)) in
     rw is record {
@@ -108,25 +108,21 @@ pop_state arcs count block rest s after state queue is =
       labels = state.labels;
       queued = λ b is_it. ⊎_elim
           (λ (e : block ≡ b). absurd (false≢true (sym (marks.same b e) ∙ is_it)))
-          (λ (differs : block ≡ b → ⊥).
-          let old = state.queued b (sym (marks.other b differs) ∙ is_it) in
-          later b differs old.place (ap (λ (q : List ℕ). slice_get q old.place) (sym queue) ∙ old.at))
+          (λ (differs : block ≡ b → ⊥). ⊎_elim
+          (λ (e : block ≡ b). absurd (differs e))
+          (λ left. left)
+          (takes.keeps b (state.queued b (sym (marks.other b differs) ∙ is_it))))
           (cases_eq block b);
-      inside = λ place b at. state.inside (suc place) b (ap (λ (q : List ℕ). slice_get q (suc place)) queue ∙ at);
+      inside = λ place b at. let old = takes.of place b at in state.inside old.place b old.at;
     }
-  where
-    later : (b : ℕ) → (block ≡ b → ⊥) → (place : ℕ) → slice_get (block ∷ rest) place ≡ Some b → IsIn rest b
-    later b differs zero at = absurd (differs (same_Some block b at))
-    later b differs (suc place) at = record { place = place; at = at }
 
-pub pop_there : (arcs : List Arc) (count block : ℕ) (rest : List ℕ) (s : State) → IsState arcs count s → s.queue ≡ block ∷ rest → block < count
-pop_there arcs count block rest s state queue = state.inside 0 block (ap (λ (q : List ℕ). slice_get q 0) queue)
+pub pop_there : (arcs : List Arc) (count block : ℕ) (rest : List ℕ) (s : State) → IsState arcs count s → IsTakenFrom s.queue block rest → block < count
+pop_there arcs count block rest s state takes = state.inside takes.here.place block takes.here.at
 
-pub pop_settled : (arcs : List Arc) (count block : ℕ) (rest : List ℕ) (rows : List (List ℕ)) (s after : State) → IsState arcs count s → s.queue ≡ block ∷ rest → AreRows arcs count rows
-    → after ≡ record { lat = s.lat; tight = s.tight; pending = slice_set s.pending block false; queue = rest } → AreSettled arcs s [] → AreSettled arcs after (row_at rows block)
-pop_settled arcs count block rest rows s after state queue known is settled =
-    let first : slice_get s.queue 0 ≡ Some block = ap (λ (q : List ℕ). slice_get q 0) queue in
-    let there = state.inside 0 block first in
+pub pop_settled : (arcs : List Arc) (count block : ℕ) (rest : List ℕ) (rows : List (List ℕ)) (s after : State) → IsState arcs count s → IsTakenFrom s.queue block rest → AreRows arcs count rows
+    → after ≡ popped s block rest → AreSettled arcs s [] → AreSettled arcs after (row_at rows block)
+pop_settled arcs count block rest rows s after state takes known is settled =
+    let there = state.inside takes.here.place block takes.here.at in
     let pending = state.pending in
     let marks = set_moves s.pending block false false (omega (arith, pending, there)) in
     rw is record {
@@ -142,8 +138,8 @@ pop_settled arcs count block rest rows s after state queue known is settled =
           (settled.settled number arc at counts);
     }
 
-pub pop_work : (limit block : ℕ) (rest : List ℕ) (s after : State) → s.queue ≡ block ∷ rest → after ≡ record { lat = s.lat; tight = s.tight; pending = slice_set s.pending block false; queue = rest } → work_of limit after < work_of limit s
-pop_work limit block rest s after queue is = rw is (let long : length s.queue ≡ suc (length rest) = ap length queue in omega (arith, long))
+pub pop_work : (limit block : ℕ) (rest : List ℕ) (s after : State) → IsTakenFrom s.queue block rest → after ≡ popped s block rest → work_of limit after < work_of limit s
+pop_work limit block rest s after takes is = rw is (let less = takes.less in omega (arith, less))
 
 pub nothing_left : (arcs : List Arc) (count : ℕ) (s : State) → IsState arcs count s → s.queue ≡ [] → AreSettled arcs s [] → IsFeasible arcs s.lat
 nothing_left arcs count s state none settled = record {
@@ -158,14 +154,14 @@ nothing_left arcs count s state none settled = record {
 
 -- the row of a block was looked at
 pub step_on : (arcs : List Arc) (count limit block : ℕ) (rest : List ℕ) (s before after : State) (above : Option ℕ) → above ≡ None → IsRowEnd arcs limit count before after above
-    → before ≡ record { lat = s.lat; tight = s.tight; pending = slice_set s.pending block false; queue = rest } → IsState arcs count s → s.queue ≡ block ∷ rest → IsStepOn arcs count limit s after block
-step_on arcs count limit block rest s before after None none end popped state queue = record {
-  there = pop_there arcs count block rest s state queue;
+    → before ≡ popped s block rest → IsState arcs count s → IsTakenFrom s.queue block rest → IsStepOn arcs count limit s after block
+step_on arcs count limit block rest s before after None none end is state takes = record {
+  there = pop_there arcs count block rest s state takes;
   within = end.within;
   settled = end.settled;
-  work = let less = pop_work limit block rest s before queue popped in let more = end.work in omega (arith, less, more);
+  work = let less = pop_work limit block rest s before takes is in let more = end.work in omega (arith, less, more);
 }
-step_on arcs count limit block rest s before after (Some other) none end popped state queue = absurd (none-some other (sym none))
+step_on arcs count limit block rest s before after (Some other) none end is state takes = absurd (none-some other (sym none))
 
 -- ---- the beginning
 
@@ -224,6 +220,10 @@ begun_is arcs order count s known whole is =
       state = subst (λ n. IsState arcs n s) (sym size) (subst (λ (b : State). IsState arcs count b) (sym is) (begun_state arcs order count whole));
       settled = subst (λ (b : State). AreSettled arcs b []) (sym is) (begun_settled arcs order count known);
     }
+
+-- the same of blocks that were placed, over rows that are as many
+pub begun_by : (arcs : List Arc) (count : ℕ) (rows : List (List ℕ)) (blocks : List ℕ) (s : State) → AreKnown arcs count → length rows ≡ count → IsWhole blocks (length rows) → s ≡ begun blocks count → IsBegun arcs count s
+begun_by arcs count rows blocks s known size whole is = begun_is arcs blocks count s known (subst (IsWhole blocks) size whole) is
 
 pub within_more : (limit : ℕ) (s : State) → AreWithin 0 s → AreWithin limit s
 within_more limit s within = record { within = λ block. let w = within.within block in omega (arith, w) }

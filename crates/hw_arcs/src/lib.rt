@@ -9,9 +9,11 @@
 mod arc;
 mod found;
 mod laws;
+mod parts;
 mod relaxing;
 mod ring;
 mod solving;
+mod waiting;
 mod walking;
 
 pub use arc::{Arc, Arcs};

@@ -1,13 +1,15 @@
 ghost use Rattle.std.specs.Prelude.{◌≡◌, ◌+◌, ◌<◌, ◌≤◌, ◌^◌, [], IfOk, OnOk, length};
 ghost use Rattle.hw_arcs.specs.Latencies.{latency_at};
 ghost use Rattle.hw_arcs.specs.Found.{AreKnown};
+ghost use Rattle.hw_arcs.specs.inner.Parts.{blocks_of};
 ghost use Rattle.hw_arcs.specs.inner.State.{AreCounted, AreRows, AreSettled, AreWithin, begun};
 ghost use Rattle.hw_arcs.specs.inner.State.{IsRowEnd, IsState, IsStepEnd, relaxed, seen};
 
 use crate::arc::Arc;
+use crate::parts::Placed;
+use crate::waiting::Waiting;
 use fx_io::{OutOfMemory, Sizes};
 use std::alloc::Global;
-use std::collections::VecDeque;
 
 /// Latencies that rise until each arc is kept.
 #[derive(Drop)]
@@ -19,7 +21,7 @@ pub struct Relaxing {
     /// Whether a block is to be looked at.
     pub pending: Vec<bool>,
     /// The blocks that are to be looked at.
-    pub queue: VecDeque<u32>,
+    pub queue: Waiting,
 }
 
 /// How far a step came.
@@ -34,15 +36,15 @@ pub enum Step {
 }
 
 impl Relaxing {
-    /// Latencies of 0, and every block to be looked at in an order.
-    pub fn begin(alloc: Global, order: &[u32], count: usize) -> Result<Relaxing, OutOfMemory>
-        ensures { IfOk result (λ state. seen state ≡ begun order.now count) }
+    /// Latencies of 0, and every block to be looked at, the last part first.
+    pub fn begin(alloc: Global, placed: Vec<Placed>, count: usize) -> Result<Relaxing, OutOfMemory>
+        ensures { IfOk result (λ state. seen state ≡ begun (blocks_of placed.items) count) }
     {
         Ok(Relaxing {
             lat: vec![in alloc; 0; count]?,
             tight: vec![in alloc; None; count]?,
             pending: vec![in alloc; true; count]?,
-            queue: VecDeque::from_vec(Vec::from_slice(alloc, order)?),
+            queue: Waiting::new(alloc, placed),
         })
     }
 
@@ -62,7 +64,7 @@ impl Relaxing {
             self.lat[to] = label;
             self.tight[to] = Some(number);
             if !self.pending[to] {
-                self.queue.push_back(arc.to)?;
+                self.queue.push(arc.to)?;
             }
             self.pending[to] = true;
         }
@@ -113,7 +115,7 @@ impl Relaxing {
             IsStepEnd arcs.now (length self.old.lat.items) limit (seen self.old) (seen self.new)
             step) }
     {
-        let Some(block) = self.queue.pop_front() else {
+        let Some(block) = self.queue.pop()? else {
             return Ok(Step::Done);
         };
         self.pending[block as usize] = false;

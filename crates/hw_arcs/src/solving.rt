@@ -7,6 +7,7 @@ ghost use Rattle.hw_arcs.specs.inner.State.{AreRows, AreSettled, AreWithin, CanG
 
 use crate::arc::Arc;
 use crate::found::{Found, Gaining};
+use crate::parts::parts_of;
 use crate::relaxing::{Relaxing, Step};
 use crate::ring::{total_of, turn_back};
 use crate::walking::walk_back;
@@ -119,9 +120,10 @@ fn found_of(gaining: Option<Gaining>, state: Relaxing) -> Found
 }
 
 /// The least latencies that arcs leave, each above 0 with an arc that asks for it; or a cycle along
-/// which they gain, and which leaves none. Blocks are looked at in an order of theirs: its time is
-/// linear in the arcs where these lead forward in it, and the arcs times the longest way of
-/// latencies that rise at worst.
+/// which they gain, and which leaves none. Parts of blocks that lead to one another are settled one
+/// by one, behind all that lead to them: its time is linear in the arcs between parts, but for a
+/// sorting of the blocks, and within a part its arcs times the longest way of latencies that rise
+/// at worst. An order of the blocks says which of equal ways is told.
 pub fn latencies(
     alloc: Global,
     arcs: &[Arc],
@@ -134,8 +136,10 @@ pub fn latencies(
     requires whole { IsWhole order.now count }
     ensures { IfOk result (IsFound arcs.now count) }
 {
-    let rows = rows_of(alloc, arcs, count)?;
-    let mut state = Relaxing::begin(alloc, order, count)?;
-    let gaining = relax_all(alloc, arcs, rows.as_slice(), &mut state)?;
+    let table = rows_of(alloc, arcs, count)?;
+    let rows = table.as_slice();
+    let placed = parts_of(alloc, arcs, rows, order)?;
+    let mut state = Relaxing::begin(alloc, placed, count)?;
+    let gaining = relax_all(alloc, arcs, rows, &mut state)?;
     Ok(found_of(gaining, state))
 }

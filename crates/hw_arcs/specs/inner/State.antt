@@ -1,10 +1,11 @@
 -- The state of a relaxation, as lists, and what it keeps (own).
-use Rattle.std.specs.Prelude.{◌≡◌, ◌⊎◌, ℕ, ◌+◌, ◌-◌, ◌≤◌, ◌<◌, nat_lt, Bool, true, false, if◌then◌else◌, List, [], ◌∷◌, ◌++◌, length, drop, replicate, Option, Some, None, slice_get, slice_set, slice_index_or}
+use Rattle.std.specs.Prelude.{◌≡◌, ◌⊎◌, ℕ, ◌+◌, ◌-◌, ◌≤◌, ◌<◌, nat_lt, Bool, true, false, if◌then◌else◌, List, [], ◌∷◌, ◌++◌, length, replicate, Option, Some, None, slice_get, slice_set, slice_index_or}
 use Rattle.std.specs.List.{sum_by}
 use Rattle.fx_io.specs.Rows.{row_at}
 use Rattle.hw_arcs.specs.declared.arc.Arc.{Arc}
 use Rattle.hw_arcs.specs.declared.relaxing.Relaxing.{Relaxing}
 use Rattle.hw_arcs.specs.Latencies.{latency_at, IsFeasible}
+use Rattle.hw_arcs.specs.inner.Parts.{awaited}
 use Rattle.hw_arcs.specs.Found.{IsIn, AreKnown, most_joined_blocks}
 use Rattle.hw_arcs.specs.declared.relaxing.Step.{Step}
 use Rattle.hw_arcs.specs.declared.relaxing.Step.TheVariants.{Done, Settled, Above}
@@ -23,7 +24,7 @@ seen state =
       lat = state.lat.items;
       tight = state.tight.items;
       pending = state.pending.items;
-      queue = state.queue.items;
+      queue = awaited state.queue;
     }
 
 -- what an arc asks of the latency of its end
@@ -134,14 +135,14 @@ begun order count =
       queue = order;
     }
 
--- the first block of the queue is taken from it
-abbrev pub popped : State → ℕ → State
-popped s block =
+-- a block is taken from the queue, and these are left
+abbrev pub popped : State → ℕ → List ℕ → State
+popped s block rest =
     record {
       lat = s.lat;
       tight = s.tight;
       pending = slice_set s.pending block false;
-      queue = drop 1 s.queue;
+      queue = rest;
     }
 
 -- a step: nothing is left to do, or less

@@ -1,4 +1,4 @@
-use Rattle.std.proofs.Common.{◌≡◌, ◌∙◌, ℕ, List, Option, None, true, replicate, rules, refl}
+use Rattle.std.proofs.Common.{◌≡◌, ℕ, List, Option, None, true, replicate, rules, refl}
 use Rattle.hw_arcs.proofs.relaxing.Relaxing.begin.Goals as goal
 
 pub returns : goal.returns
@@ -6,5 +6,4 @@ returns c =
     let lat : c.in_ok-vec.field-0.items ≡ replicate c.args.count 0 = c.in_ok-vec.ensures.items_if_clones_equal (search rules) in
     let tight : ◌≡◌ {A = List (Option ℕ)} c.in_ok-vec-2.field-0.items (replicate c.args.count None) = c.in_ok-vec-2.ensures.items_if_clones_equal (search rules) in
     let pending : c.in_ok-vec-3.field-0.items ≡ replicate c.args.count true = c.in_ok-vec-3.ensures.items_if_clones_equal (search rules) in
-    let queue : c.from_vec.result.items ≡ c.args.order.now = c.from_vec.ensures.items ∙ c.in_ok-from_slice.ensures.items in
-    rw (lat, tight, pending, queue) refl
+    rw (lat, tight, pending, c.new.ensures) refl
