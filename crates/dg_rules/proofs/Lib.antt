@@ -1,5 +1,6 @@
 mod LineStates
 mod PlanLines
+mod PathEnds
 pub mod PlanOf
 mod OneRule
 mod TwoCycles

@@ -1,3 +1,4 @@
 -- What private contracts cite.
+pub mod Ends
 pub mod Lines
 pub mod Standings

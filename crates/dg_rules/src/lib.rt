@@ -7,6 +7,7 @@
 #![tactic(auto)]
 
 mod checking;
+mod ends;
 mod laws;
 mod lines;
 mod resolving;

@@ -1,5 +1,6 @@
-ghost use Rattle.std.specs.Prelude.{◌≡◌, ◌↔◌, ◌<◌, ℕ, ◌≢◌, IfOk, IfErr, IfSome, OnOk, Some, None, length, true, slice_get, slice_index_or};
+ghost use Rattle.std.specs.Prelude.{◌≡◌, ◌↔◌, ◌<◌, ℕ, ◌≢◌, List, IfOk, IfErr, IfSome, OnOk, Some, None, bytes_eq, length, position, true, slice_get, slice_index_or};
 ghost use Rattle.dg_model.specs.declared.diagram.Block.{Block};
+ghost use Rattle.dg_model.specs.declared.plan.Pipeline.{Pipeline as Line};
 ghost use Rattle.dg_model.specs.Attributes.{attributes_of};
 ghost use Rattle.dg_model.specs.Faults.{IsRefusal, fault_of};
 ghost use Rattle.dg_model.specs.declared.fault.Shown.TheVariants.{Nothing};
@@ -8,13 +9,15 @@ ghost use Rattle.dg_model.specs.Library.{row_of};
 ghost use Rattle.dg_model.specs.PlanNames.{MayBePipelined, KeepsPlan, BreaksPlan, IsResolved};
 ghost use Rattle.dg_model.specs.PlanOf.{IsPlanOf};
 ghost use Rattle.dg_model.specs.PlanRange.{IsPlanInRange, AreDifferent};
+ghost use Rattle.dg_rules.specs.inner.Ends.{HaveEnds};
 ghost use Rattle.dg_rules.specs.inner.Lines.{AreLines};
 ghost use Rattle.dg_rules.specs.inner.Standings.{looked_at, count_in, AllFound, IsWalked};
 ghost use Rattle.dg_rules.specs.declared.standing.Standing.TheVariants.{Unseen, Found};
 
+use crate::ends::Ends;
 use crate::lines::Lines;
 use crate::standing::{Standing, next, unseen};
-use dg_model::{CheckFault, Checked, Kind, Pipeline, Plan, Resolved, Rule, RuleFault, Shown};
+use dg_model::{CheckFault, Checked, Kind, Path, Pipeline, Plan, Resolved, Rule, RuleFault, Shown};
 use fx_io::{OutOfMemory, Sizes, Text};
 use std::alloc::Global;
 
@@ -55,6 +58,26 @@ fn look_at(
     pipelines[number].count
 }
 
+/// The number of the line of a path. It is spelled only where a line ends as it does.
+fn line_of(
+    lines: &Lines,
+    ends: &Ends,
+    path: &Path,
+    spelled: &mut Vec<u8>,
+) -> Result<Option<usize>, OutOfMemory>
+    ensures { IfOk result (λ number. (pipelines : List Line) → AreLines pipelines lines.now
+        → HaveEnds pipelines ends.now.by_bytes.entries
+        → number ≡ position (λ line. bytes_eq path.now line.path) pipelines) }
+{
+    let (_, name) = path.split();
+    if !ends.may_end(name) {
+        return Ok(None);
+    }
+    spelled.clear();
+    path.put(spelled)?;
+    Ok(lines.number(spelled))
+}
+
 /// What one walk over the blocks gives: how each line stands, and the registers behind each block.
 #[derive(Drop)]
 struct Walk {
@@ -68,20 +91,20 @@ fn look_at_all(
     checked: &Checked,
     plan: &Plan,
     lines: &Lines,
+    ends: &Ends,
 ) -> Result<Walk, OutOfMemory>
     requires different { AreDifferent plan.now.pipelines }
     requires lines { AreLines plan.now.pipelines lines.now }
+    requires ends { HaveEnds plan.now.pipelines ends.now.by_bytes.entries }
     ensures { IfOk result (λ walk. IsWalked checked.now.diagram plan.now walk) }
 {
     let pipelines = plan.pipelines.as_slice();
     let blocks = checked.diagram().blocks.as_slice();
     let mut standings = unseen(alloc, pipelines.len())?;
     let mut stages = Sizes::new(alloc);
-    let mut path = Vec::new(alloc);
+    let mut spelled = Vec::new(alloc);
     for place in 0..blocks.len() {
-        path.clear();
-        blocks[place].path.put(&mut path)?;
-        let number = lines.number(&path);
+        let number = line_of(lines, ends, &blocks[place].path, &mut spelled)?;
         let may = may_be_pipelined(checked, place);
         let count = look_at(pipelines, number, may, &mut standings);
         stages.push(count)?;
@@ -94,8 +117,10 @@ fn walk_of(alloc: Global, checked: &Checked, plan: &Plan) -> Result<Walk, OutOfM
     requires { AreDifferent plan.now.pipelines }
     ensures { IfOk result (λ walk. IsWalked checked.now.diagram plan.now walk) }
 {
-    let lines = Lines::of(alloc, plan.pipelines.as_slice())?;
-    look_at_all(alloc, checked, plan, &lines)
+    let pipelines = plan.pipelines.as_slice();
+    let lines = Lines::of(alloc, pipelines)?;
+    let ends = Ends::of(alloc, pipelines)?;
+    look_at_all(alloc, checked, plan, &lines, &ends)
 }
 
 /// The first line that isn't found, if there is one.

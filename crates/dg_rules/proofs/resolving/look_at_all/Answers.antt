@@ -8,8 +8,7 @@ use Rattle.dg_model.specs.Attributes.{attributes_of}
 use Rattle.dg_model.specs.PlanNames.{count_of}
 use Rattle.dg_rules.specs.declared.standing.Standing.{Standing}
 use Rattle.dg_rules.specs.inner.Standings.{AreStandings, looked_at, count_in}
-use Rattle.dg_rules.specs.inner.Lines.{number_of, paths_in}
-use Rattle.dg_rules.proofs.PlanLines.{number_is, count_is, has, within}
+use Rattle.dg_rules.proofs.PlanLines.{count_is, has, within}
 use Rattle.dg_rules.proofs.LineStates.{one_looked_at}
 use Rattle.dg_rules.proofs.resolving.look_at_all.Goals as goal
 
@@ -23,19 +22,15 @@ loop-place-preserved c =
     let below : place < length diagram.blocks = subst (λ (bs : List Block). place < length bs) blocks c.loop-place-test.true in
     let at : slice_get diagram.blocks place ≡ Some block =
     subst (λ (bs : List Block). slice_get bs place ≡ Some block) blocks (slice_get-get_or c.as_slice-blocks.result.now place _ c.loop-place-test.true ∙ ap Some (sym c.index-blocks-place.is)) in
-    let path : c.put.new.out.items ≡ block.path =
-    c.in_ok-put.ensures ∙ ap (λ (b : Block). c.clear.new.self.items ++ b.path) (sym c.index-blocks-place.is)
-    ∙ ap (λ (begun : List ℕ). begun ++ block.path) c.clear.ensures.items in
-    let number : c.number-number.result ≡ position (has block.path) plan.pipelines =
-    c.number-number.ensures ∙ ap (number_of (paths_in c.args.lines.now)) (c.deref.ensures.value ∙ path)
-    ∙ number_is (paths_in c.args.lines.now) plan.pipelines block.path c.requires.lines in
+    let number : c.in_ok-number.number ≡ position (has block.path) plan.pipelines =
+    c.in_ok-number.ensures plan.pipelines c.requires.lines c.requires.ends ∙ ap (λ (b : Block). position (has b.path) plan.pipelines) (sym c.index-blocks-place.is) in
     let more : suc place ≡ place + 1 = omega arith in
     let standings : AreStandings diagram (attributes_of diagram) (suc place) plan.pipelines (looked_at (position (has block.path) plan.pipelines) c.may_be_pipelined-may.result c.loop-place.standings.items) =
     one_looked_at diagram (attributes_of diagram) plan.pipelines place block c.may_be_pipelined-may.result c.loop-place.standings.items c.requires.different at (c.may_be_pipelined-may.ensures block at) c.loop-place.invariant.standings in
     let items : c.look_at-count.new.standings.items ≡ looked_at (position (has block.path) plan.pipelines) c.may_be_pipelined-may.result c.loop-place.standings.items =
     c.look_at-count.ensures.standings ∙ ap (λ (n : Option ℕ). looked_at n c.may_be_pipelined-may.result c.loop-place.standings.items) number in
     let count : c.look_at-count.result ≡ count_of plan block.path =
-    c.look_at-count.ensures.count ∙ ap (count_in c.number-number.result) c.as_slice-pipelines.ensures ∙ ap (λ (n : Option ℕ). count_in n plan.pipelines) number ∙ count_is plan block.path in
+    c.look_at-count.ensures.count ∙ ap (count_in c.in_ok-number.number) c.as_slice-pipelines.ensures ∙ ap (λ (n : Option ℕ). count_in n plan.pipelines) number ∙ count_is plan block.path in
     record {
       standings = subst (λ n. AreStandings diagram (attributes_of diagram) n plan.pipelines c.look_at-count.new.standings.items) more
           (subst (λ (s : List Standing). AreStandings diagram (attributes_of diagram) (suc place) plan.pipelines s) (sym items) standings);
@@ -65,8 +60,7 @@ returns c =
 pub look_at-count-requires-clause-within : goal.look_at-count-requires-clause-within
 look_at-count-requires-clause-within c = λ k at.
     let lines = c.args.plan.now.pipelines in
-    let path = c.deref.result.now in
-    rw c.as_slice-pipelines.ensures (within lines path k (sym (number_is (paths_in c.args.lines.now) lines path c.requires.lines) ∙ sym c.number-number.ensures ∙ at))
+    rw c.as_slice-pipelines.ensures (within lines _ k (sym (c.in_ok-number.ensures lines c.requires.lines c.requires.ends) ∙ at))
 
 pub may_be_pipelined-may-requires : goal.may_be_pipelined-may-requires
 may_be_pipelined-may-requires c =
