@@ -6,6 +6,7 @@ from layout import lay_out
 from library import taps_of
 from markup import plain
 from mdl import is_number, systems_of
+from routing import Area, Port, Routes
 
 SIGN = {"==": "=", "~=": "≠", "<": "<", "<=": "≤", ">=": "≥", ">": ">"}
 SMALL = {"Inport": (30, 14), "Outport": (30, 14), "Ground": (20, 20), "Terminator": (20, 20), "Sum": (30, 40), "Mux": (6, 60), "Demux": (6, 60), "EnablePort": (24, 20), "DiscreteFir": (60, 40)}
@@ -212,18 +213,6 @@ def offsets(section):
     return list(zip(found[::2], found[1::2]))
 
 
-def way_to(here, end, is_top):
-    """From where a line stands to a port, in horizontal and vertical steps."""
-    (x, y), (to_x, to_y) = here, end
-    if is_top:
-        return [(to_x, y), end]
-    if abs(y - to_y) < 0.6 or abs(x - to_x) < 0.6:
-        return [end]
-    if to_x > x:
-        return [((x + to_x) / 2, y), ((x + to_x) / 2, to_y), end]
-    return [(x, to_y), end]
-
-
 def arrow(target, port, end):
     """The head of a line at a port."""
     back = 6 if target.is_left else -6
@@ -232,9 +221,10 @@ def arrow(target, port, end):
     return f'<path d="M{sides[0][0]:g} {sides[0][1]:g}L{x:g} {y:g}L{sides[1][0]:g} {sides[1][1]:g}Z" class="dot"/>'
 
 
-def draw_way(section, here, boxes):
-    """A line or a branch from where it begins, with those that leave its end."""
-    parts, left = [], [(section, here)]
+def draw_way(section, source, boxes, routes):
+    """A line from its source, with the branches that leave its end."""
+    here = source.port(section.get("SrcPort", "1"), True)
+    parts, left, out = [], [(section, here)], -1 if source.is_left else 1
     while left:
         branch, begins = left.pop()
         points = [begins]
@@ -244,7 +234,8 @@ def draw_way(section, here, boxes):
         target = boxes.get(branch.get("DstBlock"))
         if target is not None:
             port = branch.get("DstPort", "1")
-            points += way_to(stands, target.port(port, False), not is_number(port))
+            side = 0 if not is_number(port) else 1 if target.is_left else -1
+            points += routes.way(stands, Port(target.port(port, False), side), out if stands == here else 0)
             parts.append(arrow(target, port, points[-1]))
         if len(points) > 1:
             parts.append('<path d="M' + "L".join(f"{x:g} {y:g}" for x, y in points) + '" class="line"/>')
@@ -259,12 +250,12 @@ def draw_panel(title, boxes, lines):
     """A system, and the room that it takes."""
     if not all(box.place for box in boxes):
         lines = lay_out(boxes, lines)
-    by_name = {box.name: box for box in boxes}
-    parts = []
+    by_name, parts = {box.name: box for box in boxes}, []
+    routes = Routes([Area(*box.place) for box in boxes])
     for line in lines:
         source = by_name.get(line.get("SrcBlock"))
         if source is not None:
-            parts += draw_way(line, source.port(line.get("SrcPort", "1"), True), by_name)
+            parts += draw_way(line, source, by_name, routes)
     for box in boxes:
         parts += draw_box(box)
     xs = [float(x) for part in parts for x in re.findall(r"[ML](-?[\d.]+) ", part)] + [x for box in boxes for x in box.place[::2]]
