@@ -58,8 +58,8 @@ class Bend:
     def size(self):
         return 0, 8
 
-    def port(self, _number, _is_output):
-        return self.place[0], (self.place[1] + self.place[3]) / 2
+    def port(self, _number, is_output):
+        return self.place[2 if is_output else 0], (self.place[1] + self.place[3]) / 2
 
 
 def chains_of(edges, columns):
@@ -90,7 +90,7 @@ def place(columns, steps):
         y = 0
         for box in sorted(here, key=tops.get):
             top = round(max(y, tops[box]))
-            box.place = [x, top, box.place[2], top + box.place[3]]
+            box.place = [x, top, x + wide if isinstance(box, Bend) else box.place[2], top + box.place[3]]
             y = box.place[3] + (12 if isinstance(box, Bend) else DOWN)
         x += wide + ACROSS
 
@@ -105,16 +105,13 @@ def made(points, to=None, port="1"):
 
 
 def way_through(here, bends, to, port):
-    """The steps from a place through the bends to the height of a port, each turn before its column."""
+    """The steps from a place through the bends to the height of a port, each turn between two columns."""
     (x, y), steps = here, []
-    for place in [bend.port("1", False) for bend in bends] + [to.port(port, False)]:
-        down = place[1] - y - (0 if is_number(port) or place != to.port(port, False) else 14)
-        steps += [(0, down), (place[0] - x, 0)]
-        x, y = place[0], y + down
-        if place != to.port(port, False):
-            steps.append((12, 0))
-            x += 12
-    return steps[:-1]
+    for right, height in (bend.port("1", True) for bend in bends):
+        steps += [(0, height - y), (right + 12 - x, 0)]
+        x, y = right + 12, height
+    above = 0 if is_number(port) else 14
+    return [*steps, (0, to.port(port, False)[1] - y - above)]
 
 
 def lay_out(boxes, lines):

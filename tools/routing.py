@@ -10,6 +10,8 @@ Point = tuple[float, float]
 # How far a line stands off a block before it turns, how much room the words below a block take, how far two
 # lines of one height stand apart, and how many heights are tried.
 STUB, WORDS, APART, TRIED = 12, 24, 5, 16
+# How much longer a way counts for the words that it goes through, and for each block that it comes too close to.
+THROUGH_WORDS, CLOSE = 100, 200
 
 
 @dataclass(frozen=True)
@@ -20,6 +22,9 @@ class Area:
     top: float
     right: float
     bottom: float
+
+    def grown(self, by: float) -> "Area":
+        return Area(self.left - by, self.top - by, self.right + by, self.bottom + by)
 
     def is_entered(self, begin: Point, end: Point) -> bool:
         """Whether a level or upright step goes through the inside."""
@@ -93,8 +98,11 @@ class Routes:
         return sum(area.is_entered(begin, end) for begin, end in zip(way, way[1:]) for area in self.areas)
 
     def cost(self, way: list[Point]) -> tuple[int, float]:
-        """Blocks that a way goes through, and its length; words that it goes through make it longer."""
+        """Blocks that a way goes through, and its length."""
+        steps = list(zip(way, way[1:]))
         words = [Area(it.left, it.bottom, it.right, it.bottom + WORDS) for it in self.areas]
-        crossed = sum(area.is_entered(begin, end) for begin, end in zip(way, way[1:]) for area in words)
-        length = sum(abs(begin[0] - end[0]) + abs(begin[1] - end[1]) for begin, end in zip(way, way[1:]))
-        return self.entered(way), length + 100 * crossed
+        crossed = sum(area.is_entered(*step) for step in steps for area in words)
+        # the first step and the last are at blocks
+        close = sum(area.grown(APART).is_entered(*step) for step in steps[1:-1] for area in self.areas)
+        length = sum(abs(begin[0] - end[0]) + abs(begin[1] - end[1]) for begin, end in steps)
+        return self.entered(way), length + THROUGH_WORDS * crossed + CLOSE * close
