@@ -189,6 +189,31 @@ class Lint(unittest.TestCase):
         self.assertIn('line 2: model: BooleanDataType "off"', said)
         self.assertIn('line 6: "a": Commented "on"', said)
 
+    def test_accumulators_that_the_usual_tool_adds_otherwise(self):
+        block = "Block {\nBlockType %s\nName \"%s\"\n%s\n}\n"
+        line = "Line {\nSrcBlock \"%s\"\nDstBlock \"%s\"\nDstPort %d\n}\n"
+        # what the Sum says beside its accumulator fixdt(1,8,0), the type of its second input, and what is told
+        rows = (
+            ('Inputs "++"', "fixdt(1,8,0)", ""),
+            ('Inputs "++"', "fixdt(1,8,2)", ""),
+            ('Inputs "+-"', "fixdt(1,8,2)", "input 2 has bits behind the point"),
+            ('Inputs "++"\nRndMeth "Convergent"', "fixdt(1,8,2)", "input 2 has bits behind the point"),
+            ('Inputs "++"', "fixdt(1,9,0)", ""),
+            ('Inputs "++"\nSaturateOnIntegerOverflow on', "fixdt(1,9,0)", "input 2 has a range"),
+            ('Inputs "++"\nSaturateOnIntegerOverflow on', "fixdt(0,8,0)", "input 2 has a range"),
+            ('Inputs "++"\nSaturateOnIntegerOverflow on', "fixdt(0,7,0)", ""),
+        )
+        for said, kind, wanted in rows:
+            blocks = [block % ("Inport", "a", 'OutDataTypeStr "int8"'), block % ("Inport", "b", f'Port 2\nOutDataTypeStr "{kind}"')]
+            blocks += [block % ("Sum", "s", f'AccumDataTypeStr "fixdt(1,8,0)"\nOutDataTypeStr "int8"\n{said}'), block % ("Outport", "y", "")]
+            lines = [line % it for it in (("a", "s", 1), ("b", "s", 2), ("s", "y", 1))]
+            with self.subTest(said=said, kind=kind), tempfile.TemporaryDirectory() as room:
+                model = os.path.join(room, "model.mdl")
+                write(model, "Model {\nSystem {\n" + "".join(blocks + lines) + "}\n}\n")
+                told = tool("lint", model).stdout
+                self.assertIn(wanted, told)
+                self.assertEqual("AccumDataTypeStr" in told, bool(wanted), told)
+
     def test_no_model_of_the_examples_is_read_otherwise(self):
         sys.path.insert(0, TOOLS)
         import mdl
