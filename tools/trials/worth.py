@@ -16,7 +16,8 @@ from fractions import Fraction
 from .common import TOOLS, TOP, read, tool, write
 from .pages import program
 
-sys.path.insert(0, TOOLS)
+sys.path[:0] = [TOOLS, os.path.join(TOP, "bench")]
+from cells import longest
 from estimate import estimate
 from library import FixedType
 from quantize import ROUNDINGS, decimal, errors, quantized
@@ -112,6 +113,48 @@ class Plans(unittest.TestCase):
         done = subprocess.run(words, env={**os.environ, "TILECATNIP": program()}, capture_output=True, text=True)
         lines = done.stdout.splitlines()
         self.assertEqual([re.sub(r" registers \d+ adders \d+ choices \d+ levels \d+$", "", line) for line in lines], read(os.path.join(TOP, "examples/three_products.explore")).splitlines()[1::2] + ["least cycles 4 multipliers 1"], done.stderr)
+
+    @unittest.skipUnless(program(), "there is no proved program")
+    def test_picture_of_registers(self):
+        """Its plans are those that `explore` tells, each at the place of its numbers; the registers are those of the text that was drawn."""
+        model, span = re.search(r"^\$ tools/explore (\S+) (\S+) --resources >plans\n\$ tools/plot_explore plans registers ", read(os.path.join(TOP, "examples/README.md")), re.M).groups()
+        picture = read(os.path.join(TOP, "examples/pictures/fir_lowpass_registers.svg"))
+        found = subprocess.run([program(), "explore", os.path.join(TOP, model), span], capture_output=True, text=True)
+        self.assertEqual((found.returncode, found.stderr), (0, ""))
+        named = re.findall(r"cycles (\d+) multipliers (\d+): multiplications (\d+), latency (\d+), (registers \d+, adders \d+, choices \d+, levels \d+)", picture)
+        told = re.findall(r"^cycles (\d+) multipliers (\d+) multiplications (\d+) latency (\d+)$", found.stdout, re.M)
+        self.assertEqual(sorted(row[:4] for row in named), sorted(told))
+        rows = [f"cycles {row[0]} multipliers {row[1]} multiplications {row[2]} latency {row[3]} {row[4].replace(',', '')}" for row in named]
+        least = found.stdout.splitlines()[-1]
+        rows.sort(key=lambda row: told.index(tuple(row.split()[1:8:2])))
+        self.assertEqual(re.findall("<circle .*|<path d=.*", self.drawn("\n".join([*rows, least]) + "\n", "registers").stdout), re.findall("<circle .*|<path d=.*", picture))
+
+
+class Slowest(unittest.TestCase):
+    """The slowest path of cells by hand."""
+
+    @staticmethod
+    def cell(kind, reads, writes, **parameters):
+        ways = {**dict.fromkeys(reads, "input"), **dict.fromkeys(writes, "output")}
+        return {"type": kind, "port_directions": ways, "connections": {**reads, **writes}, "parameters": parameters}
+
+    def test_a_path_between_registers(self):
+        cells = [self.cell("SB_LUT4", {"I0": [1]}, {"O": [2]}), self.cell("SB_LUT4", {"I0": [2], "I1": [9]}, {"O": [3]}), self.cell("SB_DFF", {"D": [3]}, {"Q": [1]})]
+        self.assertEqual(longest(cells), (2, 2.4))
+
+    def test_a_multiplier_with_a_register_behind_it_ends_a_path(self):
+        cells = [self.cell("DSP48E1", {"A": [1], "C": [3]}, {"P": [2]}, PREG="1"), self.cell("LUT2", {"I0": [2]}, {"O": [3]})]
+        self.assertEqual(longest(cells), (2, 4.9))
+        cells[0]["parameters"]["CREG"] = "1"
+        self.assertEqual(longest(cells), (1, 4.0))
+
+    def test_a_path_that_comes_round_is_told(self):
+        cells = [self.cell("DSP48E1", {"A": [1], "C": [3]}, {"P": [2]}), self.cell("LUT2", {"I0": [2]}, {"O": [3]})]
+        self.assertRaisesRegex(ValueError, "comes round", longest, cells)
+
+    def test_a_long_chain(self):
+        cells = [self.cell("SB_CARRY", {"CI": [at]}, {"CO": [at + 1]}) for at in range(50_000)]
+        self.assertAlmostEqual(longest(cells[::-1])[1], 50_000 * 0.13, places=3)
 
 
 class Figures(unittest.TestCase):
