@@ -90,29 +90,15 @@ def varint(number: int) -> bytes:
     return bytes(found + bytes([number]))
 
 
-def read(text: str) -> Machine:
-    """The machine of an ASCII text whose variables are numbered in the order of inputs, latches and gates."""
-    lines = iter(text.splitlines())
-    _, inputs, latches, outputs, gates = map(int, next(lines).split()[1:6])
-    machine = Machine(inputs, latches)
-    for _ in range(inputs):
-        next(lines)
-    for _ in range(latches):
-        of, following, *first = map(int, next(lines).split())
-        machine.following.append(following)
-        machine.initial.append(first[0] if first and first[0] != of else 0)
-    machine.outputs = [int(next(lines)) for _ in range(outputs)]
-    machine.gates = [(int(left), int(right)) for _, left, right in (next(lines).split() for _ in range(gates))]
-    return machine
-
-
 def from_nothing(machine: Machine, fixed: dict[int, int]) -> Machine:
-    """The machine whose latches begin with 0, and some of whose inputs have these numbers."""
-    found = Machine(machine.inputs, machine.latches, initial=[0] * machine.latches)
+    """The machine whose latches begin with 0, of which there is one at least, as ABC asks, and some of whose
+    inputs have these numbers."""
+    lacking = int(machine.latches == 0)
+    found = Machine(machine.inputs, machine.latches + lacking, initial=[0] * (machine.latches + lacking))
     inputs = [fixed.get(at, found.input(at)) for at in range(machine.inputs)]
     state = [found.latch(at) ^ first for at, first in enumerate(machine.initial)]
     found.outputs, following = found.copy(machine, inputs, state)
-    found.following = [of ^ first for of, first in zip(following, machine.initial)]
+    found.following = [of ^ first for of, first in zip(following, machine.initial)] + [0] * lacking
     return found
 
 

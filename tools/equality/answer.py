@@ -2,7 +2,6 @@
 
 import math
 import tempfile
-import time
 from dataclasses import dataclass, field
 from enum import Enum
 from typing import Optional
@@ -36,21 +35,21 @@ class Answer:
 
 
 class Question:
-    """A model with a plan and a text, and the time by which there is an answer."""
+    """A model with a plan and a text, and how many seconds of a processor an answer may take."""
 
     def __init__(self, model: str, plan: str, text: str, seconds: float) -> None:
-        self.model, self.begun, self.seconds = model, time.monotonic(), seconds
+        self.model, self.begun, self.seconds = model, solvers.worked(), seconds
         signals = Signals(diagram.read(model))
         self.schedule = Schedule(signals, plan_of(plan))
         self.miter = Miter(Ideal(signals, self.schedule), self.schedule, text)
 
     def left(self) -> float:
-        return max(self.begun + self.seconds - time.monotonic(), 1)
+        return max(self.begun + self.seconds - solvers.worked(), 1)
 
     def answer(self) -> Answer:
         with tempfile.TemporaryDirectory() as folder:
             found = self.asked(folder)
-        found.seconds = time.monotonic() - self.begun
+        found.seconds = solvers.worked() - self.begun
         return found
 
     def asked(self, folder: str) -> Answer:

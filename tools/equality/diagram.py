@@ -4,7 +4,7 @@ import re
 from dataclasses import dataclass, field
 from typing import Optional
 
-from filters import unfold
+from equality.values import elements, type_of
 from mdl import Defaults, Section, read_file, step_of, systems_of
 from written import Failed, whole
 
@@ -14,7 +14,7 @@ DEFAULTS = {
     "Inport": {"Port": "1", "PortDimensions": "-1"},
     "Outport": {"Port": "1", "OutputWhenDisabled": "held", "InitialOutput": "[]"},
     "Constant": {"Value": "1", "SampleTime": "inf"},
-    "Sum": {"Inputs": "++", "OutDataTypeStr": INTERNAL},
+    "Sum": {"Inputs": "++", "AccumDataTypeStr": INTERNAL, "OutDataTypeStr": INTERNAL},
     "Gain": {"Gain": "1", "ParamDataTypeStr": INTERNAL, "OutDataTypeStr": INTERNAL},
     "Product": {"OutDataTypeStr": INTERNAL},
     "UnitDelay": {"InitialCondition": "0"},
@@ -27,6 +27,7 @@ DEFAULTS = {
     "Demux": {"Outputs": "4"},
     "RateTransition": {"InitialCondition": "0"},
     "EnablePort": {"StatesWhenEnabling": "held"},
+    "DiscreteFir": {"Coefficients": "[0.5 0.5]", "InitialStates": "0", "CoefDataTypeStr": "Inherit: Same word length as input", "OutDataTypeStr": INTERNAL},
 }
 COMMON = {"OutDataTypeStr": "", "RndMeth": "Floor", "SaturateOnIntegerOverflow": "off", "SampleTime": "-1"}
 TWO_INPUTS = ("Product", "RelationalOperator")
@@ -100,11 +101,37 @@ class Reader:
                 continue
             if not is_root and kind in ("Inport", "Outport"):
                 kind = "EnOut" if kind == "Outport" and own else "Pass"
+            if kind == "DiscreteFir":
+                inner[name] = self.filter(path(section), self.parameters(section), enable)
+                continue
             found[name] = Block(path(section), kind, self.parameters(section), enable)
             self.blocks.append(found[name])
         self.join(system, found, inner)
         by_number = lambda kind: {whole(found[name].get("Port")): found[name] for name, it in sections.items() if it.get("BlockType") == kind}
         return by_number("Inport"), by_number("Outport"), own
+
+    def filter(self, path: str, told: dict[str, str], enable: Optional[Block]) -> tuple[dict, dict, Optional[Block]]:
+        """A discrete FIR filter as delays in a chain, a gain of each, and their sum."""
+        taps, states = elements(told["Coefficients"]), elements(told["InitialStates"])
+        states = states if len(states) > 1 else states * (len(taps) - 1)
+        factor = told["CoefDataTypeStr"] if type_of(told["CoefDataTypeStr"]) else INTERNAL
+
+        def made(name: str, kind: str, **own: str) -> Block:
+            self.blocks.append(Block(f"{path}/{name}", kind, {**COMMON, **DEFAULTS.get(kind, {}), **own}, enable))
+            return self.blocks[-1]
+
+        chain = [made("in", "Pass", OutDataTypeStr="Inherit: auto")]
+        for at, state in enumerate(states, 1):
+            chain.append(made(f"d{at}", "UnitDelay", InitialCondition=state))
+            chain[at].drivers[0] = (chain[at - 1], 0)
+        total = Block(f"{path}/sum", "Sum", {**told, **DEFAULTS["Sum"], "Inputs": "+" * len(taps), "OutDataTypeStr": told["OutDataTypeStr"]}, enable)
+        for at, tap in enumerate(taps):
+            gain = made(f"c{at}", "Gain", Gain=tap, ParamDataTypeStr=factor)
+            gain.drivers[0], total.drivers[at] = (chain[at], 0), (gain, 0)
+        self.blocks.append(total)
+        out = made("out", "Pass", OutDataTypeStr="Inherit: auto")
+        out.drivers[0] = (total, 0)
+        return {1: chain[0]}, {1: out}, None
 
     def join(self, system: Section, found: dict[str, Block], inner: dict[str, tuple]) -> None:
         for line in system.all("Line"):
@@ -163,7 +190,7 @@ def outputs_of(block: Block) -> int:
 
 def read(path: str) -> list[Block]:
     """The flat diagram of a model's file, which keeps the program's rules of structure."""
-    root = unfold(read_file(path)[1])
+    _, root = read_file(path)
     reader = Reader(root)
     try:
         reader.system(root.all("Model")[0].all("System")[0], [], None, True)

@@ -118,11 +118,23 @@ class Ideal:
         return "1'b0"
 
     def of_Sum(self, block: Block, port: int, element: int) -> str:
-        terms = [self.operand(block, at, element) for at in range(inputs_of(block))]
-        full = full_sum((negative, of) for negative, (_, of) in zip(signs(block), terms))
+        terms = [(negative, *self.operand(block, at, element)) for at, negative in enumerate(signs(block))]
+        accumulator = self.signals.accumulator(block)
+        if accumulator is None:
+            return self.added(terms, self.types[block], block)
+        total = self.wire(accumulator.width, number(0, accumulator.width), accumulator.signed)
+        for term in terms:
+            step = self.added([(False, total, accumulator), term], accumulator, block)
+            total = self.wire(accumulator.width, step, accumulator.signed)
+        wide = accumulator.width + 1
+        return self.converted(self.wide(total, wide), wide, accumulator.frac, self.types[block], block)
+
+    def added(self, terms: list[tuple[bool, str, Type]], into: Type, block: Block) -> str:
+        """The exact sum of nets, of which those marked are subtracted, in a type of the block's."""
+        full = full_sum((negative, of) for negative, _, of in terms)
         width = full.width + 2
-        parts = [f"{'-' if negative else '+'} ({self.wide(net, width)} <<< {full.frac - of.frac})" for negative, (net, of) in zip(signs(block), terms)]
-        return self.converted(self.wire(width, f"{number(0, width)} {' '.join(parts)}"), width, full.frac, self.types[block], block)
+        parts = [f"{'-' if negative else '+'} ({self.wide(net, width)} <<< {full.frac - of.frac})" for negative, net, of in terms]
+        return self.converted(self.wire(width, f"{number(0, width)} {' '.join(parts)}"), width, full.frac, into, block)
 
     def of_Product(self, block: Block, port: int, element: int) -> str:
         (left, of_left), (right, of_right) = self.operand(block, 0, element), self.operand(block, 1, element)

@@ -1,11 +1,10 @@
 """Random models of a few blocks, with plans that they keep."""
 
-import os
 import random
 import subprocess
 from dataclasses import dataclass, field
 
-from tables import TOP
+from program import program
 
 ROUNDINGS = ("Floor", "Ceiling", "Zero", "Nearest", "Round", "Convergent")
 RELATIONS = ("==", "~=", "<", "<=", ">=", ">")
@@ -49,7 +48,10 @@ class System:
         name, inputs = f"{kind[:3]}{self.count}", {"Gain": 1, "Switch": 3, "DataTypeConversion": 1, "UnitDelay": 1, "Delay": 1}.get(kind, 2)
         self.count += 1
         if kind == "Sum":
-            told = {"Inputs": "".join(self.chance.choice("+-") for _ in range(2)), **self.settling()}
+            inputs = self.chance.choice((2, 2, 3))
+            told = {"Inputs": "".join(self.chance.choice("+-") for _ in range(inputs)), **self.settling()}
+            if self.chance.random() < 0.3:
+                told["AccumDataTypeStr"] = self.chance.choice((self.type(), "Inherit: Same as first input"))
         elif kind == "Gain":
             told = {"Gain": self.number(), "ParamDataTypeStr": self.type(), **self.settling()}
         elif kind == "Switch":
@@ -148,4 +150,4 @@ def written(seed: int, number: int, at: str, beside: str) -> bool:
     for path, told in ((at, text), (beside, plan(chance, text))):
         with open(path, "w") as file:
             file.write(told)
-    return subprocess.run([os.path.join(TOP, "tilecatnip"), "check", at, beside], capture_output=True).returncode == 0
+    return subprocess.run([program(), "check", at, beside], capture_output=True).returncode == 0

@@ -8,7 +8,7 @@ from typing import Optional
 
 from equality.miter import Column, Miter, without_comments
 from equality.solvers import Names
-from tables import TOP
+from program import program as answering
 from written import Failed
 
 Row = list[int]
@@ -28,7 +28,7 @@ def program(folder: str, command: str, *files: tuple[str, str]) -> str:
     for name, text in files:
         with open(os.path.join(folder, name), "w") as file:
             file.write(text)
-    words = [os.path.join(TOP, "tilecatnip"), command, *(os.path.join(folder, name) for name, _ in files)]
+    words = [answering(), command, *(os.path.join(folder, name) for name, _ in files)]
     done = subprocess.run(words, capture_output=True, text=True)
     if done.returncode:
         raise Failed(f"{command}: status {done.returncode}, {done.stderr.strip()}")

@@ -88,8 +88,13 @@ class Signals:
         """The type that holds every result of a Sum, Gain or Product."""
         comes = self.inputs(block)
         if block.kind == "Sum":
-            return full_sum(zip(signs(block), comes))
+            return self.accumulator(block) or full_sum(zip(signs(block), comes))
         return full_product(comes[0], self.factor(block) if block.kind == "Gain" else comes[1])
+
+    def accumulator(self, block: Block) -> Optional[Type]:
+        """The type in which a Sum adds one input after another, where it has one."""
+        told = block.get("AccumDataTypeStr")
+        return self.inputs(block)[0] if told == "Inherit: Same as first input" else type_of(told)
 
     def factor(self, block: Block) -> Type:
         """The type of a Gain's coefficient."""

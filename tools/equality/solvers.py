@@ -2,16 +2,22 @@
 
 import os
 import re
+import resource
 import shutil
+import signal
 import subprocess
+import time
+from dataclasses import dataclass
 from typing import Optional
 
 from equality import aig
+from equality.cells import Design
 from written import Failed
 
-MULTIPLY = os.path.join(os.path.dirname(os.path.abspath(__file__)), "multiply.v")
 ABC = ("berkeley-abc", "yosys-abc")
-STEPS = f"prep -top fx_miter -flatten; wreduce; opt; techmap -map {MULTIPLY}; opt; techmap; opt; dffunmap; aigmap; opt_clean"
+# How a command ends that has had its seconds, and by how much longer it may wait for a processor.
+OUT_OF_TIME, WAITED = (-signal.SIGXCPU, -signal.SIGKILL), 20
+STEPS = "read_verilog miter.v; hierarchy -top fx_miter; proc; flatten; write_json miter.json"
 PROOF = "read_aiger {name}; strash; scorr; cone -s -O 0; scorr; dc2; scorr; print_stats; pdr -T {seconds}; print_status"
 SEARCH = "read_aiger {name}; cone -s -a -O 0; bmc3 -F {frames} -T {seconds}; print_status; write_cex -a {cex}"
 
@@ -26,26 +32,32 @@ def missing() -> list[str]:
     return [word for word in ("yosys",) if shutil.which(word) is None] + ([] if abc() else [" or ".join(ABC)])
 
 
+def worked() -> float:
+    """The seconds of a processor that this process and those that it ran have had."""
+    others = resource.getrusage(resource.RUSAGE_CHILDREN)
+    return time.process_time() + others.ru_utime + others.ru_stime
+
+
 def ran(words: list[str], folder: str, seconds: float) -> str:
-    """What a command says; nothing where it isn't done in so many seconds."""
+    """What a command says; nothing where it isn't done in so many seconds of a processor."""
+    limit = max(round(seconds), 1)
     try:
-        done = subprocess.run(words, cwd=folder, capture_output=True, text=True, timeout=seconds)
+        bounded = ["sh", "-c", 'ulimit -t "$0" && exec "$@"', str(limit), *words]
+        done = subprocess.run(bounded, cwd=folder, capture_output=True, text=True, timeout=limit * WAITED)
     except subprocess.TimeoutExpired:
+        return ""
+    if done.returncode in OUT_OF_TIME:
         return ""
     if done.returncode:
         raise Failed(f"{words[0]} failed:\n{done.stdout}{done.stderr}")
     return re.sub(r"\x1b\[[0-9;]*m", "", done.stdout)
 
 
+@dataclass
 class Names:
-    """The inputs of a machine by name and bit, and its outputs with `bad` first, as its text names them."""
+    """The inputs of a machine by name and bit."""
 
-    def __init__(self, text: str) -> None:
-        self.inputs: dict[tuple[str, int], int] = {}
-        outputs = {}
-        for kind, at, name, bit in re.findall(r"^([io])(\d+) (\w+)(?:\[(\d+)\])?$", text, re.M):
-            (self.inputs if kind == "i" else outputs)[name, int(bit or 0)] = int(at)
-        self.outputs = [outputs["bad", 0]] + [at for (name, _), at in sorted(outputs.items()) if name != "bad"]
+    inputs: dict[tuple[str, int], int]
 
     def fixed(self, **numbers: int) -> dict[int, int]:
         """The inputs of these names that are there, with their numbers."""
@@ -56,15 +68,14 @@ def machine_of(verilog: str, folder: str, seconds: float) -> Optional[tuple[aig.
     """The machine of a miter, or None where it isn't made in time."""
     with open(os.path.join(folder, "miter.v"), "w") as file:
         file.write(verilog)
-    target = os.path.join(folder, "miter.aag")
-    ran(["yosys", "-q", "-p", f"read_verilog miter.v; {STEPS}; write_aiger -ascii -symbols miter.aag"], folder, seconds)
+    target = os.path.join(folder, "miter.json")
+    ran(["yosys", "-q", "-p", STEPS], folder, seconds)
     if not os.path.exists(target):
         return None
     with open(target) as file:
-        text = file.read()
-    machine, found = aig.read(text), Names(text)
-    machine.outputs = [machine.outputs[at] for at in found.outputs]
-    return machine, found
+        design = Design(file.read(), "fx_miter")
+    design.machine.outputs = design.output("bad") + design.output("remembered")
+    return design.machine, Names(design.inputs)
 
 
 def proved(machine: aig.Machine, folder: str, seconds: float) -> bool:
@@ -88,5 +99,6 @@ def found(machine: aig.Machine, frames: int, folder: str, seconds: float) -> Opt
 def asked(machine: aig.Machine, folder: str, script: str, seconds: float, **words: int) -> str:
     with open(os.path.join(folder, "asked.aig"), "wb") as file:
         file.write(machine.written())
-    steps = script.format(name="asked.aig", cex="cex", seconds=max(int(seconds), 1), **words)
-    return ran([abc(), "-q", steps], folder, seconds + 2)
+    # ABC counts seconds of the clock, and has those of a processor from outside
+    steps = script.format(name="asked.aig", cex="cex", seconds=max(round(seconds), 1) * WAITED, **words)
+    return ran([abc(), "-q", steps], folder, seconds)

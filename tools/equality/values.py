@@ -55,10 +55,15 @@ def decimal(text: str) -> Fraction:
         raise Failed(f"{text!r} stands in place of a decimal") from None
 
 
+def elements(text: str) -> list[str]:
+    """The decimals of a list, or the one that stands alone; none of an empty list."""
+    inside = re.fullmatch(r"\s*\[(.*)\]\s*", text, re.S)
+    return [word for word in re.split(r"[\s,;]+", inside[1].strip()) if word] if inside else [text]
+
+
 def decimals(text: str) -> list[Fraction]:
     """The numbers of a list, or the one of a decimal; none of an empty list."""
-    inside = re.fullmatch(r"\s*\[(.*)\]\s*", text, re.S)
-    return [decimal(word) for word in re.split(r"[\s,;]+", inside[1].strip()) if word] if inside else [decimal(text)]
+    return [decimal(word) for word in elements(text)]
 
 
 def stored(number: Fraction, of: Type) -> int:
