@@ -94,16 +94,21 @@ class Run:
         rows = [([int(goes)] if self.miter.controls else []) + row for row, goes in zip(self.driven, self.goes)]
         lines = "".join(" ".join(map(str, row)) + "\n" for row in rows)
         shown = [line.split() for line in program(folder, "replay", ("rows", by_rows(self.miter.text)), ("row stimulus", lines)).splitlines()]
+        still = [str(row) for row, going in enumerate(self.goes) if not going]
+        stood = f"; the clock stands still in rows {' '.join(still)}" if still else ""
         clock = 0
         for at, goes in enumerate(self.goes):
+            if self.miter.controls and int(shown[at][0]) != goes:
+                # before the first clock any sample will do
+                sample = self.stimulus() or [" ".join("0" * len(self.miter.inputs))]
+                return Difference(sample, f"ce_out shows {shown[at][0]} in row {at} behind the reset{stood}", False)
             for place, column in enumerate(self.miter.outputs):
                 hit = self.due(column, clock)
                 # `ce_out` stands before the outputs
                 other = shown[at][place + bool(self.miter.controls)]
                 if goes and hit is not None and hit < len(wanted) and wanted[hit][place] != other:
-                    still = [str(row) for row, going in enumerate(self.goes) if not going]
                     told = f"{column.port.name} shows {other} in row {at} behind the reset, and hit {hit} is {wanted[hit][place]}"
-                    return Difference(self.stimulus(), told + (f"; the clock stands still in rows {' '.join(still)}" if still else ""), False)
+                    return Difference(self.stimulus(), told + stood, False)
             clock += goes
         return None
 
