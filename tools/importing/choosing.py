@@ -223,5 +223,3 @@ def direct_lookup(it: Rebuild) -> None:
     top = min(len(values) - 1, index.highest << -index.frac)
     group.close(table(group, group.inputs[0], [Fraction(number) for number in range(top + 1)], represented(values, kind)[: top + 1], kind))
     it.tell(f"a table by an index from 0: a tree of Switches over {top + 1} values of {kind}")
-
-

@@ -242,7 +242,7 @@ class SideBySide(unittest.TestCase):
 
 class Gate(unittest.TestCase):
     CHECKS = (
-        "examples/run", "tests/calls", "tools/streams", "tools/cross_models", "bench/hardware", "tools/glossary", "tools/cites", "tools/memory", "tools/edits", "tools/counts", "tools/try",
+        "examples/run", "tests/calls", "tools/streams", "tools/cross_models", "bench/hardware", "tools/glossary", "tools/cites", "tools/memory", "tools/edits", "tools/counts", "tools/style", "tools/try",
         "tools/cross_check", "tools/cross_values", "tools/cross_nets",
     )
 

@@ -131,7 +131,6 @@ class Shown(unittest.TestCase):
         self.assertEqual({f"examples/rules/{os.path.basename(it)}" for it in glob.glob(os.path.join(TOP, "examples/rules/*.mdl"))},
                          {commands_of(session)[0][0].split()[2] for _, session in blocks[::3]})
 
-
     def test_rules_of_plans(self):
         """Each refusal that is shown, and that the model is accepted with the plan that stands behind it."""
         blocks = [it for it in blocks_of("docs/RULES.md") if it[0] == "plan" or it[1].startswith("$ ./tilecatnip generate")]
