@@ -1,9 +1,11 @@
 """A Verilog module that drives a written text by its stimulus, and the response in what it prints."""
 
-from written import MODULE, bits, inputs_of, instance, last_clock, outputs_of, stalls
+from typing import Iterator
+
+from written import MODULE, Case, bits, inputs_of, instance, last_clock, outputs_of, stalls
 
 
-def words_of(case):
+def words_of(case: Case) -> Iterator[str]:
     """By sample the bits of all inputs, one behind the other; between hits an input holds its number."""
     held = [0] * len(inputs_of(case))
     for sample, row in enumerate(case.rows):
@@ -13,7 +15,7 @@ def words_of(case):
         yield "".join(f"{number:0{port.width}b}" for port, number in zip(inputs_of(case), held)) or "0"
 
 
-def bench(case, words, name="bench", module=MODULE, pauses=False):
+def bench(case: Case, words: str, name: str = "bench", module: str = MODULE, pauses: bool = False) -> str:
     """A module that resets the other for one row, drives it clock by clock with the words of a file, and
     prints each hit of an output as the bench's name, the sample, the output's name and the number. With
     pauses a text that can stall does so in the row of the reset, and for a row before each clock, with the
@@ -41,7 +43,7 @@ def bench(case, words, name="bench", module=MODULE, pauses=False):
     return "\n".join(lines + ["      clk = 1;", "      #1 clk = 0;", "    end", "  end", "endmodule", ""])
 
 
-def response(case, printed, name="bench"):
+def response(case: Case, printed: str, name: str = "bench") -> list[list[str]]:
     """The lines of a text's response, of what benches printed."""
     found = {}
     for words in map(str.split, printed.splitlines()):

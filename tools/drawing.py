@@ -1,12 +1,16 @@
 """Blocks and lines of a system as SVG: what a block shows, where its ports are, and how lines go."""
 
 import re
+from typing import Iterable, Iterator
 
 from layout import lay_out
 from library import taps_of
 from markup import plain
-from mdl import is_number, systems_of
-from routing import Area, Port, Routes
+from mdl import Defaults, Section, is_number, systems_of
+from routing import Area, Point, Port, Routes
+
+# A system: its title, its blocks and its lines.
+Panel = tuple[str, list["Box"], list[Section]]
 
 SIGN = {"==": "=", "~=": "≠", "<": "<", "<=": "≤", ">=": "≥", ">": ">"}
 SMALL = {"Inport": (30, 14), "Outport": (30, 14), "Ground": (20, 20), "Terminator": (20, 20), "Sum": (30, 40), "Mux": (6, 60), "Demux": (6, 60), "EnablePort": (24, 20), "DiscreteFir": (60, 40)}
@@ -22,12 +26,12 @@ text { font-family: Helvetica, Arial, sans-serif; font-size: 11px; fill: #222; t
 </style>"""
 
 
-def numbers(text):
+def numbers(text: str) -> list[int]:
     """Its whole numbers, without those that are too long for a place or a count."""
     return [int(it) for it in re.findall(r"-?[0-9]+", text) if len(it) <= 9]
 
 
-def short(text, most=9):
+def short(text: str, most: int = 9) -> str:
     text = " ".join(text.split())
     if re.fullmatch(r"-?\d+\.\d{5,}", text):
         text = f"{float(text):.5g}"
@@ -37,7 +41,7 @@ def short(text, most=9):
 class Box:
     """A block, its place, and its ports."""
 
-    def __init__(self, block, defaults):
+    def __init__(self, block: Section, defaults: Defaults) -> None:
         self.block, self.defaults = block, defaults
         self.kind, self.name = block.get("BlockType"), block.get("Name")
         place = numbers(block.get("Position"))
@@ -47,24 +51,24 @@ class Box:
         # attributes of its group in the picture
         self.marks = ""
 
-    def get(self, name, otherwise=""):
+    def get(self, name: str, otherwise: str = "") -> str:
         found = self.defaults.of(self.block, name)
         return found[0] if found else otherwise
 
-    def signs(self):
+    def signs(self) -> list[str]:
         said = re.sub(r"[|\s]", "", self.get("Inputs", "++"))
         return list(said) if re.fullmatch(r"[+-]+", said) else ["+"] * min(int(said), MOST) if is_number(said) else ["+", "+"]
 
-    def several(self, name, otherwise):
+    def several(self, name: str, otherwise: int) -> int:
         said = self.get(name, str(otherwise))
         return min(int(said), MOST) if is_number(said) else max(len(numbers(said)), 1)
 
-    def inner(self, kind):
+    def inner(self, kind: str) -> list[str]:
         """The names of a subsystem's ports, in the order of their numbers."""
         found = [it for system in systems_of(self.block) for it in system.all("Block") if it.get("BlockType") == kind]
         return [it.get("Name") for it in sorted(found, key=lambda it: (numbers(it.get("Port", "1")) or [1])[0])]
 
-    def counts(self):
+    def counts(self) -> tuple[int, int]:
         if self.kind == "SubSystem":
             return len(self.inner("Inport")), len(self.inner("Outport"))
         inputs = {"Inport": 0, "Constant": 0, "Ground": 0, "EnablePort": 0, "Product": 2, "Switch": 3, "RelationalOperator": 2}.get(self.kind, 1)
@@ -77,12 +81,12 @@ class Box:
         outputs = {"Outport": 0, "Terminator": 0, "EnablePort": 0, "Demux": self.several("Outputs", 4)}.get(self.kind, 1)
         return inputs, outputs
 
-    def size(self):
+    def size(self) -> tuple[int, int]:
         ports = max(self.inputs, self.outputs)
         wide, high = SMALL.get(self.kind, (50 if self.kind != "SubSystem" else 90, 30))
         return wide, max(high, 18 * ports if ports > 1 else 0)
 
-    def port(self, number, is_output):
+    def port(self, number: str, is_output: bool) -> Point:
         """Where a port is; a port that is not a number stands on top."""
         left, top, right, bottom = self.place
         if not is_number(str(number)):
@@ -91,7 +95,7 @@ class Box:
         y = top + (bottom - top) * (2 * int(number) - 1) / (2 * count)
         return (right if is_output != self.is_left else left), y
 
-    def told(self):
+    def told(self) -> str:
         """What the block does, in its shape."""
         get = self.get
         if self.kind in ("UnitDelay", "Delay"):
@@ -110,7 +114,7 @@ class Box:
         }  # fmt: skip
         return plain.get(self.kind, "" if self.kind in SMALL or self.kind == "SubSystem" else short(self.kind, 12))
 
-    def said(self):
+    def said(self) -> list[str]:
         """What the block declares, below its name."""
         get, parts = self.get, []
         kind = get("OutDataTypeStr", "Inherit")
@@ -136,11 +140,11 @@ class Box:
         return [", ".join(parts[:2]), ", ".join(parts[2:])] if len(", ".join(parts)) > 24 else [", ".join(parts)]
 
 
-def text(x, y, said, kind, more=""):
+def text(x: float, y: float, said: str, kind: str, more: str = "") -> str:
     return f'<text x="{x:g}" y="{y:g}" class="{kind}"{more}>{plain(said)}</text>'
 
 
-def shape(box):
+def shape(box: Box) -> str:
     left, top, right, bottom = box.place
     wide, high = right - left, bottom - top
     if box.kind in ("Inport", "Outport"):
@@ -159,7 +163,7 @@ def shape(box):
     return f'<rect x="{left}" y="{top}" width="{wide}" height="{high}" class="block"/>' + pulse
 
 
-def port_words(box):
+def port_words(box: Box) -> Iterator[str]:
     """What stands at the ports: signs, names, or numbers where a side has several."""
     if box.kind == "SubSystem":
         words = box.inner("Inport"), box.inner("Outport")
@@ -178,7 +182,7 @@ def port_words(box):
                 yield text(x + 3 * inside, y + 3, short(word, 8), "port", anchor)
 
 
-def below(box):
+def below(box: Box) -> Iterator[str]:
     """The name of a block, and what it declares."""
     middle, y = (box.place[0] + box.place[2]) / 2, box.place[3] + 11
     for line in box.name.split("\n"):
@@ -190,7 +194,7 @@ def below(box):
             y += 9
 
 
-def draw_box(box):
+def draw_box(box: Box) -> list[str]:
     left, top, right, bottom = box.place
     middle, parts = (left + right) / 2, [f"<g{box.marks}>"]
     whole = box.kind + "".join(f"\n{name}: {value}" for name, value in box.block.parameters.items() if name not in ("BlockType", "Position", "SID", "ZOrder"))
@@ -207,13 +211,13 @@ def draw_box(box):
     return parts + [*port_words(box), *below(box), "</g>"]
 
 
-def offsets(section):
+def offsets(section: Section) -> list[tuple[int, int]]:
     """The way that a line or branch goes before its end, as steps."""
     found = numbers(section.get("Points"))
     return list(zip(found[::2], found[1::2]))
 
 
-def arrow(target, port, end):
+def arrow(target: Box, port: str, end: Point) -> str:
     """The head of a line at a port."""
     back = 6 if target.is_left else -6
     x, y = end
@@ -221,7 +225,7 @@ def arrow(target, port, end):
     return f'<path d="M{sides[0][0]:g} {sides[0][1]:g}L{x:g} {y:g}L{sides[1][0]:g} {sides[1][1]:g}Z" class="dot"/>'
 
 
-def draw_way(section, source, boxes, routes):
+def draw_way(section: Section, source: Box, boxes: dict[str, Box], routes: Routes) -> list[str]:
     """A line from its source, with the branches that leave its end."""
     here = source.port(section.get("SrcPort", "1"), True)
     parts, left, out = [], [(section, here)], -1 if source.is_left else 1
@@ -246,7 +250,7 @@ def draw_way(section, source, boxes, routes):
     return parts
 
 
-def draw_panel(title, boxes, lines):
+def draw_panel(title: str, boxes: list[Box], lines: list[Section]) -> tuple[list[str], tuple[float, ...]]:
     """A system, and the room that it takes."""
     if not all(box.place for box in boxes):
         lines = lay_out(boxes, lines)
@@ -263,7 +267,7 @@ def draw_panel(title, boxes, lines):
     return parts, (min(xs) - 45, min(ys) - 25, max(xs) + 45, max(ys) + 45)
 
 
-def picture(panels):
+def picture(panels: Iterable[Panel]) -> str:
     parts, top, wide = [], 0, 0
     for title, boxes, lines in panels:
         drawn, (left, first, right, last) = draw_panel(title, boxes, lines)

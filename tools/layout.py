@@ -1,17 +1,24 @@
 """Places for the blocks of a system that has none: columns from left to right by the longest way from a
 source, loops closed from right to left, and lines with the corners that these places ask for."""
 
+from typing import TYPE_CHECKING, Any, Optional
+
 from mdl import Section, branches_of, is_number
 
+if TYPE_CHECKING:
+    from drawing import Box
+
+# From a box or bend by a port to another by a port.
+Edge = tuple[Any, str, Any, str]
 ACROSS, DOWN = 60, 36
 
 
-def ends_of(line):
+def ends_of(line: Section) -> list[tuple[str, str]]:
     """The ends of a line or branch: pairs of a block's name and a port."""
     return [(it.get("DstBlock"), it.get("DstPort", "1")) for it in branches_of(line) if "DstBlock" in it.parameters]
 
 
-def edges_of(boxes, lines):
+def edges_of(boxes: list["Box"], lines: list[Section]) -> list[Edge]:
     """What lines join: two boxes and their ports."""
     by_name = {box.name: box for box in boxes}
     found = []
@@ -23,7 +30,7 @@ def edges_of(boxes, lines):
     return found
 
 
-def columns_of(boxes, edges):
+def columns_of(boxes: list["Box"], edges: list[Edge]) -> dict[Any, int]:
     """The column of each box: behind those that it reads, but for the edges that close a loop."""
     after = {box: [to for source, _, to, _ in edges if source is box] for box in boxes}
     columns, begun, order = dict.fromkeys(boxes, 0), set(), []
@@ -53,16 +60,16 @@ def columns_of(boxes, edges):
 class Bend:
     """Where a line passes a column that it has no block in."""
 
-    place = None
+    place: Any = None
 
-    def size(self):
+    def size(self) -> tuple[int, int]:
         return 0, 8
 
-    def port(self, _number, is_output):
+    def port(self, _number: str, is_output: bool) -> tuple[float, float]:
         return self.place[2 if is_output else 0], (self.place[1] + self.place[3]) / 2
 
 
-def chains_of(edges, columns):
+def chains_of(edges: list[Edge], columns: dict[Any, int]) -> tuple[list[list[Bend]], list[Edge]]:
     """For each edge the bends on its way, and all that stands in columns: where an edge comes from, and to."""
     chains, steps = [], []
     for source, number, to, port in edges:
@@ -75,7 +82,7 @@ def chains_of(edges, columns):
     return chains, steps
 
 
-def place(columns, steps):
+def place(columns: dict[Any, int], steps: list[Edge]) -> None:
     """Places one column after another, each box where its drivers are, as far as there is room."""
     x = 40
     for column in range(max(columns.values(), default=0) + 1):
@@ -95,7 +102,7 @@ def place(columns, steps):
         x += wide + ACROSS
 
 
-def made(points, to=None, port="1"):
+def made(points: list[tuple[float, float]], to: Optional["Box"] = None, port: str = "1") -> Section:
     """A branch with steps, to a box where one is given."""
     branch = Section("Branch", 0)
     branch.parameters["Points"] = "; ".join(f"{round(right)}, {round(down)}" for right, down in points)
@@ -104,7 +111,7 @@ def made(points, to=None, port="1"):
     return branch
 
 
-def way_through(here, bends, to, port):
+def way_through(here: tuple[float, float], bends: list[Bend], to: "Box", port: str) -> list[tuple[float, float]]:
     """The steps from a place through the bends to the height of a port, each turn between two columns."""
     (x, y), steps = here, []
     for right, height in (bend.port("1", True) for bend in bends):
@@ -114,7 +121,7 @@ def way_through(here, bends, to, port):
     return [*steps, (0, to.port(port, False)[1] - y - above)]
 
 
-def lay_out(boxes, lines):
+def lay_out(boxes: list["Box"], lines: list[Section]) -> list[Section]:
     """Gives each box a place, and gives lines that go there."""
     for box in boxes:
         box.place, box.is_left = None, False

@@ -6,6 +6,7 @@ here.
 
 import re
 from collections import deque
+from typing import Iterator, Optional
 
 NAME = r"[A-Za-z0-9_.$]+"
 BLANKS = " \t\r"
@@ -19,28 +20,31 @@ ESCAPES = {r"\n": "\n", r"\t": "\t", r"\"": '"', r"\\": "\\"}
 class Section:
     """A section with its first parameter of each name, and the line of each."""
 
-    def __init__(self, name, line):
-        self.name, self.line, self.parameters, self.lines, self.sections = name, line, {}, {}, []
+    def __init__(self, name: str, line: int) -> None:
+        self.name, self.line = name, line
+        self.parameters: dict[str, str] = {}
+        self.lines: dict[str, int] = {}
+        self.sections: list["Section"] = []
 
-    def get(self, name, default=""):
+    def get(self, name: str, default: str = "") -> str:
         return self.parameters.get(name, default)
 
-    def all(self, name):
+    def all(self, name: str) -> list["Section"]:
         return [section for section in self.sections if section.name == name]
 
 
-def strings(text):
+def strings(text: str) -> str:
     """The strings of a line, joined."""
     return "".join(re.sub(r"\\.", lambda it: ESCAPES.get(it[0], it[0]), string) for string in STRING.findall(text))
 
 
-def depth_change(line):
+def depth_change(line: str) -> int:
     """By how many brackets more a line of a list opens than it closes, outside of strings."""
     bare = STRING.sub("", line)
     return bare.count("[") - bare.count("]")
 
 
-def value_of(value, lines):
+def value_of(value: str, lines: Iterator[tuple[int, str]]) -> str:
     """The whole value that begins on a line, with those after it that are still of it."""
     parts, depth = [value], depth_change(value) if value.startswith("[") else 0
     while depth > 0:
@@ -55,19 +59,19 @@ def value_of(value, lines):
 class Further:
     """The strings that stand on the lines behind a parameter's, joined to its value once it ends."""
 
-    def __init__(self):
+    def __init__(self) -> None:
         self.section, self.name, self.parts = None, None, []
 
-    def begin(self, section, name):
+    def begin(self, section: Section, name: str) -> None:
         self.section, self.name, self.parts = section, name, []
 
-    def end(self):
+    def end(self) -> None:
         if self.parts:
             self.section.parameters[self.name] += "".join(self.parts)
         self.section, self.parts = None, []
 
 
-def read(text):
+def read(text: str) -> Section:
     """The sections of a text, in a section of their own; a line that has no form is passed over."""
     root = Section("", 0)
     open_sections, further = [root], Further()
@@ -103,7 +107,7 @@ class TooLong(OSError):
     """A file of more bytes than the program reads."""
 
 
-def read_file(path):
+def read_file(path: str) -> tuple[str, Section]:
     """The text of a file, and its sections; where it is not UTF-8, every byte is a character."""
     with open(path, "rb") as file:
         found = file.read(MOST_BYTES + 1)
@@ -116,26 +120,26 @@ def read_file(path):
     return text, read(text)
 
 
-def is_number(text):
+def is_number(text: str) -> bool:
     return re.fullmatch("[0-9]{1,9}", text) is not None
 
 
-def step_of(block):
+def step_of(block: Section) -> str:
     """A block's name as a step of a path."""
     return block.get("Name").replace("/", "//")
 
 
-def shown(text):
+def shown(text: str) -> str:
     """A text in quotes, with no byte that a terminal takes for more than a sign."""
     text = text.replace("\\", "\\\\").replace('"', '\\"').replace("\n", "\\n").replace("\t", "\\t")
     return '"' + re.sub(r"[\x00-\x1f\x7f-\x9f]", "?", text) + '"'
 
 
-def systems_of(block):
+def systems_of(block: Section) -> list[Section]:
     return block.all("System") if block.get("BlockType") == "SubSystem" else []
 
 
-def branches_of(line):
+def branches_of(line: Section) -> Iterator[Section]:
     """A line and its branches, at any depth, each before its own."""
     left = [line]
     while left:
@@ -144,7 +148,7 @@ def branches_of(line):
         left += branch.all("Branch")[::-1]
 
 
-def systems(root):
+def systems(root: Section) -> Iterator[tuple[Section, list[str]]]:
     """Each system that counts, with the steps above it: those of the models, and of their subsystems."""
     left = deque((system, []) for model in root.all("Model") for system in model.all("System"))
     while left:
@@ -157,17 +161,17 @@ def systems(root):
 class Defaults:
     """The parameters of a block, its own and those that the file gives its type."""
 
-    def __init__(self, root):
+    def __init__(self, root: Section) -> None:
         lists = [it for model in root.all("Model")[:1] for it in model.all("BlockParameterDefaults")[:1]]
-        self.by_type = {}
+        self.by_type: dict[str, Section] = {}
         for section in (block for it in lists for block in it.all("Block")):
             self.by_type.setdefault(section.get("BlockType"), section)
 
-    def sections_of(self, block):
+    def sections_of(self, block: Section) -> list[Section]:
         """The sections that say something of a block, in the order in which they count."""
         return [it for it in (block, self.by_type.get(block.get("BlockType"))) if it is not None]
 
-    def of(self, block, name):
+    def of(self, block: Section, name: str) -> Optional[tuple[str, int]]:
         """The value and the line of a parameter, or None."""
         for section in self.sections_of(block):
             if name in section.parameters:
@@ -220,7 +224,7 @@ OF_MODEL = (
 CALLS = ("PreLoadFcn", "PostLoadFcn", "InitFcn", "StartFcn")
 
 
-def of_block(block, defaults):
+def of_block(block: Section, defaults: Defaults) -> Iterator[tuple[int, str, str]]:
     """What the profile passes over in a block: lines, what is said there, and what holds."""
     kind = block.get("BlockType")
     for kinds, name, harmless, holds in PASSED_OVER:
@@ -244,7 +248,7 @@ def of_block(block, defaults):
         yield block.lines[calls[0]], f"{calls[0]}", "its code is not run"
 
 
-def of_model(model):
+def of_model(model: Section) -> Iterator[tuple[int, str, str]]:
     """The same of the model's own parameters, and of those of its configuration."""
     inside = [model] + [it for array in model.all("Array") for it in array.sections]
     for section in inside + [deeper for it in inside[1:] for array in it.all("Array") for deeper in array.sections]:
@@ -256,7 +260,7 @@ def of_model(model):
             yield model.lines[name], name, "its code is not run"
 
 
-def passed_over(text, root):
+def passed_over(text: str, root: Section) -> list[tuple[int, str]]:
     """What a file says and the profile passes over, as lines and what is told of them."""
     found = []
     for form, told in OF_TEXT:

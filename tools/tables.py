@@ -3,19 +3,25 @@
 import os
 import re
 import subprocess
-from collections import namedtuple
+from typing import NamedTuple, Optional
 
 from library import number
-from mdl import Defaults, read_file
+from mdl import Defaults, Section, read_file
 from written import Failed, beside, rows_of, whole
 
 TOP = os.path.dirname(os.path.dirname(os.path.abspath(__file__)))
-# The traces of a port are its elements: a number at each sample that has one, and else None.
-Port = namedtuple("Port", "name is_input type traces")
 
 
+class Port(NamedTuple):
+    """A root port; its traces are its elements: a number at each sample that has one, and else None."""
 
-def root_ports(root, kind):
+    name: str
+    is_input: bool
+    type: str
+    traces: list[list[Optional[int]]]
+
+
+def root_ports(root: Section, kind: str) -> list[tuple[str, str, int]]:
     """The root blocks of this kind in the order of their numbers, as name, type and declared width."""
     defaults, found = Defaults(root), []
     for model in root.all("Model"):
@@ -26,11 +32,11 @@ def root_ports(root, kind):
     return [it[1:] for it in sorted(found)]
 
 
-def traces(rows, first, wide):
+def traces(rows: list[list[str]], first: int, wide: int) -> list[list[Optional[int]]]:
     return [[None if row[at] == "-" else whole(row[at]) for row in rows] for at in range(first, first + wide)]
 
 
-def ports_of(rows, declared, is_input):
+def ports_of(rows: list[list[str]], declared: list[tuple[str, str, int]], is_input: bool) -> list[Port]:
     """The columns of rows by port."""
     if any(len(row) != sum(it[2] for it in declared) for row in rows):
         raise Failed(f"the {'stimulus' if is_input else 'response'} doesn't have the columns of the model's ports")
@@ -41,7 +47,7 @@ def ports_of(rows, declared, is_input):
     return found
 
 
-def answered(command, *words):
+def answered(command: str, *words: str) -> list[str]:
     """The lines that the program answers."""
     done = subprocess.run([os.path.join(TOP, "tilecatnip"), command, *words], stdout=subprocess.PIPE, text=True)
     if done.returncode:
@@ -49,7 +55,7 @@ def answered(command, *words):
     return done.stdout.splitlines()
 
 
-def with_widths(path, declared, columns):
+def with_widths(path: str, declared: list[tuple[str, str, int]], columns: int) -> list[tuple[str, str, int]]:
     """The root outputs with how many elements each has: the file doesn't say it, so where it is in doubt the program does."""
     if len(declared) == 1 or columns in (0, len(declared)):
         return [(name, kind, max(columns // len(declared), 1)) for name, kind, _ in declared]
@@ -59,7 +65,7 @@ def with_widths(path, declared, columns):
     return [(name, kind, wide) for (name, kind, _), wide in zip(declared, widths)]
 
 
-def case_of(path):
+def case_of(path: str) -> list[Port]:
     """The ports of a model with its stimulus, and its response: the one beside it, or the program's."""
     _, root = read_file(path)
     stimulus, response = rows_of(beside(path, ".stim")), beside(path, ".response")

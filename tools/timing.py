@@ -1,11 +1,17 @@
 """Waves as a picture in SVG: a row for each name, levels for one bit and bars with numbers for more."""
 
-from collections import namedtuple
+from typing import Callable, NamedTuple, Optional
 
 from markup import plain
 
-# The changes are times with the number from then on; no number stands where it isn't known.
-Wave = namedtuple("Wave", "name is_bit changes")
+
+class Wave(NamedTuple):
+    """The changes are times with the number from then on; no number stands where it isn't known."""
+
+    name: str
+    is_bit: bool
+    changes: list[tuple[float, Optional[int]]]
+
 
 LEFT, HIGH, GAP, UNIT, SLOPE = 90, 16, 28, 56, 3
 STYLE = """<style>
@@ -16,7 +22,7 @@ text { font-family: Helvetica, Arial, sans-serif; font-size: 10px; fill: #222; t
 </style>"""
 
 
-def pieces(wave, end):
+def pieces(wave: Wave, end: float) -> list[tuple[float, float, Optional[int]]]:
     """Each stretch between changes that change something: its beginning, its end and its number."""
     found = []
     for at, number in wave.changes:
@@ -28,7 +34,7 @@ def pieces(wave, end):
     return [(at, found[k + 1][0] if k + 1 < len(found) else end, number) for k, (at, _, number) in enumerate(found)]
 
 
-def levels(wave, end, scale, top):
+def levels(wave: Wave, end: float, scale: Callable[[float], float], top: float) -> list[str]:
     steps, last = [], None
     for begin, until, number in pieces(wave, end):
         if number is None:
@@ -40,7 +46,7 @@ def levels(wave, end, scale, top):
     return [f'<path d="{"".join(steps)}" class="wave"/>'] if steps else []
 
 
-def bars(wave, end, scale, top):
+def bars(wave: Wave, end: float, scale: Callable[[float], float], top: float) -> list[str]:
     parts = []
     for begin, until, number in pieces(wave, end):
         left, right, middle = scale(begin), scale(until), top + HIGH / 2
@@ -52,7 +58,7 @@ def bars(wave, end, scale, top):
     return parts
 
 
-def timing(waves, marks, end):
+def timing(waves: list[Wave], marks: list[tuple[float, str]], end: float) -> str:
     """The waves up to a time, with a line and a word at each mark; a mark and the next are one unit apart."""
     unit = (marks[1][0] - marks[0][0]) if len(marks) > 1 else max(end, 1)
     scale = lambda time: LEFT + UNIT * time / unit
