@@ -1,0 +1,5 @@
+mod Convolved
+mod Fitting
+mod Rates
+mod Types
+mod Widths
