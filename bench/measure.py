@@ -57,6 +57,13 @@ def verilator_commands(folder, sources):
     return [["rm", "-rf", made], ["verilator", *flags, *sources]], [os.path.join(made, "Vbench")]
 
 
+def verilated_commands(folder, verilog, driver):
+    """The commands that compile a generated text with its driver in C++, and the one that runs them."""
+    made = os.path.join(folder, "made")
+    flags = ["--cc", "--exe", "--build", "-Wno-fatal", "-O3", "-CFLAGS", "-O2", "--top-module", "fx_model", "--Mdir", made]
+    return [["rm", "-rf", made], ["verilator", *flags, verilog, driver]], [os.path.join(made, "Vfx_model")]
+
+
 def report(what, size, time, ruler, ruler_time):
     """Prints one line: the speed, and the ratio to the ruler on the same file in the same run."""
     speed = size / time / 1e6
