@@ -9,6 +9,9 @@ from program import program
 ROUNDINGS = ("Floor", "Ceiling", "Zero", "Nearest", "Round", "Convergent")
 RELATIONS = ("==", "~=", "<", "<=", ">=", ">")
 GATES = ("AND", "OR", "NAND", "NOR", "XOR", "NXOR", "NOT")
+# What may grow, and of how many inputs where these aren't two.
+KINDS = ("Sum", "Sum", "Gain", "Product", "Product", "Switch", "RelationalOperator", "Logic", "DataTypeConversion", "UnitDelay", "Delay", "DiscreteFir")
+INPUTS = {"Gain": 1, "Switch": 3, "DataTypeConversion": 1, "UnitDelay": 1, "Delay": 1, "DiscreteFir": 1}
 CRITERIA = ("u2 >= Threshold", "u2 > Threshold", "u2 ~= 0")
 
 
@@ -39,13 +42,16 @@ class System:
     def number(self) -> str:
         return f"{self.chance.randint(-40, 40) / 8:g}"
 
+    def numbers(self, count: int) -> str:
+        return f"[{' '.join(self.number() for _ in range(count))}]"
+
     def read(self, period: int) -> str:
         return self.chance.choice([name for name, of in self.signals if of == period])
 
     def grow(self, period: int) -> None:
         """One block more, of any kind that reads this period."""
-        kind = self.chance.choice(("Sum", "Sum", "Gain", "Product", "Product", "Switch", "RelationalOperator", "Logic", "DataTypeConversion", "UnitDelay", "Delay"))
-        name, inputs = f"{kind[:3]}{self.count}", {"Gain": 1, "Switch": 3, "DataTypeConversion": 1, "UnitDelay": 1, "Delay": 1}.get(kind, 2)
+        kind = self.chance.choice(KINDS)
+        name, inputs = f"{kind[:3]}{self.count}", INPUTS.get(kind, 2)
         self.count += 1
         if kind == "Sum":
             inputs = self.chance.choice((2, 2, 3))
@@ -61,6 +67,12 @@ class System:
         elif kind == "Logic":
             told = {"Operator": self.chance.choice(GATES)}
             inputs = 1 if told["Operator"] == "NOT" else 2
+        elif kind == "DiscreteFir":
+            taps = self.chance.randint(2, 4)
+            states = self.number() if self.chance.random() < 0.5 else self.numbers(taps - 1)
+            told = {"Coefficients": self.numbers(taps), "InitialStates": states, **self.settling()}
+            if self.chance.random() < 0.5:
+                told["CoefDataTypeStr"] = self.type()
         elif kind in ("UnitDelay", "Delay"):
             told = {"InitialCondition": self.number(), **({"DelayLength": self.chance.randint(1, 3)} if kind == "Delay" else {})}
         else:
@@ -137,7 +149,9 @@ def plan(chance: random.Random, text: str) -> str:
         lines.append(f"cycles {chance.randint(1, 5)}")
         if chance.random() < 0.7:
             lines.append(f"multipliers {chance.randint(1, 2)}")
-    names = [name for name in (part.split('"')[1] for part in text.split("Name ")[2:]) if name[:3] in ("Sum", "Gai", "Pro", "Swi", "Rel", "Log", "Dat")]
+    every = [part.split('"')[1] for part in text.split("Name ")[2:]]
+    names = [name for name in every if name[:3] in ("Sum", "Gai", "Pro", "Swi", "Rel", "Log", "Dat")]
+    names += [f"{name}/sum" for name in every if name[:3] == "Dis"]
     for name in chance.sample(names, min(len(names), chance.choice((0, 0, 1, 2)))):
         lines.append(f'pipeline "{name}" {chance.randint(1, 2)}')
     return "".join(f"{line}\n" for line in lines)
