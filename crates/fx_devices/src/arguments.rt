@@ -3,18 +3,13 @@ ghost use Rattle.std.specs.IoError.{error_kind};
 ghost use Rattle.std.specs.Vec.Iter.{into_iter_items};
 
 use fx_io::OutOfMemory;
-use std::alloc::{Alloc, Global};
-use std::env::{self, Args, Env};
+use std::alloc::Global;
+use std::env::Args;
 use std::io::{self, ErrorKind};
 
-/// The program's words after its name (own). Words that aren't all text are none, which have no
-/// listed shape.
-pub fn words<R: Env + Alloc<A = Global>>(rt: &R) -> Result<Vec<String>, OutOfMemory> {
-    words_in(rt.alloc(), env::args(rt))
-}
-
-/// Those of arguments, of which there are none where they aren't all text.
-fn words_in(alloc: Global, args: io::Result<Args>) -> Result<Vec<String>, OutOfMemory>
+/// The program's words after its name (own), of its arguments. Words that aren't all text are none,
+/// which have no listed shape.
+pub fn words(alloc: Global, args: io::Result<Args>) -> Result<Vec<String>, OutOfMemory>
     ensures found { IfOk args (λ args. IfOk result (λ words.
         words.items ≡ drop 1 (into_iter_items args))) }
     ensures wanting { IfErr args (λ fault. error_kind fault ≡ ErrorKind.OutOfMemory

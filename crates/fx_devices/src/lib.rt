@@ -2,10 +2,12 @@
 //! which tell no content, and the status with which it ends.
 #![tactic(auto)]
 
-mod adapters;
 mod arguments;
 mod ending;
+mod files;
+mod streams;
 
-pub use adapters::{ErrSink, FileShelf, OutSink, Rest, StreamSink};
 pub use arguments::words;
-pub use ending::{closed, status_of};
+pub use ending::{CallEnd, closed, status_of};
+pub use files::{FileShelf, Opens};
+pub use streams::{Ended, ErrSink, OutSink, Rest, StreamSink};

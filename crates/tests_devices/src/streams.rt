@@ -1,5 +1,5 @@
-use fx_devices::{FileShelf, StreamSink, closed};
-use fx_io::{FetchFault, PutFault, Shelf, Sink, put_all};
+use fx_devices::{FileShelf, StreamSink, closed, status_of};
+use fx_io::{FetchFault, OutOfMemory, PutFault, Shelf, Sink, put_all};
 use std::io::{self, ErrorKind, Write};
 use std::test::Fail;
 
@@ -119,9 +119,28 @@ fn what_a_fault_leaves_is_written_no_more(rt: HostRuntime) -> Result<(), Fail> {
         });
         assert_eq!(rt; put_all(&mut sink, b"abc"), Ok(()));
         assert_eq!(rt; put_all(&mut sink, more), put);
-        assert_eq!(rt; closed(sink, status, &mut err), 4);
+        assert_eq!(rt; closed(sink, status, &mut err).status, 4);
         assert_eq!(rt; err.writer.taken.as_slice(), line.as_bytes());
         assert_eq!(rt; std::fs::read_to_string(&rt, "left")?.as_str(), "");
+    }
+    Ok(())
+}
+
+#[test]
+fn what_ends_a_call_is_said(rt: HostRuntime) -> Result<(), Fail> {
+    let rows = [
+        (Err(OutOfMemory), 1, "out of memory\n"),
+        (Ok(0), 0, ""),
+        (Ok(7), 7, ""),
+    ];
+    for (answer, status, line) in rows {
+        let mut err = StreamSink::new(Narrow {
+            taken: Vec::new(rt.alloc()),
+            piece: 5,
+            room: 99,
+        });
+        assert_eq!(rt; status_of(answer, &mut err), status);
+        assert_eq!(rt; err.writer.taken.as_slice(), line.as_bytes());
     }
     Ok(())
 }

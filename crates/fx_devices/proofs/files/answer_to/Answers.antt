@@ -1,7 +1,7 @@
 use Rattle.std.proofs.Common.{length, Ok, Err, refl, ap, arith}
 use Rattle.fx_io.specs.declared.shelf.FetchFault.TheVariants.{Failed, TooLong, OutOfMemory}
 use Rattle.fx_devices.proofs.Counted.{owed}
-use Rattle.fx_devices.proofs.adapters.answer_to.Goals as goal
+use Rattle.fx_devices.proofs.files.answer_to.Goals as goal
 
 pub returns-in-Ok-from_vec-clause-owed : goal.returns-in-Ok-from_vec-clause-owed
 returns-in-Ok-from_vec-clause-owed c = owed c.args.limit _ _ _ _ (Ok c.in-Ok-from_vec.text) (omega (arith, ap length c.in-Ok-from_vec.ensures, c.len.ensures, c.if-len-limit.true), refl, refl)
