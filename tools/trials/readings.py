@@ -8,7 +8,7 @@ import tempfile
 import unittest
 
 from .common import TOOLS, TOP, read, write
-from .pages import program
+from .pages import blocks_of, commands_of, program
 
 sys.path.insert(0, TOOLS)
 from equality import solvers
@@ -53,6 +53,13 @@ class Readings(unittest.TestCase):
             made = subprocess.run([program(), "generate", "parts.mdl", "-"], cwd=folder, capture_output=True, text=True)
             write(os.path.join(folder, "parts.v"), made.stdout)
             self.assertEqual(self.asked(folder, "whole.mdl", "-", "parts.v"), "equal\n")
+
+    def test_a_text_that_is_edited_as_BOARD_shows(self):
+        [(command, _), (_, shown)] = [it for language, text in blocks_of("docs/BOARD.md") if "tools/equal" in text for it in commands_of(text)]
+        with tempfile.TemporaryDirectory() as folder:
+            edited = subprocess.run(["sh", "-c", command.replace(">edited.v", "")], cwd=TOP, capture_output=True, text=True).stdout
+            write(os.path.join(folder, "edited.v"), edited)
+            self.assertEqual(self.asked(folder, os.path.join(TOP, "examples/unit_delay.mdl"), "-", "edited.v"), shown)
 
     def test_an_accumulator_saturates_step_by_step(self):
         """100 and 100 are 127, and less 100 they are 27; added up whole they are 100."""
