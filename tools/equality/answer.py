@@ -34,15 +34,6 @@ class Answer:
     seconds: float = 0.0
 
 
-@dataclass(frozen=True)
-class Steps:
-    """A machine that makes many clocks in a step, and how many steps it has behind it at its start."""
-
-    machine: aig.Machine
-    before: int
-    told: str
-
-
 class Question:
     """A model with a plan and a text, and how many seconds of a processor an answer may take."""
 
@@ -67,16 +58,13 @@ class Question:
             return Answer(Verdict.OPEN, ["Yosys wasn't done in the time"])
         machine, names = made
         tried = [f"{len(machine.gates)} gates and {machine.latches} latches"]
-        steps = self.stepped(machine, names)
-        tried.append(steps.told)
-        shown = self.sought(machine, names, folder, min(GLANCE, self.left())) if steps.machine.outputs[0] else None
+        stepped, told = self.stepped(machine, names)
+        tried.append(told)
+        shown = self.sought(machine, names, folder, min(GLANCE, self.left())) if stepped.outputs[0] else None
         if shown is None:
-            # what a pipeline holds of its own past is alike once as many steps are looked at as it is long
-            depths = list(dict.fromkeys((1, max(steps.before, 1))))
-            for frames in depths:
-                if solvers.proved(steps.machine, frames, folder, self.left() * (2 / 3 if frames == depths[-1] else 1 / 6)):
-                    return Answer(Verdict.EQUAL, gates=len(machine.gates))
-                tried.append(f"scorr by {frames}, dc2 and pdr on {len(steps.machine.gates)} gates")
+            if solvers.proved(stepped, folder, self.left() * 2 / 3):
+                return Answer(Verdict.EQUAL, gates=len(machine.gates))
+            tried.append(f"scorr, dc2 and pdr on {len(stepped.gates)} gates")
             shown = self.sought(machine, names, folder, self.left())
         if shown is None:
             return Answer(Verdict.OPEN, tried, gates=len(machine.gates))
@@ -99,15 +87,15 @@ class Question:
         found = self.sought(*made, folder, min(GLANCE, self.left())) if made else None
         return found if found and found.by_replay else None
 
-    def stepped(self, machine: aig.Machine, names: solvers.Names) -> Steps:
+    def stepped(self, machine: aig.Machine, names: solvers.Names) -> tuple[aig.Machine, str]:
         """The machine by steps of whole base samples, behind its start, where it keeps its state in a stall."""
         if ("go", 0) in names.inputs and not aig.stands_still(machine, names.fixed(never=0, go=0)):
-            return Steps(aig.from_nothing(machine, names.fixed(never=0)), 0, "it doesn't keep its state in a stall")
+            return aig.from_nothing(machine, names.fixed(never=0)), "it doesn't keep its state in a stall"
         going = aig.from_nothing(machine, names.fixed(never=0, go=1))
         cycles, common = self.miter.cycles, math.lcm(1, *self.miter.periods())
         samples = common if common * cycles <= CLOCKS else 1
         before = -(-self.schedule.depth // samples) + (samples * cycles > 1)
-        return Steps(aig.by_steps(going, samples * cycles, cycles, before), before, f"a step of {samples * cycles} clocks, behind {before} steps")
+        return aig.by_steps(going, samples * cycles, cycles, before), f"a step of {samples * cycles} clocks, behind {before} steps"
 
 
 def unshown(rows: list[list[int]]) -> Difference:

@@ -151,7 +151,6 @@ class Ideal:
         full = full_product(left[1], right[1])
         width = full.width + 2
         exact = self.wire(width, f"{left[0]} * {right[0]}")
-        self.remembered[exact] = width
         return self.converted(exact, width, full.frac, self.types[block], block)
 
     def of_Switch(self, block: Block, port: int, element: int) -> str:

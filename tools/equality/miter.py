@@ -99,23 +99,20 @@ class Miter:
         ports = [f"input {word(self.signals.types[it.block])} {ideal.port('i', it.block, it.element)}" for it in self.inputs]
         ports += [f"output {word(self.signals.types[it.block])} {ideal.port('o', it.block, it.element)}" for it in self.outputs]
         ports += [f"input hit_{period}, input last_{period}" for period in self.periods()]
-        remembered, wide = self.remembered()
-        ports.append(f"output [{max(wide, 1) - 1}:0] remembered")
-        lines = [f"module fx_ideal (input clk, input step{''.join(f', {port}' for port in ports)});", *ideal.nets, *ideal.lines, *remembered]
+        ports.append(f"output [{self.wide() - 1}:0] remembered")
+        lines = [f"module fx_ideal (input clk, input step{''.join(f', {port}' for port in ports)});", *ideal.nets, *ideal.lines]
+        lines.append(f"  assign remembered = {{{', '.join(ideal.remembered) or chr(49) + chr(39) + 'b0'}}};")
         lines += [f"  assign {ideal.port('o', it.block, it.element)} = {ideal.name(it.block, 0, it.element)};" for it in self.outputs]
         return "\n".join([*lines, "endmodule", ""])
 
-    def remembered(self) -> tuple[list[str], int]:
-        """What the module may hold of earlier base samples: nets that only help a proof along, in one word."""
-        lines, names, wide = [], [], 0
-        for net, width in self.ideal.remembered.items():
-            before = net
-            for at in range(1, self.schedule.depth + 1):
-                lines.append(register(f"r_{net}_{at}", width, "step", before))
-                before = f"r_{net}_{at}"
-                names.append(before)
-                wide += width
-        return [*lines, f"  assign remembered = {{{', '.join(names) or chr(49) + chr(39) + 'b0'}}};"], wide
+    def wide(self) -> int:
+        """How many bits of a model's nets may be remembered by a module; they only help a proof along."""
+        return max(sum(self.ideal.remembered.values()), 1)
+
+    def stages(self) -> list[int]:
+        """By how many base samples models are late that run beside the module, each on inputs as late: what the
+        module holds of a sample before is what one of them shows."""
+        return sorted({*range(self.schedule.depth + 1), *map(self.late, self.outputs)})
 
     def periods(self) -> list[int]:
         return sorted({period for period in self.signals.periods.values() if period and period > 1})
@@ -129,7 +126,20 @@ class Miter:
         for period in self.periods():
             at, bits = f"at_{period}", period.bit_length()
             lines += [register(at, bits, "step", f"{at} == {period - 1} ? {number(0, bits, False)} : {at} + 1'd1")]
-            lines += [f"  wire hit_{period} = {at} == 0;", f"  wire last_{period} = {at} == {period - 1};"]
+            lines += [f"  wire hit_{period} = {at} == 0;"]
+        return lines + self.counted_late()
+
+    def counted_late(self) -> list[str]:
+        """How many base samples have gone by, up to the latest stage, and the same counts for each stage."""
+        last = self.stages()[-1]
+        lines = [register("age", last.bit_length() + 1, f"step && age < {last}", "age + 1'd1")] if last else []
+        for stage in self.stages():
+            goes = "step" if stage == 0 else f"step && age >= {stage}"
+            lines.append(f"  wire step_s{stage} = {goes};")
+            for period in self.periods():
+                at, bits = f"at_{period}_s{stage}", period.bit_length()
+                lines += [register(at, bits, f"step_s{stage}", f"{at} == {period - 1} ? {number(0, bits, False)} : {at} + 1'd1")]
+                lines += [f"  wire hit_{period}_s{stage} = {at} == 0;", f"  wire last_{period}_s{stage} = {at} == {period - 1};"]
         return lines
 
     def driven(self, column: Column) -> list[str]:
@@ -145,43 +155,54 @@ class Miter:
 
     def compared(self, place: int, column: Column, window: Window) -> list[str]:
         """An output in its window, beside what the model showed so many base samples ago."""
-        of, late, cycles, period = self.signals.types[column.block], self.late(column), self.cycles, column.port.period
-        lines, wanted, told = [], f"e{place}", column.port.latency
-        for at in range(late):
-            lines.append(register(f"e{place}_{at}", of.width, "step", wanted, of.signed))
-            wanted = f"e{place}_{at}"
-        ready = told - late * cycles
+        late, cycles, period = self.late(column), self.cycles, column.port.period
+        ready = column.port.latency - late * cycles
         at = ["phase" if cycles > 1 else "0"]
         if period > 1:
             back = late % period
             at.append(f"(at_{period} >= {back} ? at_{period} - {back} : at_{period} + {period - back}) * {cycles}")
-        lines.append(f"  wire [31:0] since{place} = {' + '.join(at)};")
+        lines = [f"  wire [31:0] since{place} = {' + '.join(at)};"]
         due = f"since{place} {'>=' if window is Window.WHOLE else '=='} {ready}"
-        if late:
-            bits = late.bit_length() + 1
-            lines.append(register(f"age{place}", bits, f"step && age{place} < {late}", f"age{place} + 1'd1"))
-            due += f" && age{place} >= {late}"
-        return lines + [f"  wire differs{place} = go && {due} && o{place} != {wanted};"]
+        due += f" && age >= {late}" if late else ""
+        return lines + [f"  wire differs{place} = go && {due} && o{place} != e{place}_s{late};"]
+
+    def beside(self, stage: int) -> list[str]:
+        """The model that is so many base samples late."""
+        lines, joined = [], [f".clk(clk), .step(step_s{stage}), .remembered(remembered_s{stage})"]
+        for at, it in enumerate(self.inputs):
+            joined.append(f".{self.ideal.port('i', it.block, it.element)}({self.delayed(at, stage)})")
+        for at, it in enumerate(self.outputs):
+            lines.append(f"  wire {word(self.signals.types[it.block])} e{at}_s{stage};")
+            joined.append(f".{self.ideal.port('o', it.block, it.element)}(e{at}_s{stage})")
+        for period in self.periods():
+            joined.append(f".hit_{period}(hit_{period}_s{stage}), .last_{period}(last_{period}_s{stage})")
+        lines.append(f"  wire [{self.wide() - 1}:0] remembered_s{stage};")
+        return lines + [f"  fx_ideal ideal_s{stage} ({', '.join(joined)});"]
+
+    @staticmethod
+    def delayed(at: int, late: int) -> str:
+        return f"u{at}_s{late}" if late else f"u{at}"
 
     def bench(self, stalls: Stalls, window: Window) -> str:
         free = [f"input {word(self.signals.types[it.block])} free_u{at}" for at, it in enumerate(self.inputs)]
         # two inputs that stay 0 keep `bad` from being a constant
         going = ["input never, input never_too"] + ([] if stalls is Stalls.NONE else ["input go"])
-        wide = max(self.remembered()[1], 1)
-        lines = [f"module fx_miter ({', '.join(['input clk', *going, *free, 'output bad', f'output [{wide - 1}:0] remembered'])});"]
+        stages = self.stages()
+        wide = f"output [{self.wide() * len(stages) - 1}:0] remembered"
+        lines = [f"module fx_miter ({', '.join(['input clk', *going, *free, 'output bad', wide])});"]
         lines += ["  wire go = 1'b1;"] if stalls is Stalls.NONE else []
         lines += self.counted()
-        for column in self.inputs:
+        for at, column in enumerate(self.inputs):
+            of = self.signals.types[column.block]
             lines += self.driven(column)
+            lines += [register(self.delayed(at, late), of.width, "step", self.delayed(at, late - 1), of.signed) for late in range(1, stages[-1] + 1)]
         joined = [f".{it.port.name}(u{at})" for at, it in enumerate(self.inputs)]
-        own = [f".{self.ideal.port('i', it.block, it.element)}(u{at})" for at, it in enumerate(self.inputs)]
         for at, it in enumerate(self.outputs):
-            lines.append(f"  wire {word(self.signals.types[it.block])} o{at}, e{at};")
+            lines.append(f"  wire {word(self.signals.types[it.block])} o{at};")
             joined.append(f".{it.port.name}(o{at})")
-            own.append(f".{self.ideal.port('o', it.block, it.element)}(e{at})")
-        for period in self.periods():
-            own.append(f".hit_{period}(hit_{period}), .last_{period}(last_{period})")
-        lines += ["  wire ce_out;", f"  fx_ideal ideal ({', '.join(['.clk(clk), .step(step), .remembered(remembered)', *own])});"]
+        for stage in stages:
+            lines += self.beside(stage)
+        lines += ["  wire ce_out;", f"  assign remembered = {{{', '.join(f'remembered_s{stage}' for stage in stages)}}};"]
         held = [".clk_enable(go), .ce_out(ce_out)"] if self.controls else []
         lines += [f"  {MODULE} tested ({', '.join(['.clk(clk), .reset(1' + chr(39) + 'b0)', *held, *joined])});"]
         for at, it in enumerate(self.outputs):

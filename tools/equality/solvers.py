@@ -18,7 +18,7 @@ ABC = ("berkeley-abc", "yosys-abc")
 # How a command ends that has had its seconds, and by how much longer it may wait for a processor.
 OUT_OF_TIME, WAITED = (-signal.SIGXCPU, -signal.SIGKILL), 20
 STEPS = "read_verilog miter.v; hierarchy -top fx_miter; proc; flatten; write_json miter.json"
-PROOF = "read_aiger {name}; strash; scorr -F {frames}; cone -s -O 0; scorr -F {frames}; dc2; scorr; print_stats; pdr -T {seconds}; print_status"
+PROOF = "read_aiger {name}; strash; scorr; cone -s -O 0; scorr; dc2; scorr; print_stats; pdr -T {seconds}; print_status"
 SEARCH = "read_aiger {name}; cone -s -a -O 0; bmc3 -F {frames} -T {seconds}; print_status; write_cex -a {cex}"
 
 
@@ -78,9 +78,9 @@ def machine_of(verilog: str, folder: str, seconds: float) -> Optional[tuple[aig.
     return design.machine, Names(design.inputs)
 
 
-def proved(machine: aig.Machine, frames: int, folder: str, seconds: float) -> bool:
-    """Whether the first output is proved to stay 0, in time, by nets that are alike in so many steps one after another."""
-    return machine.outputs[0] == 0 or "Status = 1" in asked(machine, folder, PROOF, seconds, frames=frames)
+def proved(machine: aig.Machine, folder: str, seconds: float) -> bool:
+    """Whether the first output is proved to stay 0, in time."""
+    return machine.outputs[0] == 0 or "Status = 1" in asked(machine, folder, PROOF, seconds)
 
 
 def found(machine: aig.Machine, frames: int, folder: str, seconds: float) -> Optional[list[list[int]]]:
