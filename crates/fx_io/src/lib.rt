@@ -5,8 +5,8 @@
 //! - `Shelf` and `Sink`: where files come from and where bytes go. Each counts its faults, and a
 //!   fault is answered only where the count rose in the call (`specs/Shelf.antt`, `specs/Sink.antt`,
 //!   `specs/Cause.antt`). `put_all` puts bytes to the last or leaves a proper prefix.
-//!   Their forms stand above: in memory for tests (`fx_memory`), and over the system's files and
-//!   streams (`fx_devices`).
+//!   Their forms stand above: in memory for tests (`io_memory`), and over the system's files and
+//!   streams (`io_devices`).
 //! - `Gate`: what workers pass before a piece of work. `OpenGate` lets all by.
 #![tactic(auto)]
 

@@ -3,7 +3,7 @@ use Rattle.std.specs.Prelude.{◌≡◌, ◌⊎◌, ℕ, List, [], Option, Resul
 use Rattle.std.specs.Global.{Global}
 use Rattle.std.specs.Vec.Iter.{into_iter_items}
 use Rattle.std.specs.declared.vec.IntoIter.{IntoIter}
-use Rattle.fx_devices.specs.Ending.{WasPut}
+use Rattle.io_devices.specs.Ending.{WasPut}
 use Rattle.fx_io.specs.Cause.{Rose}
 use Rattle.fx_io.specs.Sink.{untold}
 use Rattle.fx_top.specs.Call.{Files, Stream, stream_in}

@@ -7,9 +7,9 @@ ghost use Rattle.std.specs.Process.{exit_status};
 ghost use Rattle.fx_prog.specs.Program.{IsDone, IsEnded};
 ghost use Rattle.fx_top.specs.Call.{files_in};
 
-use fx_devices::{ErrSink, FileShelf, OutSink, closed, status_of, words};
 use fx_io::{OutOfMemory, Shelf, Sink};
 use fx_top::run;
+use io_devices::{ErrSink, FileShelf, OutSink, closed, status_of, words};
 use std::alloc::Global;
 use std::env::{self, Args};
 use std::io::{self, Write};

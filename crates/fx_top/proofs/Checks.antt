@@ -1,9 +1,9 @@
 -- How the text of a check was put.
 use Rattle.std.proofs.Common.{ℕ, List, Option, Result, Ok, Err}
 use Rattle.std.specs.Prelude.{⊤}
-use Rattle.fx_check.specs.Gathered.{WritesCheck}
-use Rattle.fx_designed.specs.declared.designing.Designed.{Designed}
-use Rattle.fx_designed.specs.Refused.{IsDesigned}
+use Rattle.cmd_check.specs.Gathered.{WritesCheck}
+use Rattle.cmd_design.specs.declared.designing.Designed.{Designed}
+use Rattle.cmd_design.specs.Refused.{IsDesigned}
 use Rattle.fx_io.specs.declared.sink.PutFault.{PutFault}
 use Rattle.hw_rules.specs.Times.{timing_in}
 use Rattle.fx_top.specs.Call.{stream_in}

@@ -9,7 +9,7 @@ use Rattle.mdl_text.specs.declared.tree.Tree.{Tree}
 use Rattle.mdl_text.specs.Stands.{Stands}
 use Rattle.fx_tables.specs.declared.table.TableCause.{TableCause}
 use Rattle.vl_ast.specs.declared.modules.Module.{Module}
-use Rattle.fx_explored.specs.RangeWord.{range_of}
+use Rattle.cmd_explore.specs.RangeWord.{range_of}
 use Rattle.hw_explore.specs.declared.range.Range.{Range}
 use Rattle.mdl_values.specs.Words.{value_beside}
 use Rattle.fx_top.specs.declared.task.Task.{Task}
@@ -17,10 +17,10 @@ use Rattle.fx_top.specs.declared.task.Task.TheVariants as task
 use Rattle.fx_top.specs.Command.{Asked, Command, OfFiles, Generate, Replay, Simulate, Explore, Check, Stream, asked_of, explored, model_of, plan_word, verilog_of, first_of}
 use Rattle.fx_top.specs.inner.Named.{over_files}
 use Rattle.fx_top.specs.inner.Tasks.{IsTask}
-use Rattle.fx_model.specs.Model.{IsModelOf, IsBrokenModel, IsAccepted}
+use Rattle.cmd_model.specs.Model.{IsModelOf, IsBrokenModel, IsAccepted}
 use Rattle.fx_top.specs.Outcome.{Yields, IsBadFor}
 use Rattle.fx_top.specs.Output.{IsBadTable}
-use Rattle.fx_replayed.specs.Replayed.{IsSoundText}
+use Rattle.cmd_replay.specs.Replayed.{IsSoundText}
 
 -- ---- tasks
 

@@ -2,9 +2,9 @@
 use Rattle.std.proofs.Common.{◌⊎◌, inl, inr, ◌≡◌, ℕ, Bool, true, false, if◌then◌else◌, List, [], ◌∷◌, ◌++◌, All, bytes_eq, codes, refl, subst}
 use Rattle.std.specs.Str.Lines.{lines}
 use Rattle.std.proofs.lemmas.List.Elements.{All-cons, All-nil}
-use Rattle.fx_designed.specs.Design.{IsBadPlan, TellsPlanRule}
+use Rattle.cmd_design.specs.Design.{IsBadPlan, TellsPlanRule}
 use Rattle.fx_io.specs.Shelf.{Told, Fetched}
-use Rattle.fx_model.specs.RuleLine.{TellsRule}
+use Rattle.cmd_model.specs.RuleLine.{TellsRule}
 use Rattle.fx_tables.specs.declared.table.TableCause.{TableCause}
 use Rattle.fx_tables.specs.declared.table.TableFault.TheVariants.{Bad}
 use Rattle.fx_tables.specs.Plan.{IsPlanFault}
@@ -12,7 +12,7 @@ use Rattle.fx_top.specs.Call.{Files, file_limit}
 use Rattle.fx_top.specs.Cause.{BreaksSomeRule, HasBadLine, IsFetched}
 use Rattle.fx_top.specs.Command.{Command, PlanWord, EmptyPlan, Named, Stream as StreamOf, first_of, plan_files, plan_word}
 use Rattle.fx_top.specs.Output.{IsPlanText}
-use Rattle.fx_generated.specs.Streamed.{TellsStreamRule}
+use Rattle.cmd_generate.specs.Streamed.{TellsStreamRule}
 use Rattle.fx_top.proofs.Told.{ReadsPlan, reads-plan}
 
 fetched-all : (held : List ℕ → Told) (model bytes : List ℕ) → Fetched (held model) file_limit bytes → All (λ file. (bytes : List ℕ) × Fetched (held file) file_limit bytes) (model ∷ [])

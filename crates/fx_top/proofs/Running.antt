@@ -14,15 +14,15 @@ use Rattle.fx_top.specs.Call.{Files, Stream, Trouble, Absent, Overlong, first_tr
 use Rattle.fx_top.specs.Cause.{AreFetched, HasNoTree, HasBrokenRule, HasBrokenPlan, HasBrokenPorts, HasBadLine, HasNoVerilog, BreaksCondition}
 use Rattle.fx_top.specs.Caused.{HasCause, HasWritten, IsCarriedOut}
 use Rattle.fx_top.specs.Command.{Asked, Command, PlanWord, Generate, Replay, Simulate, Explore, Check, Stream as StreamOf, OfFiles, asked_of, model_of, verilog_of, plan_of, table_of, first_of, files_of}
-use Rattle.fx_designed.specs.Design.{IsBadPlan, TellsPlanRule}
-use Rattle.fx_model.specs.Model.{IsNoText, IsModelOf, IsBrokenModel, IsWithoutDiagram}
-use Rattle.fx_generated.specs.Generated.{IsWithoutDesign}
+use Rattle.cmd_design.specs.Design.{IsBadPlan, TellsPlanRule}
+use Rattle.cmd_model.specs.Model.{IsNoText, IsModelOf, IsBrokenModel, IsWithoutDiagram}
+use Rattle.cmd_generate.specs.Generated.{IsWithoutDesign}
 use Rattle.fx_top.specs.Outcome.{Yields, Tells, TellsPlan, IfCommand, IsBadFor, IsDue, CanBeDone, IsComplete}
 use Rattle.fx_top.specs.Output.{IsOutput}
-use Rattle.fx_replayed.specs.Replayed.{HasFault, IsNoVerilog, IsSoundText, fault_for}
-use Rattle.fx_simulated.specs.Simulating.{fault_in}
-use Rattle.fx_generated.specs.Streamed.{IsWithoutStream}
-use Rattle.fx_replayed.proofs.Unreplayed.{sound-first}
+use Rattle.cmd_replay.specs.Replayed.{HasFault, IsNoVerilog, IsSoundText, fault_for}
+use Rattle.cmd_simulate.specs.Simulating.{fault_in}
+use Rattle.cmd_generate.specs.Streamed.{IsWithoutStream}
+use Rattle.cmd_replay.proofs.Unreplayed.{sound-first}
 use Rattle.fx_top.proofs.Commands.{IsFit, IsGood, accepted-fit, bad-fit, first-model, first-verilog, fit-kept, fit-sound, fit-tree, good-diagram, good-sound, good-tree, model-alone, model-good, own-first, table-good}
 use Rattle.fx_top.proofs.Told.{HasDesign, check-design, design-good, design-planned, design-told, fetched-told, lines-kept, no-trouble, none-broken, reads-plan, rules-kept, stream-design, told-is, verilog-design}
 use Rattle.fx_top.proofs.Unsteady.{designable, ports-good, ports-kept, ports-model, ports-planned, unstreamed}

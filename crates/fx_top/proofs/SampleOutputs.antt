@@ -10,14 +10,14 @@ use Rattle.dg_model.specs.Laws.{OutputsAreListed}
 use Rattle.dg_model.specs.RootElements.{RootElement, root_outputs}
 use Rattle.dg_model.specs.Wired.{IsWired}
 use Rattle.dg_tables.specs.Listing.{AreBlocksOf}
-use Rattle.fx_sample.specs.declared.summing.Made.{Made}
-use Rattle.fx_sample.specs.Summary.{equal_count, summary_text}
-use Rattle.fx_sample.specs.ModelText.{sample_model}
-use Rattle.fx_sample.specs.Stimulus.{sample_plan, sample_stimulus}
-use Rattle.fx_designed.specs.Design.{IsDesignOf}
+use Rattle.cmd_sample.specs.declared.summing.Made.{Made}
+use Rattle.cmd_sample.specs.Summary.{equal_count, summary_text}
+use Rattle.cmd_sample.specs.ModelText.{sample_model}
+use Rattle.cmd_sample.specs.Stimulus.{sample_plan, sample_stimulus}
+use Rattle.cmd_design.specs.Design.{IsDesignOf}
 use Rattle.fx_top.specs.Summarized.{IsMade, IsSampleResponse, IsSummaryOf, latency_of_output}
-use Rattle.fx_generated.specs.Generated.{SpellsAlone}
-use Rattle.fx_generated.specs.Generating.{IsWrittenOf}
+use Rattle.cmd_generate.specs.Generated.{SpellsAlone}
+use Rattle.cmd_generate.specs.Generating.{IsWrittenOf}
 use Rattle.fx_top.specs.inner.Sampling.{IsOwed}
 use Rattle.hw_module.specs.Design.{IsModuleOf}
 use Rattle.hw_rules.specs.declared.times.Times.{Times}

@@ -3,26 +3,26 @@ use Rattle.std.proofs.Common.{◌≡◌, ◌⊎◌, ⊎_elim, ℕ, List, None, S
 use Rattle.fx_top.specs.declared.answer.Answer.{Answer}
 use Rattle.fx_top.specs.declared.answer.Answer.TheVariants.{Done, OutOfMemory, Usage, CannotRead, CannotWrite, NotMdl, BadTable, BreaksRule, NotVerilog, Broken, TooLong}
 use Rattle.dg_model.specs.declared.diagram.Diagram.{Diagram}
-use Rattle.fx_designed.specs.declared.designing.DesignFault.{DesignFault}
-use Rattle.fx_designed.specs.declared.designing.DesignFault.TheVariants as design
-use Rattle.fx_designed.specs.Design.{IsBadPlan, TellsPlanRule}
-use Rattle.fx_designed.specs.Refused.{IsRefusedDesign}
-use Rattle.fx_model.specs.Model.{IsModelOf, IsNotMdl, IsWithoutDiagram}
-use Rattle.fx_model.specs.RuleLine.{TellsRule}
-use Rattle.fx_sample.specs.Laws.{PlanIsGood}
-use Rattle.fx_sample.specs.ModelText.{sample_model}
-use Rattle.fx_sample.specs.Stimulus.{sample_plan, sample_stimulus}
+use Rattle.cmd_design.specs.declared.designing.DesignFault.{DesignFault}
+use Rattle.cmd_design.specs.declared.designing.DesignFault.TheVariants as design
+use Rattle.cmd_design.specs.Design.{IsBadPlan, TellsPlanRule}
+use Rattle.cmd_design.specs.Refused.{IsRefusedDesign}
+use Rattle.cmd_model.specs.Model.{IsModelOf, IsNotMdl, IsWithoutDiagram}
+use Rattle.cmd_model.specs.RuleLine.{TellsRule}
+use Rattle.cmd_sample.specs.Laws.{PlanIsGood}
+use Rattle.cmd_sample.specs.ModelText.{sample_model}
+use Rattle.cmd_sample.specs.Stimulus.{sample_plan, sample_stimulus}
 use Rattle.fx_tables.specs.declared.table.TableCause.{TableCause}
 use Rattle.fx_tables.specs.declared.table.TableFault.{TableFault}
 use Rattle.fx_tables.specs.declared.table.TableFault.TheVariants.{Bad}
-use Rattle.fx_simulated.specs.Simulating.{IsStimulusFault, fault_in}
+use Rattle.cmd_simulate.specs.Simulating.{IsStimulusFault, fault_in}
 use Rattle.mdl_text.specs.Prefix.{IsMdl}
 use Rattle.fx_top.specs.Answer.{status_of}
-use Rattle.fx_replayed.specs.Benched.{IsTold}
+use Rattle.cmd_replay.specs.Benched.{IsTold}
 use Rattle.fx_top.specs.Call.{Files, Stream}
 use Rattle.fx_top.specs.Caused.{IsCarriedOut}
 use Rattle.fx_top.specs.Command.{Sample, asked_of}
-use Rattle.fx_generated.specs.Generated.{CanBeDesigned, IsWithoutDesign}
+use Rattle.cmd_generate.specs.Generated.{CanBeDesigned, IsWithoutDesign}
 use Rattle.fx_top.specs.Sampled.{HasSampleCause, HasSampleWritten, IfSample, IsCompleteSample, IsDueSample}
 use Rattle.fx_top.specs.Simulated.{CanBeSimulated}
 use Rattle.fx_top.specs.Summarized.{IsSummaryOf, IsSummed, TellsSampleRule}

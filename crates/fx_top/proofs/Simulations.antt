@@ -3,9 +3,9 @@ use Rattle.std.proofs.Common.{◌≡◌, ℕ, List, Result, Ok, Err, OnErr, OnOk
 use Rattle.std.specs.Prelude.{⊤}
 use Rattle.dg_model.specs.Checked.{CheckedDiagram}
 use Rattle.fx_io.specs.declared.sink.PutFault.{PutFault}
-use Rattle.fx_model.specs.Model.{IsModelOf}
-use Rattle.fx_simulated.specs.declared.simulation.Simulation.{Simulation}
-use Rattle.fx_simulated.specs.Simulating.{IsSimulationIn, TookLines, TookPartOfLines}
+use Rattle.cmd_model.specs.Model.{IsModelOf}
+use Rattle.cmd_simulate.specs.declared.simulation.Simulation.{Simulation}
+use Rattle.cmd_simulate.specs.Simulating.{IsSimulationIn, TookLines, TookPartOfLines}
 use Rattle.fx_tables.specs.Response.{response}
 use Rattle.fx_tables.specs.RowText.{periods_of}
 use Rattle.fx_top.specs.Call.{Stream}

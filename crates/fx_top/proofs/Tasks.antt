@@ -2,12 +2,12 @@
 use Rattle.std.proofs.Common.{◌≡◌, ◌⊎◌, ℕ, List, ◌∷◌, All, Some, Result, Ok, Err, OnErr, OnOk, inl, refl, sym, subst}
 use Rattle.std.specs.Prelude.{⊤}
 use Rattle.std.specs.Borrow.{Bor}
-use Rattle.fx_designed.specs.declared.designing.DesignFault.{DesignFault}
-use Rattle.fx_designed.specs.Design.{IsBadPlan, TellsPlanRule}
+use Rattle.cmd_design.specs.declared.designing.DesignFault.{DesignFault}
+use Rattle.cmd_design.specs.Design.{IsBadPlan, TellsPlanRule}
 use Rattle.fx_io.specs.declared.sink.PutFault.{PutFault}
 use Rattle.fx_io.specs.Shelf.{Fetched, Told}
 use Rattle.fx_io.specs.Sink.{TookProperPrefix, also_took}
-use Rattle.fx_model.specs.RuleLine.{TellsRule}
+use Rattle.cmd_model.specs.RuleLine.{TellsRule}
 use Rattle.fx_tables.specs.declared.table.TableCause.{TableCause}
 use Rattle.fx_top.specs.declared.fault.Fault.{Fault}
 use Rattle.fx_top.specs.declared.fault.Fault.TheVariants.{NotMdl, BreaksRule, NotVerilog, Broken, BadTable, OutOfMemory}
@@ -19,8 +19,8 @@ use Rattle.fx_top.specs.Caused.{HasCause, HasWritten}
 use Rattle.fx_top.specs.Command.{Command, Replay, files_of, first_of, model_of, plan_files, plan_of, plan_word}
 use Rattle.fx_top.specs.Output.{IsOutput, IsPlanText}
 use Rattle.fx_top.specs.Simulated.{IsBadSimulation}
-use Rattle.fx_generated.specs.Streamed.{TellsStreamRule}
-use Rattle.fx_generated.specs.Generating.{IsModuleFor, IsTextOf}
+use Rattle.cmd_generate.specs.Streamed.{TellsStreamRule}
+use Rattle.cmd_generate.specs.Generating.{IsModuleFor, IsTextOf}
 use Rattle.fx_top.specs.inner.Refusing.{IsDesignFault, IsReplayFault, OfModel, answer_to}
 use Rattle.fx_top.specs.inner.Tasks.{IsDone, IsFaultOf, IsPut, Makes, command_of, table_word}
 use Rattle.vl_ast.specs.declared.modules.Module.{Module}

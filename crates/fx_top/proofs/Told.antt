@@ -8,16 +8,16 @@ use Rattle.hw_sched.specs.Slots.{Timing}
 use Rattle.fx_tables.specs.declared.table.TableCause.{TableCause}
 use Rattle.fx_tables.specs.Plan.{IsPlan}
 use Rattle.fx_io.specs.Shelf.{Told, Fetched}
-use Rattle.fx_designed.specs.Design.{IsBadPlan, IsDesignOf, TellsPlanRule}
-use Rattle.fx_model.specs.Model.{IsModelOf}
+use Rattle.cmd_design.specs.Design.{IsBadPlan, IsDesignOf, TellsPlanRule}
+use Rattle.cmd_model.specs.Model.{IsModelOf}
 use Rattle.fx_top.specs.Call.{Files, Trouble, trouble_or, first_trouble, file_limit}
 use Rattle.fx_top.specs.Cause.{IsFetched, HasBadLine, HasBrokenPlan}
 use Rattle.fx_top.specs.Command.{Command, PlanWord, EmptyPlan, Named, Generate, Replay, Simulate, Explore, Check, Stream, model_of, plan_of, plan_file, table_of, first_of}
 use Rattle.fx_top.specs.CheckedText.{IsCheckOf}
-use Rattle.fx_generated.specs.Generated.{HasNoPlan, IsVerilogOf, IsWithoutDesign}
+use Rattle.cmd_generate.specs.Generated.{HasNoPlan, IsVerilogOf, IsWithoutDesign}
 use Rattle.fx_top.specs.Outcome.{CanDesign, IsBadFor, Tells, TellsPlan}
 use Rattle.fx_top.specs.Output.{IsBadTable, IsOfFiles, IsPlanText}
-use Rattle.fx_generated.specs.Streamed.{IsStreamedOf}
+use Rattle.cmd_generate.specs.Streamed.{IsStreamedOf}
 
 -- a file that was fetched is in no trouble
 pub untroubled : (file : List ℕ) (told : Told) (bytes : List ℕ) → Fetched told file_limit bytes → (later : Option Trouble) → trouble_or file told later ≡ later

@@ -5,7 +5,7 @@ use Rattle.fx_top.specs.Cause.{HasBrokenPorts}
 use Rattle.fx_top.specs.Command.{Command, PlanWord, Stream as StreamOf, first_of, model_of, table_of}
 use Rattle.fx_top.specs.Outcome.{CanBeDone, CanDesign, CanStream, IsBadFor, Tells, TellsPlan}
 use Rattle.fx_top.specs.Output.{IsOfFiles, IsOutput}
-use Rattle.fx_generated.specs.Streamed.{IsStreamedOf, IsWithoutStream, TellsStreamRule}
+use Rattle.cmd_generate.specs.Streamed.{IsStreamedOf, IsWithoutStream, TellsStreamRule}
 use Rattle.fx_top.proofs.Commands.{IsGood}
 use Rattle.fx_top.proofs.Told.{HasDesign, design-good, design-is, design-planned, has-design, stream-design, told-is, told-plan}
 

@@ -4,12 +4,12 @@ use Rattle.fx_io.specs.Shelf.{Fetched, IsOverlong}
 use Rattle.fx_io.specs.Sink.{also_took, TookProperPrefix}
 use Rattle.fx_top.specs.Call.{Files, Stream, Absent, Overlong, first_trouble, file_limit}
 use Rattle.fx_top.specs.Command.{Command, PlanWord, Stream as StreamOf, model_of, verilog_of, plan_of, table_of, first_of, files_of}
-use Rattle.fx_designed.specs.Design.{TellsPlanRule}
-use Rattle.fx_model.specs.Model.{IsNotMdl}
-use Rattle.fx_model.specs.RuleLine.{TellsRule}
+use Rattle.cmd_design.specs.Design.{TellsPlanRule}
+use Rattle.cmd_model.specs.Model.{IsNotMdl}
+use Rattle.cmd_model.specs.RuleLine.{TellsRule}
 use Rattle.fx_top.specs.Output.{IsBadTable, IsOutput, IsPlanText}
-use Rattle.fx_replayed.specs.Replayed.{IsBroken, IsNotVerilog}
-use Rattle.fx_generated.specs.Streamed.{TellsStreamRule}
+use Rattle.cmd_replay.specs.Replayed.{IsBroken, IsNotVerilog}
+use Rattle.cmd_generate.specs.Streamed.{TellsStreamRule}
 use Rattle.fx_tables.specs.declared.table.TableCause.{TableCause}
 use Rattle.vl_check.specs.declared.fault.VlFault.{VlFault}
 

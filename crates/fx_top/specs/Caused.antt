@@ -1,6 +1,6 @@
 -- How a call ends: its status, its line on the stream of messages, and its cause (own).
 use Rattle.std.specs.Prelude.{◌≡◌, ⊤, ℕ, List, Option, None, Some}
-use Rattle.fx_replayed.specs.Benched.{IsTold}
+use Rattle.cmd_replay.specs.Benched.{IsTold}
 use Rattle.fx_top.specs.declared.answer.Answer.{Answer}
 use Rattle.fx_top.specs.declared.answer.Answer.TheVariants.{Done, OutOfMemory, Usage, CannotRead, CannotWrite, NotMdl, BadTable, BreaksRule, NotVerilog, Broken, TooLong}
 use Rattle.fx_top.specs.Answer.{status_of, line_of}

@@ -2,8 +2,8 @@
 use Rattle.std.specs.Prelude.{ℕ, List}
 use Rattle.dg_model.specs.declared.diagram.Diagram.{Diagram}
 use Rattle.dg_model.specs.declared.resolved.Resolved.{Resolved}
-use Rattle.fx_check.specs.CheckText.{IsCheckText}
-use Rattle.fx_designed.specs.Design.{IsDesignOf}
+use Rattle.cmd_check.specs.CheckText.{IsCheckText}
+use Rattle.cmd_design.specs.Design.{IsDesignOf}
 use Rattle.hw_sched.specs.Slots.{Timing}
 
 -- the text tells the periods, latencies and types of the blocks of the design of the bytes of a

@@ -1,7 +1,7 @@
 -- The words of a call, and the files that they name (own).
 use Rattle.std.specs.Prelude.{ℕ, nat_le, ◌&&◌, if◌then◌else◌, List, [], ◌∷◌, bytes_eq, codes, Option, Some, None}
-use Rattle.fx_explored.specs.RangeWord.{plain_number, range_of}
-use Rattle.fx_sample.specs.Numbers.{greatest_sample}
+use Rattle.cmd_explore.specs.RangeWord.{plain_number, range_of}
+use Rattle.cmd_sample.specs.Numbers.{greatest_sample}
 use Rattle.hw_explore.specs.declared.range.Range.{Range}
 
 -- a word for a plan: `-` for the empty one, which no file holds, or the name of a file

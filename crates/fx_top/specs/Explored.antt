@@ -1,8 +1,8 @@
 -- What an exploration makes of a model and a range of plans (own).
 use Rattle.std.specs.Prelude.{◌≡◌, ℕ, List, map}
 use Rattle.dg_model.specs.declared.diagram.Diagram.{Diagram}
-use Rattle.fx_explored.specs.FindingsText.{findings_text}
-use Rattle.fx_model.specs.Model.{IsModelOf}
+use Rattle.cmd_explore.specs.FindingsText.{findings_text}
+use Rattle.cmd_model.specs.Model.{IsModelOf}
 use Rattle.hw_explore.specs.declared.findings.Findings.{Findings}
 use Rattle.hw_explore.specs.declared.range.Range.{Range}
 use Rattle.hw_explore.specs.Findings.{AreFindings}

@@ -2,11 +2,11 @@
 use Rattle.std.specs.Prelude.{◌≡◌, ℕ, ◌⊎◌, List, [], ◌∷◌, Contains, Some, None}
 use Rattle.fx_top.specs.Call.{Files, Stream, Absent, Overlong, first_trouble}
 use Rattle.fx_top.specs.Command.{Command, PlanWord, EmptyPlan, Named, Generate, Replay, Simulate, Explore, Check, Stream as StreamOf, OfFiles, asked_of, model_of, verilog_of, plan_of, table_of, first_of, files_of}
-use Rattle.fx_model.specs.Model.{IsAccepted, IsNoText, IsWithoutDiagram}
-use Rattle.fx_generated.specs.Generated.{CanBeDesigned, HasNoPlan, IsWithoutDesign}
-use Rattle.fx_replayed.specs.Replayed.{CanBeReplayed, HasFault, IsBadStimulus, IsNoVerilog}
+use Rattle.cmd_model.specs.Model.{IsAccepted, IsNoText, IsWithoutDiagram}
+use Rattle.cmd_generate.specs.Generated.{CanBeDesigned, HasNoPlan, IsWithoutDesign}
+use Rattle.cmd_replay.specs.Replayed.{CanBeReplayed, HasFault, IsBadStimulus, IsNoVerilog}
 use Rattle.fx_top.specs.Simulated.{CanBeSimulated, IsSpoilt}
-use Rattle.fx_generated.specs.Streamed.{CanBeStreamed, IsWithoutStream}
+use Rattle.cmd_generate.specs.Streamed.{CanBeStreamed, IsWithoutStream}
 use Rattle.fx_tables.specs.declared.table.TableCause.{TableCause}
 use Rattle.vl_ast.specs.Conditions.{Fault}
 

@@ -1,15 +1,15 @@
 -- The text that a command writes (own).
 use Rattle.std.specs.Prelude.{◌≡◌, ℕ, List, []}
 use Rattle.fx_io.specs.Shelf.{Told, Fetched}
-use Rattle.fx_designed.specs.Design.{IsBadPlan}
+use Rattle.cmd_design.specs.Design.{IsBadPlan}
 use Rattle.fx_top.specs.CheckedText.{IsCheckOf}
 use Rattle.fx_top.specs.Command.{Command, PlanWord, EmptyPlan, Named, Generate, Replay, Simulate, Explore, Check, Stream}
 use Rattle.fx_top.specs.Explored.{IsExplorationOf}
 use Rattle.fx_tables.specs.declared.table.TableCause.{TableCause}
-use Rattle.fx_generated.specs.Generated.{IsVerilogOf}
-use Rattle.fx_replayed.specs.Replayed.{IsReplayOf, IsBadStimulus}
+use Rattle.cmd_generate.specs.Generated.{IsVerilogOf}
+use Rattle.cmd_replay.specs.Replayed.{IsReplayOf, IsBadStimulus}
 use Rattle.fx_top.specs.Simulated.{IsSimulationOf, IsBadSimulation}
-use Rattle.fx_generated.specs.Streamed.{IsStreamedOf}
+use Rattle.cmd_generate.specs.Streamed.{IsStreamedOf}
 use Rattle.fx_top.specs.Call.{file_limit}
 
 -- the text of a plan, or of the second file: no bytes of the empty plan, and else those that were

@@ -1,15 +1,15 @@
 -- How a sample ends: its status, its line on the stream of messages, and its cause (own).
 use Rattle.std.specs.Prelude.{◌≡◌, ◌⊎◌, ⊤, ℕ, List, [], ◌∷◌, Contains, Some}
-use Rattle.fx_model.specs.Model.{IsWithoutDiagram}
-use Rattle.fx_sample.specs.ModelText.{sample_model}
-use Rattle.fx_sample.specs.Stimulus.{sample_plan}
+use Rattle.cmd_model.specs.Model.{IsWithoutDiagram}
+use Rattle.cmd_sample.specs.ModelText.{sample_model}
+use Rattle.cmd_sample.specs.Stimulus.{sample_plan}
 use Rattle.fx_io.specs.Sink.{also_took, TookProperPrefix}
 use Rattle.fx_top.specs.declared.answer.Answer.{Answer}
 use Rattle.fx_top.specs.declared.answer.Answer.TheVariants.{Done, OutOfMemory, Usage, CannotRead, CannotWrite, NotMdl, BadTable, BreaksRule, NotVerilog, Broken, TooLong}
 use Rattle.fx_top.specs.Answer.{status_of, line_of}
 use Rattle.fx_top.specs.Call.{Stream, IsUntouched, Said}
 use Rattle.fx_top.specs.Command.{Sample, asked_of}
-use Rattle.fx_generated.specs.Generated.{CanBeDesigned, IsWithoutDesign}
+use Rattle.cmd_generate.specs.Generated.{CanBeDesigned, IsWithoutDesign}
 use Rattle.fx_top.specs.Summarized.{TellsSampleRule}
 
 -- what an answer says of the sample

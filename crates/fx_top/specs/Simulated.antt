@@ -2,8 +2,8 @@
 use Rattle.std.specs.Prelude.{◌≡◌, ℕ, ℤ, List, length, None, Some}
 use Rattle.dg_model.specs.declared.diagram.Diagram.{Diagram}
 use Rattle.dg_response.specs.Response.{input_columns, output_columns, IsResponse}
-use Rattle.fx_model.specs.Model.{IsModelOf, IsAccepted}
-use Rattle.fx_simulated.specs.Simulating.{fault_in, output_periods}
+use Rattle.cmd_model.specs.Model.{IsModelOf, IsAccepted}
+use Rattle.cmd_simulate.specs.Simulating.{fault_in, output_periods}
 use Rattle.fx_tables.specs.declared.table.Rows.{Rows}
 use Rattle.fx_tables.specs.declared.table.TableCause.{TableCause}
 use Rattle.fx_tables.specs.declared.table.TableFault.TheVariants.{Bad}

@@ -4,13 +4,13 @@ use Rattle.dg_model.specs.declared.diagram.Diagram.{Diagram}
 use Rattle.dg_model.specs.declared.resolved.Resolved.{Resolved}
 use Rattle.dg_model.specs.Attributes.{attributes_of}
 use Rattle.dg_model.specs.RootElements.{RootElement, root_outputs}
-use Rattle.fx_designed.specs.Design.{IsDesignOf, TellsPlanRule}
-use Rattle.fx_generated.specs.Generated.{SpellsAlone}
-use Rattle.fx_model.specs.RuleLine.{TellsRule}
-use Rattle.fx_sample.specs.declared.summing.Made.{Made}
-use Rattle.fx_sample.specs.ModelText.{sample_model}
-use Rattle.fx_sample.specs.Stimulus.{sample_plan, sample_stimulus}
-use Rattle.fx_sample.specs.Summary.{equal_count, summary_text}
+use Rattle.cmd_design.specs.Design.{IsDesignOf, TellsPlanRule}
+use Rattle.cmd_generate.specs.Generated.{SpellsAlone}
+use Rattle.cmd_model.specs.RuleLine.{TellsRule}
+use Rattle.cmd_sample.specs.declared.summing.Made.{Made}
+use Rattle.cmd_sample.specs.ModelText.{sample_model}
+use Rattle.cmd_sample.specs.Stimulus.{sample_plan, sample_stimulus}
+use Rattle.cmd_sample.specs.Summary.{equal_count, summary_text}
 use Rattle.fx_top.specs.Simulated.{CanBeSimulated, IsSimulationOf}
 use Rattle.hw_module.specs.Design.{IsModuleOf}
 use Rattle.hw_sched.specs.Ready.{declared_latency}

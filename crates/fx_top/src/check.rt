@@ -4,8 +4,8 @@ ghost use Rattle.fx_top.specs.inner.Refusing.{IsDesignFault};
 ghost use Rattle.fx_top.specs.inner.Tasks.{IsDone};
 
 use crate::fault::{Done, Fault, of_design};
-use fx_check::{gather, put_check};
-use fx_designed::designed_of;
+use cmd_check::{gather, put_check};
+use cmd_design::designed_of;
 use fx_io::{OutOfMemory, Sink};
 use std::alloc::Global;
 

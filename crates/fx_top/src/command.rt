@@ -5,7 +5,7 @@ ghost use Rattle.fx_top.specs.inner.Named.{HasRange, named, over_files};
 ghost use Rattle.fx_top.specs.inner.Tasks.{IsTask};
 
 use crate::task::Task;
-use fx_explored::{plain_number, read_range};
+use cmd_explore::{plain_number, read_range};
 use mdl_values::value_beside;
 
 /// The greatest number of a sample (own).

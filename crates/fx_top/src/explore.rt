@@ -3,13 +3,13 @@ ghost use Rattle.fx_top.specs.Call.{stream_in};
 ghost use Rattle.fx_top.specs.Explored.{IsExplorationOf};
 ghost use Rattle.fx_top.specs.inner.Refusing.{IsModelFault};
 ghost use Rattle.fx_top.specs.inner.Tasks.{IsDone};
-ghost use Rattle.fx_designed.specs.Refused.{IsRefusedModel};
+ghost use Rattle.cmd_design.specs.Refused.{IsRefusedModel};
 ghost use Rattle.hw_explore.specs.Range.{IsRange};
 
 use crate::fault::{Done, of_model};
 use crate::parts::put_text;
-use fx_designed::{ModelRefusal, checked_of};
-use fx_explored::findings_text;
+use cmd_design::{ModelRefusal, checked_of};
+use cmd_explore::findings_text;
 use fx_io::{OpenGate, OutOfMemory, Sink, Text};
 use hw_explore::Range;
 use std::alloc::Global;

@@ -1,17 +1,17 @@
 //! Why the texts of a command's files have no output, and the answer to how a task ended.
 ghost use Rattle.std.specs.Prelude.{◌≡◌, ℕ, List};
 ghost use Rattle.dg_model.specs.declared.diagram.Diagram.{Diagram};
-ghost use Rattle.fx_designed.specs.Refused.{IsRefusedDesign, IsRefusedModel};
-ghost use Rattle.fx_generated.specs.Streaming.{IsRefusedStream};
-ghost use Rattle.fx_model.specs.Model.{IsModelOf};
-ghost use Rattle.fx_replayed.specs.Responding.{IsRefusedReplay};
-ghost use Rattle.fx_simulated.specs.Simulating.{IsStimulusFault};
+ghost use Rattle.cmd_design.specs.Refused.{IsRefusedDesign, IsRefusedModel};
+ghost use Rattle.cmd_generate.specs.Streaming.{IsRefusedStream};
+ghost use Rattle.cmd_model.specs.Model.{IsModelOf};
+ghost use Rattle.cmd_replay.specs.Responding.{IsRefusedReplay};
+ghost use Rattle.cmd_simulate.specs.Simulating.{IsStimulusFault};
 ghost use Rattle.fx_top.specs.inner.Refusing.{IsDesignFault, IsModelFault, IsReplayFault, IsSimulationFault, IsStreamFault, answer_to};
 
 use crate::answer::Answer;
-use fx_designed::{DesignFault, ModelRefusal};
+use cmd_design::{DesignFault, ModelRefusal};
+use cmd_replay::ReplayFault;
 use fx_io::{PutFault, Text};
-use fx_replayed::ReplayFault;
 use fx_tables::{TableCause, TableFault};
 use vl_check::VlFault;
 

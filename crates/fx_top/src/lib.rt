@@ -10,16 +10,16 @@
 //! A further command over files adds a case to `Command`, `asked_of`, `files_of`, `IsOutput` and `CanBeDone`; a
 //! further answer adds one to `Answer`, `status_of`, `line_of`, `HasCause` and `HasWritten`.
 //!
-//! `replay` writes a response that is `IsReplayOf` (`specs/Replayed.antt` of `fx_replayed`) the two
+//! `replay` writes a response that is `IsReplayOf` (`specs/Replayed.antt` of `cmd_replay`) the two
 //! texts, and `simulate` one that is `IsSimulationOf` (`specs/Simulated.antt`). `check` writes a text
 //! that is `IsCheckOf` (`specs/CheckedText.antt`) the model and the plan, and `stream` one that is
-//! `IsStreamedOf` (`specs/Streamed.antt` of `fx_generated`) these. `sample` writes one that is
+//! `IsStreamedOf` (`specs/Streamed.antt` of `cmd_generate`) these. `sample` writes one that is
 //! `IsSummaryOf` (`specs/Summarized.antt`) a number; `sample_with` does its work by a bench of the
-//! caller's, and `TrueBench` of `fx_replayed` is that of `run`.
+//! caller's, and `TrueBench` of `cmd_replay` is that of `run`.
 //!
-//! The headline is `IsVerilogOf` in `specs/Generated.antt` of `fx_generated`: the text spells a module
+//! The headline is `IsVerilogOf` in `specs/Generated.antt` of `cmd_generate`: the text spells a module
 //! alone, and that module owes the design of the two texts nothing (`IsModuleOf` of `hw_module`,
-//! `IsDesignOf` of `fx_designed`).
+//! `IsDesignOf` of `cmd_design`).
 #![tactic(auto)]
 
 mod answer;

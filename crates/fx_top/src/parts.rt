@@ -2,18 +2,18 @@ ghost use Rattle.std.specs.Prelude.{◌≡◌, ℕ, IfOk, List, OnErr, OnOk, fla
 ghost use Rattle.fx_io.specs.Cause.{Rose};
 ghost use Rattle.fx_io.specs.Sink.{TookProperPrefix, also_took};
 ghost use Rattle.fx_top.specs.Call.{stream_in};
-ghost use Rattle.fx_generated.specs.Generated.{IsVerilogOf};
-ghost use Rattle.fx_generated.specs.Streamed.{IsStreamedOf};
-ghost use Rattle.fx_generated.specs.Generating.{IsVerilogModule};
+ghost use Rattle.cmd_generate.specs.Generated.{IsVerilogOf};
+ghost use Rattle.cmd_generate.specs.Streamed.{IsStreamedOf};
+ghost use Rattle.cmd_generate.specs.Generating.{IsVerilogModule};
 ghost use Rattle.fx_top.specs.inner.Refusing.{IsDesignFault, IsStreamFault};
-ghost use Rattle.fx_generated.specs.Streaming.{IsStreamModule};
+ghost use Rattle.cmd_generate.specs.Streaming.{IsStreamModule};
 ghost use Rattle.fx_top.specs.inner.Tasks.{IsDone};
 ghost use Rattle.vl_ast.specs.Grammar.{Spells};
 ghost use Rattle.vl_ast.specs.Spelling.{spelling};
 
 use crate::fault::{Done, Fault, of_design};
-use fx_designed::DesignFault;
-use fx_generated::parts_of;
+use cmd_design::DesignFault;
+use cmd_generate::parts_of;
 use fx_io::{OutOfMemory, PutFault, Sink, Text, put_all};
 use std::alloc::Global;
 use std::thread::Threads;

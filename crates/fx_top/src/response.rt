@@ -1,15 +1,15 @@
 //! The responses of a model's diagram and of a Verilog text to a stimulus.
-ghost use Rattle.fx_replayed.specs.Replayed.{IsReplayOf};
+ghost use Rattle.cmd_replay.specs.Replayed.{IsReplayOf};
 ghost use Rattle.fx_top.specs.Call.{stream_in};
 ghost use Rattle.fx_top.specs.Simulated.{IsSimulationOf};
 ghost use Rattle.fx_top.specs.inner.Refusing.{IsReplayFault, IsSimulationFault};
 ghost use Rattle.fx_top.specs.inner.Tasks.{IsDone};
 
 use crate::fault::{Done, of_model, of_replay, of_stimulus};
-use fx_designed::checked_of;
+use cmd_design::checked_of;
+use cmd_replay::response_of;
+use cmd_simulate::simulation_in;
 use fx_io::Sink;
-use fx_replayed::response_of;
-use fx_simulated::simulation_in;
 use std::alloc::Global;
 
 /// Puts the response of a model's diagram to a stimulus, a line per sample. All memory is taken before
@@ -25,7 +25,7 @@ pub fn simulate<K: Sink>(alloc: Global, model: &[u8], stimulus: &[u8], out: &mut
     };
     match simulation_in(alloc, &checked, stimulus) {
         Ok(simulation) => {
-            let put = fx_simulated::put_response(&checked, simulation, out);
+            let put = cmd_simulate::put_response(&checked, simulation, out);
             checked.discard();
             Ok(put)
         }
@@ -43,7 +43,7 @@ pub fn replay<K: Sink>(alloc: Global, verilog: &[u8], stimulus: &[u8], out: &mut
         (stream_in K.taken K.faults out.old out.new) result }
 {
     match response_of(alloc, verilog, stimulus) {
-        Ok(response) => Ok(fx_replayed::put_response(response, out)),
+        Ok(response) => Ok(cmd_replay::put_response(response, out)),
         Err(fault) => Err(of_replay(fault)),
     }
 }

@@ -1,27 +1,27 @@
 ghost use Rattle.std.specs.Prelude.{◌≡◌, ◌≤◌, ◌<◌, All, IfErr, IfOk, length};
-ghost use Rattle.fx_designed.specs.Design.{IsDesignOf};
-ghost use Rattle.fx_designed.specs.Refused.{IsDesigned, IsRefusedDesign};
-ghost use Rattle.fx_model.specs.Model.{IsModelOf};
-ghost use Rattle.fx_sample.specs.ModelText.{sample_model};
-ghost use Rattle.fx_sample.specs.Numbers.{greatest_sample};
-ghost use Rattle.fx_sample.specs.Stimulus.{sample_plan, sample_stimulus};
+ghost use Rattle.cmd_design.specs.Design.{IsDesignOf};
+ghost use Rattle.cmd_design.specs.Refused.{IsDesigned, IsRefusedDesign};
+ghost use Rattle.cmd_model.specs.Model.{IsModelOf};
+ghost use Rattle.cmd_sample.specs.ModelText.{sample_model};
+ghost use Rattle.cmd_sample.specs.Numbers.{greatest_sample};
+ghost use Rattle.cmd_sample.specs.Stimulus.{sample_plan, sample_stimulus};
 ghost use Rattle.fx_top.specs.Call.{stream_in};
 ghost use Rattle.fx_top.specs.Sampled.{EndsSample, HasSampleCause, HasSampleWritten};
 ghost use Rattle.fx_top.specs.Summarized.{IsSampleResponse, IsSummaryOf, latency_of_output};
-ghost use Rattle.fx_generated.specs.Generating.{IsPlanOn};
+ghost use Rattle.cmd_generate.specs.Generating.{IsPlanOn};
 ghost use Rattle.fx_top.specs.inner.Sampling.{AreOutputs, IsOwed, IsSampleFault};
 ghost use Rattle.hw_rules.specs.Times.{AreTimes, timing_in};
 
 use crate::answer::Answer;
 use crate::parts::put_text;
+use cmd_check::clocks_of;
+use cmd_design::{DesignFault, Designed, designed_of};
+use cmd_generate::text_of;
+use cmd_sample::{Bench, Made, model_text, plan_text, stimulus_text, summary};
+use cmd_simulate::{response_text, simulation_in};
 use dg_model::Checked;
 use dg_tables::output_blocks;
-use fx_check::clocks_of;
-use fx_designed::{DesignFault, Designed, designed_of};
-use fx_generated::text_of;
 use fx_io::{OutOfMemory, Sink, Text};
-use fx_sample::{Bench, Made, model_text, plan_text, stimulus_text, summary};
-use fx_simulated::{response_text, simulation_in};
 use fx_tables::TableFault;
 use hw_rules::{Planned, multiplications};
 use std::alloc::Global;
@@ -117,8 +117,8 @@ fn fault_of_design(number: u32, fault: DesignFault) -> SampleFault
     requires cause { IsRefusedDesign (sample_model number) sample_plan fault }
     ensures { IsSampleFault number result }
 {
-    fx_sample::models_stand();
-    fx_sample::plan_is_good();
+    cmd_sample::models_stand();
+    cmd_sample::plan_is_good();
     match fault {
         DesignFault::NotMdl { .. } => unreachable!(),
         DesignFault::BadPlan { .. } => unreachable!(),

@@ -10,7 +10,7 @@ use crate::fault::{Done, answer_of};
 use crate::fetch::fetch_both;
 use crate::parts::put_design;
 use crate::response::{replay, simulate};
-use fx_generated::{streamed_of, verilog_of};
+use cmd_generate::{streamed_of, verilog_of};
 use fx_io::{Shelf, Sink};
 use hw_explore::Range;
 use std::alloc::Global;

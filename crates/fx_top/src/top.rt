@@ -1,6 +1,6 @@
 ghost use Rattle.std.specs.Prelude.{◌≤◌, map, string_bytes};
-ghost use Rattle.fx_replayed.specs.Benched.{IsTold};
-ghost use Rattle.fx_sample.specs.Numbers.{greatest_sample};
+ghost use Rattle.cmd_replay.specs.Benched.{IsTold};
+ghost use Rattle.cmd_sample.specs.Numbers.{greatest_sample};
 ghost use Rattle.fx_top.specs.Call.{files_in, stream_in};
 ghost use Rattle.fx_top.specs.Caused.{IsCarriedOut, Ends};
 ghost use Rattle.fx_top.specs.Command.{asked_of};
@@ -12,8 +12,8 @@ use crate::answer::Answer;
 use crate::command::Command;
 use crate::sample::sample;
 use crate::task::over_files;
+use cmd_replay::TrueBench;
 use fx_io::{Shelf, Sink};
-use fx_replayed::TrueBench;
 use std::alloc::Global;
 use std::thread::Threads;
 

@@ -8,7 +8,7 @@ use crate::designs::{Simulated, simulate};
 use crate::stepping::{Tally, tallies_of};
 use crate::windows::windows_of;
 use anyhow::{Error, Result};
-use fx_designed::{DesignFault, Designed, designed_of};
+use cmd_design::{DesignFault, Designed, designed_of};
 use hw_build::build;
 use hw_net::{Net, NetKind, Netlist};
 use hw_run::is_netlist;

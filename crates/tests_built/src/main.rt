@@ -21,7 +21,7 @@
 //! | where | what is printed of a schedule |
 //! |---|---|
 //! | the model is no MDL text | the line that says so, from 1 |
-//! | a rule is broken, up to that of latency | the line that tells it (`fx_model::rule_text`) |
+//! | a rule is broken, up to that of latency | the line that tells it (`cmd_model::rule_text`) |
 //! | a line of the plan is bad | which one |
 //! | else | of each block, in file order, its path, its latency in base samples, how many shared blocks of its period stand one behind another up to it, and whether it is fed by one |
 //! | a period has too few slots | then the line that tells it |

@@ -1,8 +1,8 @@
 //! The clocks in which outputs show their numbers.
 
 use anyhow::{Error, Result};
+use cmd_design::Designed;
 use dg_tables::output_blocks;
-use fx_designed::Designed;
 use hw_net::{NetPort, Netlist};
 use std::alloc::Global;
 

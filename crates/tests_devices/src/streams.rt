@@ -1,5 +1,5 @@
-use fx_devices::{FileShelf, StreamSink, closed, status_of};
 use fx_io::{FetchFault, OutOfMemory, PutFault, Shelf, Sink, put_all};
+use io_devices::{FileShelf, StreamSink, closed, status_of};
 use std::io::{self, ErrorKind, Write};
 use std::test::Fail;
 

@@ -4,9 +4,9 @@ ghost use Rattle.dg_model.specs.PlanRange.{IsPlanInRange};
 
 use crate::told::{put_fault, put_rule};
 use anyhow::{Error, Result};
+use cmd_model::{ModelFault, accept};
 use dg_model::{Checked, Plan};
 use dg_rules::resolve;
-use fx_model::{ModelFault, accept};
 use fx_tables::{Column, Rows, TableCause, TableFault, read_plan, read_rows};
 use std::alloc::Global;
 use std::io::Write;

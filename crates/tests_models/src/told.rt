@@ -1,8 +1,8 @@
 //! The lines of broken rules.
 
 use anyhow::{Error, Result};
+use cmd_model::rule_text;
 use dg_model::{Block, CheckFault, RuleFault};
-use fx_model::rule_text;
 use std::alloc::Global;
 use std::io::Write;
 use tests_rows::write_result;

@@ -2,7 +2,7 @@
 use Rattle.std.proofs.Common.{refl}
 use Rattle.fx_tables.specs.Plan.{IsPlan}
 use Rattle.fx_tables.proofs.PlanText.{plan_said}
-use Rattle.fx_designed.specs.Design.{IsDesignOf}
+use Rattle.cmd_design.specs.Design.{IsDesignOf}
 use Rattle.tests_premises.specs.Whole.{model_text, plan_text, diagram, plan, resolved, timing}
 use Rattle.tests_premises.proofs.WholePlan.{planned}
 use Rattle.tests_premises.proofs.WholeText.{is_model}

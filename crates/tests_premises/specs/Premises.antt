@@ -1,7 +1,7 @@
 -- What the whole model meets of the headline's premises (own).
 use Rattle.dg_model.specs.Attributes.{attributes_of}
 use Rattle.dg_model.specs.Solves.{IsStimulus, Solves}
-use Rattle.fx_designed.specs.Design.{IsDesignOf}
+use Rattle.cmd_design.specs.Design.{IsDesignOf}
 use Rattle.hw_sched.specs.Scheduled.{IsScheduled}
 use Rattle.tests_premises.specs.Sharing.{AreSharedByOne}
 use Rattle.tests_premises.specs.Whole.{diagram, model_text, plan_text, resolved, stimulus, table, timing}

@@ -20,7 +20,7 @@ use Rattle.fx_tables.specs.Response.{response}
 use Rattle.vl_replay.specs.Sampled.{AreReplayed, Sampled, hit_at, numbers_of, window_of}
 use Rattle.vl_ast.specs.Header.{output_port}
 use Rattle.tests_top.proofs.DelayModule.{byte_port}
-use Rattle.fx_replayed.specs.Replayed.{AreRowsFor, IsReplayOf, IsSoundText}
+use Rattle.cmd_replay.specs.Replayed.{AreRowsFor, IsReplayOf, IsSoundText}
 use Rattle.fx_top.specs.Call.{Files, file_limit}
 use Rattle.fx_top.specs.Caused.{Ends}
 use Rattle.fx_top.specs.Command.{Replay}

@@ -18,10 +18,10 @@ use Rattle.dg_model.specs.Solves.{Solves, IsShown}
 use Rattle.dg_response.specs.Response.{column_of, input_columns, output_columns, number_in, IsResponse}
 use Rattle.mdl_build.specs.Settings.{zero_decimal}
 use Rattle.fx_type.specs.Conversion.{Stores}
-use Rattle.fx_model.specs.Model.{IsDiagramOf, IsModelOf}
+use Rattle.cmd_model.specs.Model.{IsDiagramOf, IsModelOf}
 use Rattle.fx_top.specs.Command.{Simulate}
 use Rattle.fx_top.specs.Caused.{Ends}
-use Rattle.fx_simulated.specs.Simulating.{output_periods}
+use Rattle.cmd_simulate.specs.Simulating.{output_periods}
 use Rattle.fx_top.specs.Simulated.{IsSimulationOf}
 use Rattle.tests_top.proofs.DelayDiagram.{attributes, attributes-are, wired, checked}
 use Rattle.tests_premises.specs.Whole.{int8}

@@ -4,8 +4,8 @@ use crate::cases::{Case, ROOM};
 use crate::fixed::Fixed;
 use crate::stuck::Stuck;
 use anyhow::{Error, Result};
-use fx_memory::{MemShelf, MemSink};
 use fx_top::{run, sample_with};
+use io_memory::{MemShelf, MemSink};
 use std::alloc::Global;
 use std::thread::Threads;
 

@@ -6,7 +6,7 @@ use crate::plans::{FEW, WHOLE, put_explored};
 use crate::samples::{put_sample, put_summary};
 use crate::wires::put_wires;
 use anyhow::Result;
-use fx_sample::plan_text;
+use cmd_sample::plan_text;
 use std::alloc::Global;
 use std::io::Write;
 use std::thread::Threads;

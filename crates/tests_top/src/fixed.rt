@@ -1,7 +1,7 @@
 //! A bench that tells the same bytes of every text.
 
+use cmd_sample::Bench;
 use fx_io::OutOfMemory;
-use fx_sample::Bench;
 use std::alloc::Global;
 
 /// It tells these.

@@ -3,7 +3,7 @@ ghost use Rattle.hw_explore.specs.Range.{IsRange};
 
 use crate::meeting::Meeting;
 use anyhow::{Error, Result};
-use fx_model::accept;
+use cmd_model::accept;
 use hw_explore::{Range, explore};
 use std::alloc::Global;
 use std::io::Write;

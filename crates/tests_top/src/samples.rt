@@ -2,7 +2,7 @@
 
 use crate::fixed::Fixed;
 use anyhow::{Error, Result};
-use fx_sample::{Made, model_text, plan_text, stimulus_text, summary};
+use cmd_sample::{Made, model_text, plan_text, stimulus_text, summary};
 use std::alloc::Global;
 use std::io::Write;
 use tests_rows::{Row, write_result};

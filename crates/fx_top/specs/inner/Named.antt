@@ -1,6 +1,6 @@
 -- A command that borrows its words.
 use Rattle.std.specs.Prelude.{ℕ, ◌≤◌, List}
-use Rattle.fx_sample.specs.Numbers.{greatest_sample}
+use Rattle.cmd_sample.specs.Numbers.{greatest_sample}
 use Rattle.fx_top.specs.Command.{Asked, OfFiles, Sample}
 use Rattle.fx_top.specs.declared.command.Command.{Command as CommandOf}
 use Rattle.fx_top.specs.declared.command.Command.TheVariants as borrowed

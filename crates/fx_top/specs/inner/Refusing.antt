@@ -1,18 +1,18 @@
 -- What each fault says of the texts of a command's files, and the answer to how a task ended.
 use Rattle.std.specs.Prelude.{⊤, ◌⊎◌, ℕ, List, Result, Ok, Err}
 use Rattle.std.specs.Borrow.{Bor}
-use Rattle.fx_designed.specs.Design.{IsBadPlan, TellsPlanRule}
+use Rattle.cmd_design.specs.Design.{IsBadPlan, TellsPlanRule}
 use Rattle.fx_io.specs.declared.sink.PutFault.{PutFault}
-use Rattle.fx_model.specs.Model.{IsNotMdl}
-use Rattle.fx_model.specs.RuleLine.{TellsRule}
+use Rattle.cmd_model.specs.Model.{IsNotMdl}
+use Rattle.cmd_model.specs.RuleLine.{TellsRule}
 use Rattle.fx_tables.specs.declared.table.TableCause.{TableCause}
 use Rattle.fx_top.specs.declared.answer.Answer.{Answer}
 use Rattle.fx_top.specs.declared.answer.Answer.TheVariants.{Done, OutOfMemory, CannotWrite, NotMdl, BadTable, BreaksRule, NotVerilog, Broken}
 use Rattle.fx_top.specs.declared.fault.Fault.{Fault}
 use Rattle.fx_top.specs.declared.fault.Fault.TheVariants as fault
-use Rattle.fx_replayed.specs.Replayed.{IsBadStimulus, IsBroken, IsNotVerilog}
+use Rattle.cmd_replay.specs.Replayed.{IsBadStimulus, IsBroken, IsNotVerilog}
 use Rattle.fx_top.specs.Simulated.{IsBadSimulation}
-use Rattle.fx_generated.specs.Streamed.{TellsStreamRule}
+use Rattle.cmd_generate.specs.Streamed.{TellsStreamRule}
 
 -- of a model, by what a broken rule says and what a bad line
 abbrev pub OfModel : List ℕ → (List ℕ → Type 0) → (ℕ → TableCause → Type 0) → Fault → Type 0

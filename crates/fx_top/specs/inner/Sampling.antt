@@ -5,7 +5,7 @@ use Rattle.dg_model.specs.declared.resolved.Resolved.{Resolved}
 use Rattle.dg_model.specs.Attributes.{attributes_of}
 use Rattle.dg_model.specs.RootElements.{root_outputs}
 use Rattle.dg_tables.specs.Listing.{AreBlocksOf}
-use Rattle.fx_sample.specs.declared.summing.Made.{Made}
+use Rattle.cmd_sample.specs.declared.summing.Made.{Made}
 use Rattle.fx_top.specs.declared.sample.SampleFault.{SampleFault}
 use Rattle.fx_top.specs.declared.sample.SampleFault.TheVariants.{BreaksRule, OutOfMemory}
 use Rattle.fx_top.specs.Summarized.{TellsSampleRule, latency_of_output}

@@ -11,10 +11,10 @@ use Rattle.fx_top.specs.Call.{IsUntouched, Stream}
 use Rattle.fx_top.specs.CheckedText.{IsCheckOf}
 use Rattle.fx_top.specs.Command.{Command, PlanWord, EmptyPlan, Named, Generate, Replay, Simulate, Explore, Check, Stream as StreamOf, plan_word}
 use Rattle.fx_top.specs.Explored.{IsExplorationOf}
-use Rattle.fx_generated.specs.Generated.{IsVerilogOf}
-use Rattle.fx_replayed.specs.Replayed.{IsReplayOf}
+use Rattle.cmd_generate.specs.Generated.{IsVerilogOf}
+use Rattle.cmd_replay.specs.Replayed.{IsReplayOf}
 use Rattle.fx_top.specs.Simulated.{IsSimulationOf}
-use Rattle.fx_generated.specs.Streamed.{IsStreamedOf}
+use Rattle.cmd_generate.specs.Streamed.{IsStreamedOf}
 use Rattle.fx_top.specs.inner.Refusing.{IsDesignFault, IsModelFault, IsReplayFault, IsSimulationFault, IsStreamFault}
 use Rattle.hw_explore.specs.Range.{IsRange}
 

@@ -1,5 +1,5 @@
 use Rattle.std.proofs.Common.{sym, ap, ◌∙◌}
-use Rattle.fx_explored.specs.RangeWord.{range_of}
+use Rattle.cmd_explore.specs.RangeWord.{range_of}
 use Rattle.mdl_values.specs.Words.{value_beside}
 use Rattle.fx_top.proofs.Commands.{explored-asked, plain-asked, plain-task, plain_tasks}
 use Rattle.fx_top.proofs.command.task_of.Goals as goal

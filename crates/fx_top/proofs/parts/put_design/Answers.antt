@@ -1,11 +1,11 @@
 use Rattle.std.proofs.Common.{refl, subst}
 use Rattle.std.specs.List.{flat_map}
-use Rattle.fx_designed.specs.Refused.{IsRefusedDesign}
+use Rattle.cmd_design.specs.Refused.{IsRefusedDesign}
 use Rattle.fx_top.specs.Call.{stream_in}
-use Rattle.fx_generated.specs.Generated.{IsVerilogOf}
-use Rattle.fx_generated.specs.Streamed.{IsStreamedOf}
-use Rattle.fx_generated.specs.Generating.{IsModuleFor}
-use Rattle.fx_generated.specs.Streaming.{IsRefusedStream}
+use Rattle.cmd_generate.specs.Generated.{IsVerilogOf}
+use Rattle.cmd_generate.specs.Streamed.{IsStreamedOf}
+use Rattle.cmd_generate.specs.Generating.{IsModuleFor}
+use Rattle.cmd_generate.specs.Streaming.{IsRefusedStream}
 use Rattle.fx_top.proofs.Tasks.{put-module}
 use Rattle.fx_top.proofs.parts.put_design.Goals as goal
 

@@ -2,7 +2,7 @@ use Rattle.std.proofs.Common.{refl}
 use Rattle.fx_tables.specs.Response.{response as response_lines}
 use Rattle.fx_tables.specs.RowText.{periods_of}
 use Rattle.fx_top.specs.Call.{stream_in}
-use Rattle.fx_replayed.specs.Replayed.{IsReplayOf}
+use Rattle.cmd_replay.specs.Replayed.{IsReplayOf}
 use Rattle.fx_top.proofs.Tasks.{put-text}
 use Rattle.fx_top.proofs.response.replay.Goals as goal
 

@@ -1,7 +1,7 @@
 use Rattle.std.proofs.Common.{ℕ, List, inl, inr, ◌∙◌, subst}
-use Rattle.fx_sample.specs.ModelText.{sample_model}
-use Rattle.fx_sample.specs.Stimulus.{sample_stimulus}
-use Rattle.fx_simulated.specs.Simulating.{IsSimulationIn}
+use Rattle.cmd_sample.specs.ModelText.{sample_model}
+use Rattle.cmd_sample.specs.Stimulus.{sample_stimulus}
+use Rattle.cmd_simulate.specs.Simulating.{IsSimulationIn}
 use Rattle.fx_top.proofs.Samples.{unfit}
 use Rattle.fx_top.proofs.Simulations.{is-simulation}
 use Rattle.fx_top.proofs.sample.sample_response.Goals as goal

@@ -1,6 +1,6 @@
 use Rattle.std.proofs.Common.{List, ℕ, ap, subst, ◌∙◌}
-use Rattle.fx_sample.specs.Stimulus.{sample_stimulus}
-use Rattle.fx_sample.specs.Summary.{equal_count, summary_text}
+use Rattle.cmd_sample.specs.Stimulus.{sample_stimulus}
+use Rattle.cmd_sample.specs.Summary.{equal_count, summary_text}
 use Rattle.fx_top.proofs.SampleOutputs.{summed}
 use Rattle.fx_top.proofs.sample.summary_by.Goals as goal
 

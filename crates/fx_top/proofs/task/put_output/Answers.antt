@@ -1,10 +1,10 @@
-use Rattle.fx_designed.specs.Refused.{IsRefusedDesign}
+use Rattle.cmd_design.specs.Refused.{IsRefusedDesign}
 use Rattle.fx_top.specs.Call.{stream_in}
-use Rattle.fx_generated.specs.Generated.{IsVerilogOf}
-use Rattle.fx_generated.specs.Streamed.{IsStreamedOf}
-use Rattle.fx_generated.specs.Streaming.{IsRefusedStream}
+use Rattle.cmd_generate.specs.Generated.{IsVerilogOf}
+use Rattle.cmd_generate.specs.Streamed.{IsStreamedOf}
+use Rattle.cmd_generate.specs.Streaming.{IsRefusedStream}
 use Rattle.fx_top.proofs.Tasks.{done-by}
-use Rattle.fx_generated.proofs.Verilogs.{spelled-for}
+use Rattle.cmd_generate.proofs.Verilogs.{spelled-for}
 use Rattle.fx_top.proofs.task.put_output.Goals as goal
 
 pub returns-in-Generate : goal.returns-in-Generate

@@ -1,4 +1,4 @@
-use Rattle.fx_replayed.specs.Benched.{IsTold, told_by}
+use Rattle.cmd_replay.specs.Benched.{IsTold, told_by}
 use Rattle.fx_top.specs.Call.{stream_in}
 use Rattle.fx_top.proofs.Samples.{written-summed}
 use Rattle.fx_top.proofs.top.replayed_sample.Goals as goal

@@ -1,5 +1,0 @@
-use Rattle.fx_filters.proofs.Fitting.{filters_convolve}
-use Rattle.fx_filters.proofs.laws.filters_convolve.Goals as goal
-
-pub returns : goal.returns
-returns c = filters_convolve c.filters_fit.ensures c.fitting_convolve.ensures

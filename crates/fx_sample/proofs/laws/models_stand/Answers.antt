@@ -1,5 +1,0 @@
-use Rattle.fx_sample.proofs.SampleTree.{sample_stands}
-use Rattle.fx_sample.proofs.laws.models_stand.Goals as goal
-
-pub returns : goal.returns
-returns c = sample_stands

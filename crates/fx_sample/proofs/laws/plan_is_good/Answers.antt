@@ -1,5 +1,0 @@
-use Rattle.fx_sample.proofs.SamplePlan.{plan_good}
-use Rattle.fx_sample.proofs.laws.plan_is_good.Goals as goal
-
-pub returns : goal.returns
-returns c = plan_good

@@ -1,6 +1,0 @@
-use Rattle.std.proofs.lemmas.Result.{on_ok_weaker}
-use Rattle.fx_sample.proofs.Texts.{ends_put}
-use Rattle.fx_sample.proofs.modeling.push_ends.Goals as goal
-
-pub returns : goal.returns
-returns c = on_ok_weaker c.push_each.result (ends_put c.args.text.now.items _) c.push_each.ensures

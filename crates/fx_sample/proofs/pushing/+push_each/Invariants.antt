@@ -1,5 +1,0 @@
-use Rattle.std.proofs.Common.{length}
-use Rattle.fx_sample.proofs.pushing.+push_each.Given as goal
-
-abbrev pub decreases-push_each : goal.decreases-push_each
-decreases-push_each l = length l.pieces.now

@@ -1,0 +1,70 @@
+-- What the program's commands say of one another, for all texts (own).
+use Rattle.std.specs.Prelude.{◌≡◌, ℕ, ◌≤◌, List, length}
+use Rattle.cmd_generate.specs.Generated.{IsVerilogOf}
+use Rattle.cmd_replay.specs.Benched.{IsTold}
+use Rattle.cmd_replay.specs.Replayed.{CanBeReplayed, IsBadStimulus, IsReplayOf}
+use Rattle.fx_tables.specs.declared.table.TableCause.{TableCause}
+use Rattle.fx_top.specs.Simulated.{CanBeSimulated, IsBadSimulation, IsSimulationOf}
+use Rattle.fx_top.specs.Summarized.{IsSummaryOf}
+use Rattle.vl_ast.specs.Grammar.{most_items}
+
+-- ---- replays and simulations
+
+-- what the text that is generated of a model by a plan shows in a replay is the response of the
+-- model's diagram, number for number and byte for byte
+abbrev pub ReplaysAreResponses : Type 0
+ReplaysAreResponses =
+    (model plan verilog stimulus told response : List ℕ) → IsVerilogOf model plan verilog
+    → IsReplayOf verilog stimulus told → IsSimulationOf model stimulus response → told ≡ response
+
+-- so it is a simulation of the model
+abbrev pub ReplaysAreSimulations : Type 0
+ReplaysAreSimulations =
+    (model plan verilog stimulus told : List ℕ) → IsVerilogOf model plan verilog
+    → IsReplayOf verilog stimulus told → IsSimulationOf model stimulus told
+
+-- and a simulation of the model is a replay of the text, where the text isn't too long to be read
+abbrev pub SimulationsAreReplays : Type 0
+SimulationsAreReplays =
+    (model plan verilog stimulus response : List ℕ) (generated : IsVerilogOf model plan verilog)
+    → length generated.written.made.items ≤ most_items → IsSimulationOf model stimulus response
+    → IsReplayOf verilog stimulus response
+
+-- ---- their stimuli
+
+-- a stimulus by which the text can be replayed is one of the model
+abbrev pub ReplayedIsSimulated : Type 0
+ReplayedIsSimulated =
+    (model plan verilog stimulus : List ℕ) → IsVerilogOf model plan verilog
+    → CanBeReplayed verilog stimulus → CanBeSimulated model stimulus
+
+-- and the other way, where the text isn't too long to be read
+abbrev pub SimulatedIsReplayed : Type 0
+SimulatedIsReplayed =
+    (model plan verilog stimulus : List ℕ) (generated : IsVerilogOf model plan verilog)
+    → length generated.written.made.items ≤ most_items → CanBeSimulated model stimulus
+    → CanBeReplayed verilog stimulus
+
+-- the first bad line of a stimulus for the text is so for the model, with its cause
+abbrev pub BadReplayedIsSimulated : Type 0
+BadReplayedIsSimulated =
+    (model plan verilog stimulus : List ℕ) (line : ℕ) (cause : TableCause)
+    → IsVerilogOf model plan verilog → IsBadStimulus verilog stimulus line cause
+    → IsBadSimulation model stimulus line cause
+
+-- and the other way
+abbrev pub BadSimulatedIsReplayed : Type 0
+BadSimulatedIsReplayed =
+    (model plan verilog stimulus : List ℕ) (line : ℕ) (cause : TableCause)
+    (generated : IsVerilogOf model plan verilog)
+    → length generated.written.made.items ≤ most_items
+    → IsBadSimulation model stimulus line cause → IsBadStimulus verilog stimulus line cause
+
+-- ---- samples
+
+-- what the bench of `run` tells of the module of a sample, where that isn't too long to be read, is
+-- the response that it is compared with
+abbrev pub SamplesAgree : Type 0
+SamplesAgree =
+    (count : ℕ) (told text : List ℕ) (summary : IsSummaryOf IsTold count told text)
+    → length summary.own.items ≤ most_items → told ≡ summary.response
