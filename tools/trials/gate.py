@@ -3,6 +3,7 @@
 import importlib.machinery
 import importlib.util
 import os
+import re
 import shutil
 import subprocess
 import sys
@@ -73,23 +74,25 @@ def text_of(code):
 
 
 class Citing(unittest.TestCase):
-    """A file of lemmas that another crate cites says so at its head, and one that says so is cited."""
+    """How often crates import lemmas of others is counted, mathematics left out, and may not grow."""
 
-    def ends(self, head, cited):
+    def ends(self, cited, most):
         with tempfile.TemporaryDirectory() as room:
-            write(os.path.join(room, "crates/low/proofs/Facts.antt"), f"{head}\nfact : ...\n")
-            write(os.path.join(room, "crates/high/proofs/Uses.antt"), f"-- Uses.\nuse Rattle.{cited}.proofs.Facts.{{fact}}\n")
-            write(os.path.join(room, "tools/cites"), "")
-            shutil.copy(os.path.join(TOOLS, "cites"), os.path.join(room, "tools/cites"))
-            words = [sys.executable, os.path.join(room, "tools/cites")]
-            return subprocess.run(words, capture_output=True, text=True).returncode
+            for crate in ("low", "math_list"):
+                write(os.path.join(room, f"crates/{crate}/proofs/Facts.antt"), "-- Facts.\nfact : ...\n")
+            uses = "".join(f"use Rattle.{crate}.proofs.Facts.{{fact}}\n" for crate in cited)
+            write(os.path.join(room, "crates/high/proofs/Uses.antt"), f"-- Uses.\n{uses}")
+            text = re.sub(r"^MOST = .*$", f"MOST = {most}", read(os.path.join(TOOLS, "cites")), flags=re.M)
+            write(os.path.join(room, "tools/cites"), text)
+            words = [sys.executable, os.path.join(room, "tools/cites"), "low"]
+            done = subprocess.run(words, capture_output=True, text=True)
+            return done.returncode, done.stdout.splitlines()[0]
 
-    def test_heads(self):
-        open_to_others = "-- Facts. Crates\n-- above may cite this file."
-        self.assertEqual(self.ends("-- Facts.", "low"), 1)
-        self.assertEqual(self.ends(open_to_others, "low"), 0)
-        self.assertEqual(self.ends("-- Facts.", "high"), 0)
-        self.assertEqual(self.ends(open_to_others, "high"), 1)
+    def test_count(self):
+        listed = "crates/low/proofs/Facts.antt: high 1"
+        self.assertEqual(self.ends(["low"], 1), (0, listed))
+        self.assertEqual(self.ends(["low"], 0), (1, listed))
+        self.assertEqual(self.ends(["high", "math_list"], 0)[0], 0)
 
 
 class Wanting(unittest.TestCase):

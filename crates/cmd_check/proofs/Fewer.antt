@@ -2,10 +2,10 @@
 use Rattle.std.proofs.Common.{◌≡◌, ℕ, zero, suc, ◌+◌, ◌<◌, ◌≤◌, List, [], ◌∷◌, length, Some, ap, sym, ◌∙◌, refl, arith}
 use Rattle.std.specs.Prelude.{◌≢◌, slice_get}
 use Rattle.std.proofs.lemmas.Option.{none-some, same_Some}
-use Rattle.dg_waves.specs.Rounds.{numbers_from}
+use Rattle.math_list.specs.Numbers.{numbers_from}
 use Rattle.hw_arcs.specs.Found.{IsIn}
 use Rattle.dg_model.proofs.SoundRows.{number_at}
-use Rattle.dg_waves.proofs.Waved.{length_numbers}
+use Rattle.math_list.proofs.Numbers.{length_numbers}
 
 abbrev without : List ℕ → ℕ → List ℕ
 without [] k = []

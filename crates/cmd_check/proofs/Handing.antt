@@ -1,4 +1,4 @@
--- Bytes are handed over one piece after another. Crates above may cite this file.
+-- Bytes are handed over one piece after another.
 use Rattle.std.proofs.Common.{◌≡◌, ℕ, ◌+◌, ◌<◌, List, [], ◌++◌, length, length-append, take, Option, Some, None, Result, Ok, Err, append_assoc, append-nil, ap, refl, sym, ◌∙◌, subst, arith}
 use Rattle.std.specs.Prelude.{⊤}
 use Rattle.std.proofs.lemmas.List.{take-append-le}

@@ -2,7 +2,7 @@
 use Rattle.std.proofs.Common.{◌≡◌, ℕ, zero, suc, ◌+◌, List, [], ◌∷◌, ◌++◌, ap, sym, ◌∙◌, arith}
 use Rattle.std.specs.List.{flat_map}
 use Rattle.std.proofs.lemmas.List.{append_assoc, append-nil}
-use Rattle.dg_waves.specs.Rounds.{numbers_from}
+use Rattle.math_list.specs.Numbers.{numbers_from}
 
 pub number_more : (f : ℕ → List ℕ) (from n : ℕ) → flat_map f (numbers_from from (suc n)) ≡ flat_map f (numbers_from from n) ++ f (from + n)
 number_more f from zero = let e : from ≡ from + 0 = omega arith in append-nil (f from) ∙ ap f e

@@ -16,7 +16,7 @@ use Rattle.dg_sort.proofs.Lines.{control_there}
 use Rattle.hw_arcs.specs.declared.arc.Arc.{Arc}
 use Rattle.hw_latency.specs.Weight.{arc_from, arc_into, arc_of, latency_arcs}
 use Rattle.cmd_check.specs.inner.Way.{IsSource}
-use Rattle.fx_io.proofs.Places.{get_front, map_there}
+use Rattle.math_list.proofs.Places.{get_front, map_there}
 
 -- ---- enable edges
 

@@ -16,7 +16,7 @@ use Rattle.hw_names.specs.Names.{AreNames, wanted_names, wanted_of}
 use Rattle.hw_sched.specs.Slots.{Timing}
 use Rattle.cmd_check.specs.CheckText.{IsCheckText, blocks_text, front_text, output_line}
 use Rattle.cmd_check.specs.inner.Listed.{AddsOutputs}
-use Rattle.fx_io.proofs.Places.{map_there}
+use Rattle.math_list.proofs.Places.{map_there}
 
 -- what is left behind so many names
 pub left_behind : (first : ℕ) (names own : List (List ℕ)) → own ≡ names → take (length own - first) (drop first own) ≡ drop first names

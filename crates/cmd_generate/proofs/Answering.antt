@@ -11,7 +11,7 @@ use Rattle.dg_model.specs.Solves.{Solves}
 use Rattle.fx_type.specs.FxType.{width_of}
 use Rattle.vl_ast.proofs.Unstalled.{counted-all}
 use Rattle.st_wrap.proofs.Columned.{got-in}
-use Rattle.fx_io.proofs.Places.{get_some, there_within, there_map}
+use Rattle.math_list.proofs.Places.{get_some, there_within, there_map}
 use Rattle.cmd_generate.proofs.Placing.{element, found-at, named-at, to-named, zip-at}
 use Rattle.cmd_generate.proofs.Ported.{stalls, outputs-are, in-name, out-name, cycles-are, output-numbers, wanted-size, inputs-many, outputs-many, output-of, input-at}
 use Rattle.hw_arcs.specs.Latencies.{latency_at}

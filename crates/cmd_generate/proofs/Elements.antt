@@ -18,8 +18,8 @@ use Rattle.dg_model.specs.Signals.{Attributes}
 use Rattle.dg_model.specs.Widths.{widths_of}
 use Rattle.dg_model.specs.Wired.{Joins, root_input, root_output}
 use Rattle.dg_model.specs.Wires.{at_source, driver_of, enters, width_into}
-use Rattle.fx_io.proofs.Places.{held}
-use Rattle.dg_tables.proofs.Lists.{find_holds}
+use Rattle.math_list.proofs.Places.{held}
+use Rattle.math_list.proofs.Searches.{find_holds}
 use Rattle.cmd_generate.proofs.Steadied.{placed}
 use Rattle.hw_build.proofs.Named.{want_is}
 use Rattle.hw_build.proofs.Naming.{IsWanted}

@@ -8,7 +8,7 @@ use Rattle.hw_module.specs.Interface.{NamedElement, named}
 use Rattle.hw_names.specs.Names.{Given}
 use Rattle.vl_ast.specs.declared.modules.Port.{Port}
 use Rattle.vl_ast.specs.Windows.{counted}
-use Rattle.vl_ast.proofs.Places.{cons-cases, head-in, none-in, tail-in}
+use Rattle.math_list.proofs.Elements.{cons-cases, head-in, none-in, tail-in}
 
 -- ---- lists by their places
 

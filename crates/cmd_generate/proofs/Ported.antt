@@ -1,4 +1,4 @@
--- The ports of a diagram's module that carry numbers, and what they declare. Crates above may cite this file.
+-- The ports of a diagram's module that carry numbers, and what they declare.
 use Rattle.std.proofs.Common.{◌≡◌, ℕ, zero, suc, ◌+◌, ◌==◌, nat_le, Bool, true, false, not, ◌&&◌, ◌||◌, if◌then◌else◌, List, [], ◌∷◌, ◌++◌, map, filter, find, length, drop, Contains, bytes_eq, codes, Option, Some, None, refl, sym, ap, subst, ◌∙◌, arith, length-append, length-drop}
 use Rattle.std.specs.Prelude.{slice_get, is_none, option_map, unwrap_or}
 use Rattle.std.specs.List.{list_any}
@@ -11,8 +11,8 @@ use Rattle.dg_model.specs.RootElements.{RootElement, root_inputs, root_outputs}
 use Rattle.dg_model.specs.Signals.{Attributes}
 use Rattle.dg_model.specs.Wires.{width_into}
 use Rattle.std.proofs.lemmas.Bool.{or_parts}
-use Rattle.fx_io.proofs.Tests.{unequal}
-use Rattle.fx_io.proofs.Places.{map_there, get_some, there_within}
+use Rattle.math_list.proofs.Tests.{unequal}
+use Rattle.math_list.proofs.Places.{map_there, get_some, there_within}
 use Rattle.cmd_generate.proofs.Placing.{element, first-part, given-free, keep-all, keep-none, kept, named-at, named-in, named-size, none-found, not-mapped, or-true, to-named}
 use Rattle.hw_module.specs.Carries.{Carries}
 use Rattle.hw_module.specs.Interface.{NamedElement, input_data, input_elements, output_data, output_elements, step_of}
@@ -28,7 +28,7 @@ use Rattle.vl_ast.specs.Conditions.{lacks_attribute}
 use Rattle.vl_ast.specs.Control.{is_bit_input, is_control_input, is_control_output, is_number_input, is_number_output, is_stallable}
 use Rattle.vl_ast.specs.Driven.{output_ports, stimulus_ports}
 use Rattle.vl_ast.specs.Header.{bit_input, bit_output, input_port, output_port}
-use Rattle.vl_ast.proofs.Places.{map-in, none-in, tail-in}
+use Rattle.math_list.proofs.Elements.{map-in, none-in, tail-in}
 
 module _ {core : Module} {diagram : Diagram} {plan : Resolved} {timing : Timing} (c : Carries core diagram plan timing) where
   abbrev A : Attributes

@@ -8,7 +8,7 @@ use Rattle.std.proofs.lemmas.Slice.Eq.{bytes_eq-Decides}
 use Rattle.hw_build.proofs.Naming.{IsWanted, names_are}
 use Rattle.hw_names.specs.Names.{Given, IsGiven, handshake_names, own_names, port_name}
 use Rattle.st_wrap.specs.Names.{IsColumnName}
-use Rattle.vl_ast.proofs.Places.{cons-cases, head-in, none-in, tail-in}
+use Rattle.math_list.proofs.Elements.{cons-cases, head-in, none-in, tail-in}
 use Rattle.vl_names.specs.Identifiers.{is_identifier}
 
 -- what is taken from the start

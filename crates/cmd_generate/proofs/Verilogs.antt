@@ -1,4 +1,4 @@
--- What is written of a module. Crates above may cite this file.
+-- What is written of a module.
 use Rattle.std.proofs.Common.{◌≡◌, ℕ, List, Result, Ok, Err, IfOk, refl, sym, subst}
 use Rattle.cmd_design.specs.declared.designing.DesignFault.{DesignFault}
 use Rattle.cmd_generate.specs.Generated.{IsWritten}

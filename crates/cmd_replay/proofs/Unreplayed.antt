@@ -1,4 +1,4 @@
--- Why a Verilog text has no response to a stimulus: what each fault says excludes one. Crates above may cite this file.
+-- Why a Verilog text has no response to a stimulus: what each fault says excludes one.
 use Rattle.std.proofs.Common.{◌≡◌, ℕ, List, [], ◌∷◌, None, ap, sym, subst, ◌∙◌}
 use Rattle.fx_tables.specs.declared.table.TableCause.{TableCause}
 use Rattle.vl_ast.specs.declared.modules.Module.{Module}

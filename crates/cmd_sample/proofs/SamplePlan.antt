@@ -8,7 +8,7 @@ use Rattle.fx_tables.specs.PlanLines.{Says}
 use Rattle.fx_tables.specs.inner.PlanReading.{entry_of, is_bad_entry}
 use Rattle.fx_tables.proofs.PlanForms.{entry_form, form_entry}
 use Rattle.cmd_sample.specs.Stimulus.{sample_plan}
-use Rattle.fx_io.proofs.Tests.{some_of}
+use Rattle.math_list.proofs.Tests.{some_of}
 
 abbrev domain : {A B : Type 0} → (A → B) → Type 0
 domain {A} f = A

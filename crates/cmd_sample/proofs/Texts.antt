@@ -9,7 +9,7 @@ use Rattle.cmd_sample.specs.ModelText.{parameter_text, block_head, section_end, 
 use Rattle.cmd_sample.specs.Summary.{number_line, made_lines, equal_line, summary_text}
 use Rattle.cmd_sample.specs.declared.chain.ChainKind.{ChainKind}
 use Rattle.cmd_sample.specs.declared.summing.Made.{Made}
-use Rattle.fx_io.proofs.Places.{three_appended}
+use Rattle.math_list.proofs.Places.{three_appended}
 
 -- the pieces of a line from a block to a port of another
 line_pieces : (line own source quote from other target to port end last : List ℕ) → line ++ (own ++ (source ++ (quote ++ (from ++ (other ++ (target ++ (quote ++ (to ++ (port ++ (end ++ (last ++ []))))))))))) ≡

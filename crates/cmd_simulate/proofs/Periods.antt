@@ -11,7 +11,7 @@ use Rattle.dg_model.specs.RootElements.{RootElement}
 use Rattle.dg_response.specs.Response.{column_of}
 use Rattle.fx_tables.specs.declared.table.Column.{Column}
 use Rattle.hw_sched.specs.Laws.{PeriodsAreAbove}
-use Rattle.fx_io.proofs.Places.{there_map, get_some}
+use Rattle.math_list.proofs.Places.{there_map, get_some}
 use Rattle.std.proofs.lemmas.List.{length-map}
 
 above_none : (period : Option ℕ) → ((p : ℕ) → period ≡ Some p → 0 < p) → 0 < unwrap_or period 1

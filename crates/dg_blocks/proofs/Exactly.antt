@@ -1,4 +1,4 @@
--- An operation gives exactly one number, since a conversion does. Crates above may cite this file.
+-- An operation gives exactly one number, since a conversion does.
 use Rattle.std.proofs.Common.{◌≡◌, Bool, true, false, ℤ, pos, ◌*ℤ◌, ◌≤ℤ◌, MatchBool, All, Any, List, [], ◌∷◌, suc, length, zip, Some, None, ap, sym, ◌∙◌, refl, subst, arith}
 use Rattle.std.proofs.lemmas.Int.{ints}
 use Rattle.fx_type.specs.declared.kind.FxType.{FxType}

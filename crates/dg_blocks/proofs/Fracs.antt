@@ -5,7 +5,7 @@ use Rattle.std.proofs.lemmas.Int.{ints}
 use Rattle.std.proofs.lemmas.List.{get_or_default}
 use Rattle.fx_type.specs.declared.kind.FxType.{FxType}
 use Rattle.fx_type.specs.FxType.{frac_of}
-use Rattle.fx_type.proofs.Ranges.{int_max_cases}
+use Rattle.math_num.proofs.Integers.{int_max_cases}
 
 module _ (types : List FxType) (i : ℕ) (d : FxType) (inside : i < length types) (old f new : ℤ) (is_frac : f ≡ frac_of (get_or types i d)) where
   pub bound_more : ((k : ℕ) (e : FxType) → k < i → frac_of (get_or types k e) ≤ℤ old) → old ≤ℤ new → f ≤ℤ new → (k : ℕ) (e : FxType) → k < i + 1 → frac_of (get_or types k e) ≤ℤ new

@@ -3,10 +3,10 @@ use Rattle.std.proofs.Common.{◌≡◌, ℕ, zero, suc, ◌+◌, ◌-◌, ◌^�
 use Rattle.std.specs.Int.{w64, w128, int_max, int_min}
 use Rattle.std.specs.Int.Signed.{shr_z}
 use Rattle.std.proofs.lemmas.Nat.{one_shl, pow-add, and_mask}
-use Rattle.fx_num.proofs.Arithmetic.{scaled-mono, scaled-neg, double, unit_apart, IsCongruent-trans, IsCongruent-part}
-use Rattle.fx_num.proofs.Shifted.{bits_congruent, remainder_congruent}
+use Rattle.math_num.proofs.Arithmetic.{scaled-mono, scaled-neg, double, unit_apart, IsCongruent-trans, IsCongruent-part}
+use Rattle.math_num.proofs.Shifts.{bits_congruent, remainder_congruent}
 use Rattle.std.proofs.lemmas.Int.{ints, clamps, to_z-of_z, to_z_pos, unsigned_abs-mul}
-use Rattle.fx_num.specs.Word.{IsCongruent, word_lowest, word_highest}
+use Rattle.math_num.specs.Word.{IsCongruent, word_lowest, word_highest}
 use Rattle.fx_type.specs.declared.kind.FxType.{FxType}
 use Rattle.fx_type.specs.declared.kind.FxType.TheVariants.{Num, Logical}
 use Rattle.fx_type.specs.declared.rounding.Rounding.{Rounding}

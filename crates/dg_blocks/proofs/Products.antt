@@ -10,7 +10,7 @@ use Rattle.fx_type.specs.declared.kind.FxType.TheVariants.{Num, Logical}
 use Rattle.fx_type.specs.FxType.{IsType, IsNumber, InRange, is_signed, width_of}
 use Rattle.fx_type.specs.FullType.{IsFullProduct}
 use Rattle.fx_type.proofs.Ranges.{some-width}
-use Rattle.fx_num.proofs.Arithmetic.{abs-between, abs-below, below-power, below-power-strict}
+use Rattle.math_num.proofs.Arithmetic.{abs-between, abs-below, below-power, below-power-strict}
 
 -- 1, shifted up by less than 127 bits
 pub one_shifted : (gap : ℕ) → gap < 127 → to_z w128 ((1 * 2 ^ gap) % 2 ^ 128) ≡ pos (2 ^ gap)

@@ -7,8 +7,9 @@ use Rattle.std.proofs.Math.Nat.{mul-le-mul_left}
 use Rattle.fx_type.specs.declared.kind.FxType.{FxType}
 use Rattle.fx_type.specs.FxType.{IsType, InRange, frac_of, aligned}
 use Rattle.fx_type.specs.FullType.{IsUnion}
-use Rattle.fx_type.proofs.Ranges.{InRange-fits, int_max_cases}
-use Rattle.fx_num.proofs.Arithmetic.{int_cases}
+use Rattle.fx_type.proofs.Ranges.{InRange-fits}
+use Rattle.math_num.proofs.Integers.{int_max_cases}
+use Rattle.math_num.proofs.Arithmetic.{int_cases}
 
 -- minus a number, as the code computes it
 pub minus_is : (v : ℤ) → pos 0 -ℤ v ≡ neg_ℤ v

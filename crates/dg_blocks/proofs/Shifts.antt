@@ -7,7 +7,7 @@ use Rattle.std.proofs.lemmas.Nat.{and_mask}
 use Rattle.fx_type.specs.declared.rounding.Rounding.{Rounding}
 use Rattle.fx_type.specs.declared.rounding.Rounding.TheVariants.{Floor, Ceiling, Zero, Nearest, Round, Convergent}
 use Rattle.fx_type.specs.Conversion.{twice, IsEven, RoundsDown, RoundsUp, RoundsTiesUp, RoundsTiesDown, RoundsTiesEven, Rounds}
-use Rattle.fx_num.proofs.Arithmetic.{next-scaled}
+use Rattle.math_num.proofs.Arithmetic.{next-scaled}
 use Rattle.dg_blocks.specs.Narrow.{IsBias, IsTie, IsShifted}
 use Rattle.fx_round.proofs.Biased.{shift_floors, floors_one}
 

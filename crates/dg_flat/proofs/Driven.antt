@@ -30,9 +30,9 @@ use Rattle.dg_flat.proofs.Origins.{comes_from, one_origin}
 use Rattle.dg_flat.proofs.PortReads.{some_inside}
 use Rattle.dg_flat.proofs.Roles.{InPorts}
 use Rattle.dg_flat.proofs.Verdicts.{numbered_no}
-use Rattle.fx_io.proofs.Places.{held as all_get}
+use Rattle.math_list.proofs.Places.{held as all_get}
 use Rattle.dg_flat.proofs.WiredParts.{no_block}
-use Rattle.fx_io.proofs.Tests.{same_test}
+use Rattle.math_list.proofs.Tests.{same_test}
 
 -- ---- edges of lines
 

@@ -12,7 +12,7 @@ use Rattle.dg_flat.specs.inner.Ports.{one_more, port_drivers, control_drivers, i
 use Rattle.dg_flat.specs.inner.Tables.{HasCell, IsTable, IsRowTable, cell_at}
 use Rattle.dg_flat.proofs.Tables.{table_set, table_same}
 use Rattle.dg_flat.proofs.Cells.{rows_set, rows_same}
-use Rattle.fx_io.proofs.Tests.{and_false}
+use Rattle.math_list.proofs.Tests.{and_false}
 use Rattle.dg_flat.proofs.Firsts.{count_push}
 
 -- what is read where no line stands

@@ -14,7 +14,7 @@ use Rattle.dg_flat.specs.Parts.{same_system, first_in, count_in, is_enable_port}
 use Rattle.dg_flat.specs.inner.Slots.{slot_of, system_of, first_of, HaveParents}
 use Rattle.dg_flat.specs.inner.Tables.{IsTable}
 use Rattle.dg_flat.proofs.Tables.{table_same, table_set}
-use Rattle.fx_io.proofs.Tests.{and_false}
+use Rattle.math_list.proofs.Tests.{and_false}
 
 -- ---- positions and counts
 

@@ -5,7 +5,7 @@ use Rattle.std.specs.List.{enumerate_from, filter_map, cons_option}
 use Rattle.std.specs.Option.{is_some}
 use Rattle.std.proofs.lemmas.Bool.{true≢false}
 use Rattle.std.proofs.lemmas.Option.{none-some, same_Some}
-use Rattle.fx_io.proofs.Places.{all_cons, count_cons}
+use Rattle.math_list.proofs.Places.{all_cons, count_cons}
 
 -- what stands behind an item that is kept, or left out
 behind : {Y : Type 0} (o : Option Y) (b : Bool) → is_some o ≡ b → (rest : List Y) (place : ℕ) → slice_get (cons_option o rest) (cond b 1 0 + place) ≡ slice_get rest place

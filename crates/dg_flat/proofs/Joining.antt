@@ -27,9 +27,9 @@ use Rattle.dg_flat.proofs.FromSound.{have_ends}
 use Rattle.dg_flat.proofs.Full.{each_number}
 use Rattle.dg_flat.proofs.Roles.{IsInKind, IsOutKind, InPorts, OutPorts, in_kind, out_kind, in_ports, out_ports}
 use Rattle.dg_flat.proofs.Verdicts.{has_this, passed}
-use Rattle.fx_io.proofs.Places.{held as all_get}
+use Rattle.math_list.proofs.Places.{held as all_get}
 use Rattle.dg_flat.proofs.WiredParts.{part_enable, stands_at}
-use Rattle.fx_io.proofs.Tests.{some_there}
+use Rattle.math_list.proofs.Tests.{some_there}
 
 -- ---- lines whose ends are there
 

@@ -4,7 +4,7 @@ use Rattle.std.specs.Prelude.{count_by, slice_get, AllPairs}
 use Rattle.std.specs.List.{enumerate_from, filter_map, cons_option}
 use Rattle.std.specs.Option.{is_some}
 use Rattle.std.proofs.lemmas.List.Kept.{AllPairs-cons}
-use Rattle.fx_io.proofs.Places.{all_cons, count_cons}
+use Rattle.math_list.proofs.Places.{all_cons, count_cons}
 
 pub each_given : {X Y : Type 0} (h : X → Option Y) (P : Y → Type 0) (xs : List X) → ((k : ℕ) (x : X) (y : Y) → slice_get xs k ≡ Some x → h x ≡ Some y → P y) → All P (filter_map h xs)
 each_given h P [] each = λ j d inside. absurd (omega (arith, inside))

@@ -9,7 +9,7 @@ use Rattle.dg_flat.specs.inner.Slots.{slot_of, system_of, first_of}
 use Rattle.dg_flat.specs.inner.Tables.{HasCell, IsRowTable, cell_at}
 use Rattle.dg_flat.specs.inner.Numbering.{number_on, count_at, numbered_at, IsNumbering, IsNumberedAt}
 use Rattle.dg_flat.proofs.Cells.{rows_set, rows_same}
-use Rattle.fx_io.proofs.Tests.{and_false}
+use Rattle.math_list.proofs.Tests.{and_false}
 use Rattle.dg_flat.proofs.Firsts.{position_push, same_at, other_at, first_none}
 
 -- whether the block is such a port

@@ -9,7 +9,7 @@ use Rattle.dg_model.specs.declared.diagram.Block.{Block}
 use Rattle.dg_model.specs.declared.nested.NestedBlock.{NestedBlock}
 use Rattle.dg_flat.specs.Flat.{flat_block, flat_blocks, flat_place}
 use Rattle.dg_flat.specs.Parts.{is_subsystem, control_of}
-use Rattle.fx_io.proofs.Places.{count_cons}
+use Rattle.math_list.proofs.Places.{count_cons}
 use Rattle.dg_flat.proofs.WiredParts.{agrees}
 
 -- an item of a list that is kept at a place, and what it becomes

@@ -26,7 +26,7 @@ use Rattle.dg_flat.proofs.Joining.{in_block_kind, out_block_kind}
 use Rattle.dg_flat.proofs.Lists.{each_given, pairs_given, length_kept, kept_kept, of_some}
 use Rattle.dg_flat.proofs.Readable.{row_kept}
 use Rattle.dg_flat.proofs.Roles.{IsInKind, IsOutKind}
-use Rattle.fx_io.proofs.Places.{held}
+use Rattle.math_list.proofs.Places.{held}
 
 -- the number of a block in the root
 abbrev at_root : Option ℕ → Option ℕ → Option ℕ

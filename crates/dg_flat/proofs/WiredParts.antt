@@ -21,8 +21,8 @@ use Rattle.dg_flat.specs.Parts.{nested_path, is_subsystem, is_enable_port, enabl
 use Rattle.dg_flat.proofs.FlatList.{kept_at, each_kept}
 use Rattle.dg_flat.proofs.Found.{position_within}
 use Rattle.dg_flat.proofs.Readable.{placed_readable, control_readable}
-use Rattle.fx_io.proofs.Places.{held}
-use Rattle.fx_io.proofs.Tests.{right_true}
+use Rattle.math_list.proofs.Places.{held}
+use Rattle.math_list.proofs.Tests.{right_true}
 
 -- ---- size
 

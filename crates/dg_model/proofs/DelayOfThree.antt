@@ -9,7 +9,7 @@ use Rattle.dg_model.specs.Signals.{Attributes, Stimulus, Table}
 use Rattle.dg_model.specs.Solves.{Solves, IsShown}
 use Rattle.dg_model.proofs.Chain.{chain, chain_attributes, chain_stimulus, chain_table, IsGiven, always_hits, chain_solves}
 use Rattle.dg_model.proofs.Examples.{block_of, decimal_of, table_of, stores_small, carried_out}
-use Rattle.dg_model.proofs.Written.{below_of}
+use Rattle.math_list.proofs.ByRecursion.{below_of}
 
 abbrev delay : Kind
 delay = Delay 3 (decimal_of 7 (lit< tt) ∷ []) false

@@ -14,7 +14,7 @@ use Rattle.dg_model.specs.Signals.{Attributes, Stimulus, Table}
 use Rattle.dg_model.specs.Solves.{Solves, IsShown}
 use Rattle.dg_model.proofs.Examples.{int8, block_of, edge_of, decimal_of, table_of, scalars, stores_small, kept}
 use Rattle.dg_model.proofs.SumTypes.{two_bytes_full}
-use Rattle.dg_model.proofs.Written.{below_of}
+use Rattle.math_list.proofs.ByRecursion.{below_of}
 
 -- control u, its test, the delay D, the constant 1, the sum S of both, the port of the subsystem, and y
 abbrev diagram : Bool → Diagram

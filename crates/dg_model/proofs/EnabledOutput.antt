@@ -12,7 +12,7 @@ use Rattle.dg_model.specs.Hits.{Hits, last_hit}
 use Rattle.dg_model.specs.Signals.{Attributes, Stimulus, Table}
 use Rattle.dg_model.specs.Solves.{Solves, IsShown}
 use Rattle.dg_model.proofs.Examples.{int8, block_of, edge_of, decimal_of, table_of, scalars, stores_small}
-use Rattle.dg_model.proofs.Written.{below_of}
+use Rattle.math_list.proofs.ByRecursion.{below_of}
 
 -- input u, control c, its test, the inner input, the port of the subsystem, and y
 abbrev diagram : Bool → Diagram

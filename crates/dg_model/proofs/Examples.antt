@@ -1,4 +1,4 @@
--- Parts of small diagrams whose tables are written out by hand, to check the definitions against. Crates above may cite this file.
+-- Parts of small diagrams whose tables are written out by hand, to check the definitions against.
 use Rattle.std.proofs.Common.{◌≡◌, sym, ◌∙◌, subst, ℕ, ◌<◌, ◌^◌, Bool, true, false, List, [], Option, None, ℤ, pos, negsuc, ◌+ℤ◌, ◌*ℤ◌, get_or, refl, arith}
 use lib.Signed.{le_z, lt_z, le_z_yes, lt_z_yes}
 use Rattle.std.proofs.Math.Dec.{T}

@@ -16,7 +16,7 @@ use Rattle.dg_model.specs.LatencyEdges.{LatencyEdge, signal_edge}
 use Rattle.dg_model.specs.Attributes.{attributes_of}
 use Rattle.dg_model.specs.Loop.{LeadsNow, IsInstantCycle, BreaksLoop}
 use Rattle.dg_model.proofs.WidthRounds.{block_of, edge_of}
-use Rattle.dg_model.proofs.Written.{pairs_of}
+use Rattle.math_list.proofs.ByRecursion.{pairs_of}
 
 abbrev gain : Block
 gain = record (block_of (Gain [] Internal) 1 1) { path = codes "m/g" }

@@ -33,4 +33,3 @@ mod TypeRows
 mod Vectors
 mod WidthRounds
 mod WiredRows
-pub mod Written

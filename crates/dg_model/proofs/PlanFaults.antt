@@ -15,7 +15,7 @@ use Rattle.dg_model.specs.Attributes.{attributes_of}
 use Rattle.dg_model.specs.Faults.{fault_of}
 use Rattle.dg_model.specs.PlanNames.{MayBePipelined, IsFound, KeepsPlan, BreaksPlan, IsResolved}
 use Rattle.dg_model.proofs.WidthRounds.{block_of, edge_of}
-use Rattle.dg_model.proofs.Written.{all_of, each_of}
+use Rattle.math_list.proofs.ByRecursion.{all_of, each_of}
 
 abbrev named : List ℕ → Kind → ℕ → ℕ → Block
 named path kind inputs outputs = record (block_of kind inputs outputs) { path = path }

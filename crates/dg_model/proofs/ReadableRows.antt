@@ -19,7 +19,7 @@ use Rattle.dg_model.specs.declared.kind.Kind.TheVariants.{Inport, Outport, Const
 use Rattle.dg_model.specs.Library.{row_of}
 use Rattle.dg_model.specs.Readable.{HasPorts, HasRounding, IsReadable}
 use Rattle.dg_model.proofs.Examples.{int8, block_of, decimal_of, fraction_of}
-use Rattle.dg_model.proofs.Written.{all_of}
+use Rattle.math_list.proofs.ByRecursion.{all_of}
 
 abbrev one : List Decimal
 one = decimal_of 1 (lit< tt) ∷ []

@@ -1,4 +1,4 @@
--- A refusal by a rule, and by one that says less. Crates above may cite this file.
+-- A refusal by a rule, and by one that says less.
 use Rattle.dg_model.specs.declared.fault.RuleFault.{RuleFault}
 use Rattle.dg_model.specs.declared.fault.CheckFault.{CheckFault}
 use Rattle.dg_model.specs.Faults.{IsRefusal}

@@ -1,4 +1,4 @@
--- The list of root elements has each element of each root port of a wired diagram at one place, and no other. Crates above may cite this file.
+-- The list of root elements has each element of each root port of a wired diagram at one place, and no other.
 use Rattle.std.proofs.Common.{◌≡◌, ℕ, zero, suc, ◌+◌, ◌<◌, ◌≤◌, Bool, true, false, true≢false, List, [], ◌∷◌, ◌++◌, length, map, cond, Some, None, Option, eqb, ltb, get_or, refl, sym, ap, subst, ◌∙◌, ◌⊎◌, inl, inr, arith}
 use Rattle.std.specs.Prelude.{⊤, find, slice_get, AllPairs, filter_map, ◌==◌, ◌&&◌, ◌≢◌}
 use Rattle.std.specs.List.{flat_map, position, position_or_len, cons_option}
@@ -11,7 +11,7 @@ use Rattle.dg_model.specs.declared.diagram.Diagram.{Diagram}
 use Rattle.dg_model.specs.declared.diagram.Block.{Block}
 use Rattle.dg_model.specs.declared.row.Role.{Role}
 use Rattle.dg_model.specs.Signals.{Attributes}
-use Rattle.dg_waves.specs.Rounds.{numbers_from}
+use Rattle.math_list.specs.Numbers.{numbers_from}
 use Rattle.dg_model.specs.Wired.{AreNumbered}
 use Rattle.dg_model.specs.Laws.{IsElementOfPort, AreRootElements}
 use Rattle.dg_model.specs.RootElements.{RootElement, root_element, number_in, is_number, has_number, elements_of_port, root_elements}

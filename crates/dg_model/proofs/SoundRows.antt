@@ -1,6 +1,6 @@
--- Nested blocks and lines that are well formed, and what breaks each part of them. Crates above may cite this file.
+-- Nested blocks and lines that are well formed, and what breaks each part of them.
 use Rattle.std.specs.Option.{option_map}
-use Rattle.dg_waves.specs.Rounds.{numbers_from}
+use Rattle.math_list.specs.Numbers.{numbers_from}
 use Rattle.std.proofs.Common.{◌≡◌, ◌+◌, ◌<◌, ◌∙◌, map, ℕ, zero, suc, ◌≤◌, List, [], ◌∷◌, get_or, None, Some, Option, false, true, refl, sym, ap, subst, arith}
 use Rattle.std.specs.Prelude.{slice_get, All, replicate}
 use Rattle.std.proofs.Math.Dec.{lit<, lit≤}
@@ -18,7 +18,7 @@ use Rattle.dg_model.specs.declared.nested.Target.TheVariants.{Port, Enable as En
 use Rattle.dg_model.specs.declared.row.Role.{Role}
 use Rattle.dg_model.specs.Sound.{IsSound, IsSubSystem, IsEnable, HasEnablePort, AreLevels, HasParent, HaveNames, JoinsWithin, HasReadable, HasInRole, HasOutRole, HasPlainRole}
 use Rattle.dg_model.proofs.Examples.{block_of, decimal_of}
-use Rattle.dg_model.proofs.Written.{all_of, each_of, pairs_of}
+use Rattle.math_list.proofs.ByRecursion.{all_of, each_of, pairs_of}
 
 abbrev one : List Decimal
 one = decimal_of 1 (lit< tt) ∷ []

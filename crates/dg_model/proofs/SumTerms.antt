@@ -1,4 +1,4 @@
--- Signs and types as the terms of a sum, and the type that is found for them. Crates above may cite this file.
+-- Signs and types as the terms of a sum, and the type that is found for them.
 use Rattle.std.proofs.Common.{◌≡◌, ℕ, zero, suc, ◌<◌, ◌≤◌, Bool, false, List, [], ◌∷◌, length, get_or, set, take, All, Result, Ok, Err, OnErr, IsOk, refl, ap, ◌∙◌, arith}
 use Rattle.std.specs.Prelude.{zip}
 use Rattle.std.proofs.lemmas.List.{take_all}

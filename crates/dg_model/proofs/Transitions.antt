@@ -7,7 +7,7 @@ use Rattle.dg_model.specs.declared.kind.Kind.TheVariants.{RateTransition}
 use Rattle.dg_model.specs.Solves.{Solves}
 use Rattle.dg_model.proofs.Chain.{chain, chain_attributes, chain_stimulus, chain_table, IsGiven, IsKept, always_hits, chain_solves}
 use Rattle.dg_model.proofs.Examples.{decimal_of, stores_small}
-use Rattle.dg_model.proofs.Written.{below_of}
+use Rattle.math_list.proofs.ByRecursion.{below_of}
 
 -- to a period, with an initial value
 abbrev to : Decimal → Decimal → Kind

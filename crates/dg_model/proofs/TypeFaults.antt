@@ -19,7 +19,7 @@ use Rattle.dg_model.specs.TypeRounds.{input_types, types_of}
 use Rattle.dg_model.specs.TypeRule.{IsNotWide, HasTypes, HasAgreeing, BreaksType}
 use Rattle.dg_model.proofs.WidthRounds.{block_of, edge_of}
 use Rattle.dg_model.proofs.Examples.{int8}
-use Rattle.dg_model.proofs.Written.{all_of, each_of}
+use Rattle.math_list.proofs.ByRecursion.{all_of, each_of}
 
 abbrev width_if : Option FxType → ℕ
 width_if None = 0

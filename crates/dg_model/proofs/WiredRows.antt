@@ -20,7 +20,7 @@ use Rattle.dg_model.specs.Readable.{IsReadable}
 use Rattle.dg_model.specs.Wires.{enters}
 use Rattle.dg_model.specs.Wired.{IsWired, Joins, StandsBefore, NamesControl, MayStand}
 use Rattle.dg_model.proofs.Examples.{int8, block_of, edge_of, decimal_of}
-use Rattle.dg_model.proofs.Written.{all_of, pairs_of}
+use Rattle.math_list.proofs.ByRecursion.{all_of, pairs_of}
 
 abbrev int8_valid : IsSpec (Fixed int8)
 int8_valid = ((lit≤ tt, lit≤ tt), le_z_yes tt, le_z_yes tt)

@@ -4,7 +4,7 @@ use Rattle.dg_model.specs.declared.diagram.Diagram.{Diagram}
 use Rattle.dg_model.specs.declared.diagram.Block.{Block}
 use Rattle.dg_model.specs.declared.row.Role.{Role}
 use Rattle.dg_model.specs.Signals.{Attributes, Stimulus, Table}
-use Rattle.dg_waves.specs.Rounds.{numbers_from}
+use Rattle.math_list.specs.Numbers.{numbers_from}
 use Rattle.dg_model.specs.Wires.{driver_of, edges_into, width_into, widths_into, types_into, values_into, repeated}
 use Rattle.dg_model.specs.Wired.{IsWired, root_input, root_output}
 use Rattle.dg_model.specs.Solves.{IsStimulus}

@@ -10,7 +10,7 @@ use Rattle.dg_model.specs.declared.row.Role.{Role}
 use Rattle.dg_model.specs.Library.{row_of}
 use Rattle.dg_model.specs.Signals.{Attributes, Stimulus}
 use Rattle.dg_model.specs.Hits.{Hits}
-use Rattle.dg_waves.specs.Rounds.{numbers_from}
+use Rattle.math_list.specs.Numbers.{numbers_from}
 use Rattle.dg_model.specs.Wires.{width_into}
 use Rattle.dg_model.specs.Wired.{root_input, root_output}
 

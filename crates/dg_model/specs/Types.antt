@@ -11,7 +11,7 @@ use Rattle.dg_model.specs.declared.row.OwnType.{OwnType}
 use Rattle.dg_model.specs.KindRow.{FullRule}
 use Rattle.dg_model.specs.Library.{row_of}
 use Rattle.dg_model.specs.Operation.{type_of}
-use Rattle.dg_waves.specs.Rounds.{numbers_from}
+use Rattle.math_list.specs.Numbers.{numbers_from}
 
 -- the type that a specification gives: its own, the internal rule's, or the first input's
 abbrev pub IsSpecified : TypeSpec → FxType → (FxType → Type 0) → FxType → Type 0

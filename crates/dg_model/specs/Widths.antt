@@ -2,13 +2,15 @@
 -- rounds and the cut are own).
 use Rattle.std.specs.Prelude.{ℕ, ◌+◌, ◌-◌, ◌/◌, ◌%◌, ◌==◌, min, max, nat_lt, sum, Bool, if◌then◌else◌, List, [], ◌∷◌, length, map, Option, Some, None, slice_get, slice_index_or}
 use Rattle.std.specs.List.{list_all}
-use Rattle.dg_waves.specs.Rounds.{numbers_from, after_rounds}
+use Rattle.dg_waves.specs.Rounds.{after_rounds}
+use Rattle.math_list.specs.Numbers.{numbers_from}
 use Rattle.dg_model.specs.declared.diagram.Diagram.{Diagram}
 use Rattle.dg_model.specs.declared.diagram.Block.{Block}
 use Rattle.dg_model.specs.declared.kind.Kind.{Kind}
 use Rattle.dg_model.specs.KindRow.{Shape}
 use Rattle.dg_model.specs.Library.{row_of}
 use Rattle.dg_model.specs.Wires.{edges_into}
+use Rattle.math_list.specs.Numbers.{greatest}
 
 -- the widths at the output ports of each block; a block without an output port has its own width at
 -- port 1
@@ -23,11 +25,6 @@ width_at widths block port = slice_index_or (slice_index_or widths block []) (po
 abbrev pub input_widths : Diagram → Widths → ℕ → List ℕ
 input_widths diagram widths block =
     map (λ edge. width_at widths edge.from edge.from_port) (edges_into diagram block)
-
--- the greatest of a list, and 0 of an empty one
-abbrev pub greatest : List ℕ → ℕ
-greatest [] = 0
-greatest (x ∷ xs) = max x (greatest xs)
 
 -- no size is fixed
 abbrev pub are_open : List ℕ → Bool

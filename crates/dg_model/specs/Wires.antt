@@ -1,7 +1,7 @@
 -- What drives an input, and what the input carries (Simulink reference, signal lines; scalar
 -- expansion of inputs and parameters).
 use Rattle.std.specs.Prelude.{ℕ, ◌==◌, ◌&&◌, ℤ, pos, Bool, if◌then◌else◌, List, map, length, Option, Some, None, find, filter, slice_get}
-use Rattle.dg_waves.specs.Rounds.{numbers_from}
+use Rattle.math_list.specs.Numbers.{numbers_from}
 use Rattle.fx_type.specs.declared.kind.FxType.{FxType}
 use Rattle.fx_type.specs.declared.kind.FxType.TheVariants.{Logical}
 use Rattle.fx_type.specs.declared.decimal.Decimal.{Decimal}

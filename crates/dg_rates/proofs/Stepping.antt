@@ -12,7 +12,7 @@ use Rattle.dg_model.specs.Periods.{Periods, known_at, known_or, least_finite, ne
 use Rattle.dg_rates.specs.inner.Links.{AreSources}
 use Rattle.fx_io.specs.Rows.{row_at}
 use Rattle.dg_rates.specs.inner.Steps.{all_rests, is_of_sources, known_of, next_known, taken_by}
-use Rattle.fx_io.proofs.Places.{get_some}
+use Rattle.math_list.proofs.Places.{get_some}
 
 taken_is : (inherits : Inherited) (sources : Periods) (least : Option ℕ) → least_finite sources ≡ least → taken_by (is_of_sources inherits) sources ≡ taken_period inherits sources
 taken_is Inherited.OfSources sources None e = rw e refl

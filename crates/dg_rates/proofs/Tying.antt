@@ -6,7 +6,8 @@ use Rattle.std.proofs.lemmas.Grind.{get_or-set_at}
 use Rattle.std.proofs.lemmas.List.{get_or-set_other, length-set}
 use Rattle.std.proofs.lemmas.List.Elements.{All-push}
 use Rattle.dg_waves.specs.inner.Waves.{is_in}
-use Rattle.dg_waves.proofs.Waved.{is_in_push, is_in_last, pushed_at}
+use Rattle.dg_waves.proofs.Waved.{is_in_push, is_in_last}
+use Rattle.math_list.proofs.Places.{pushed_at}
 use Rattle.dg_rates.specs.inner.Links.{AreTied}
 use Rattle.fx_io.specs.Rows.{row_at, noted}
 

@@ -8,8 +8,8 @@ use Rattle.dg_model.specs.RootElements.{RootElement, root_element}
 use Rattle.dg_model.specs.Signals.{Attributes}
 use Rattle.dg_response.specs.Response.{column_of}
 use Rattle.dg_response.specs.inner.Columns.{column_at}
-use Rattle.fx_io.proofs.Places.{there_within}
-use Rattle.dg_response.proofs.Lists.{unmapped}
+use Rattle.math_list.proofs.Places.{there_within}
+use Rattle.math_list.proofs.Indices.{unmapped}
 use Rattle.dg_tables.specs.Listing.{AreBlocksOf}
 
 column-is : (attributes : Attributes) (e : RootElement) → e ≡ root_element attributes e.number e.block e.element → column_at attributes e.block ≡ column_of e

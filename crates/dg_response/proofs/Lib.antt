@@ -1,5 +1,4 @@
 pub mod Elements
-pub mod Lists
 pub mod Single
 pub mod Stepping
 pub mod Stimulated

@@ -1,5 +1,4 @@
--- What a table shows of the root outputs, and that there is one response. Crates above may cite this
--- file.
+-- What a table shows of the root outputs, and that there is one response.
 use Rattle.std.proofs.Common.{◌≡◌, ◌<◌, ◌≤◌, ℕ, ℤ, List, Some, slice_get, refl, sym, subst, ◌∙◌, arith}
 use Rattle.std.proofs.lemmas.Option.{none-some}
 use Rattle.fx_tables.specs.declared.table.Rows.{Rows}
@@ -16,7 +15,7 @@ use Rattle.dg_model.specs.Wired.{IsWired, root_output}
 use Rattle.dg_model.specs.Wires.{width_into}
 use Rattle.dg_tables.specs.Laws.{IsOrdered, TablesAreOne}
 use Rattle.dg_response.specs.Response.{IsResponse, shown, stimulus_of}
-use Rattle.dg_response.proofs.Lists.{same-map}
+use Rattle.math_list.proofs.Indices.{same-map}
 
 output-role : (diagram : Diagram) (attributes : Attributes) (outputs block port number : ℕ) (role : Role) → root_output role ≡ Some number
     → (ports_of_role role outputs ≡ 1) × (width_of_role diagram attributes role block port ≡ width_into diagram attributes block 1)

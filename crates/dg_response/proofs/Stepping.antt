@@ -16,8 +16,8 @@ use Rattle.dg_response.specs.declared.responding.Responding.{Responding}
 use Rattle.dg_response.specs.Laws.{SomeResponse}
 use Rattle.dg_response.specs.Responding.{IsBefore, IsRowAt, SolvesRows, row_of}
 use Rattle.dg_response.specs.Response.{column_of, input_columns, output_columns, number_in, stimulus_of, shown}
-use Rattle.fx_io.proofs.Places.{there_within}
-use Rattle.dg_response.proofs.Lists.{by-places, index-part}
+use Rattle.math_list.proofs.Places.{there_within}
+use Rattle.math_list.proofs.Indices.{by-places, index-part}
 use Rattle.dg_response.proofs.Stimulated.{are-columns}
 
 -- ---- rows of numbers are a stimulus, and have a response

@@ -1,9 +1,9 @@
--- Rows of numbers in range are a stimulus. Crates above may cite this file.
+-- Rows of numbers in range are a stimulus.
 use Rattle.std.proofs.Common.{◌≡◌, ◌<◌, ◌≤◌, ◌≤ℤ◌, ◌+◌, ◌*◌, ◌%◌, ◌==◌, ℕ, Bool, true, false, ◌&&◌, length, Option, None, Some, ℤ, int_le, refl, sym, ap, subst, ◌∙◌, arith}
 use Rattle.std.specs.Option.{unwrap_or}
 use Rattle.std.proofs.lemmas.List.{length-map}
 use Rattle.fx_type.specs.FxType.{lowest_of, highest_of}
-use Rattle.fx_type.proofs.Found.{Decides-int_le}
+use Rattle.math_list.proofs.Searches.{Decides-int_le}
 use Rattle.fx_tables.specs.declared.table.Rows.{Rows}
 use Rattle.fx_tables.specs.Stimulus.{FitsColumns, hits_at}
 use Rattle.dg_model.specs.declared.diagram.Diagram.{Diagram}
@@ -11,8 +11,8 @@ use Rattle.dg_model.specs.Attributes.{attributes_of}
 use Rattle.dg_model.specs.Hits.{Hits}
 use Rattle.dg_model.specs.RootElements.{AreColumns, root_inputs}
 use Rattle.dg_response.specs.Response.{column_of, input_columns, number_in}
-use Rattle.fx_io.proofs.Places.{there_within, there_map}
-use Rattle.dg_response.proofs.Lists.{index-there}
+use Rattle.math_list.proofs.Places.{there_within, there_map}
+use Rattle.math_list.proofs.Indices.{index-there}
 
 hit-is : (period : Option ℕ) (t : ℕ) → Hits period t → hits_at (unwrap_or period 1) t ≡ true
 hit-is None t hits = ap (λ (n : ℕ). (n % 1) == 0) hits

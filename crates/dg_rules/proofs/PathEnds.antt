@@ -8,8 +8,8 @@ use Rattle.dg_model.specs.declared.plan.Pipeline.{Pipeline}
 use Rattle.dg_model.specs.Joined.{joined}
 use Rattle.dg_rules.specs.inner.Ends.{HasEnds, HaveEnds, IsNoEnd, is_end}
 use Rattle.dg_rules.proofs.PlanLines.{found, has, within}
-use Rattle.fx_io.proofs.Places.{push_cases}
-use Rattle.fx_io.proofs.Tests.{bytes_same}
+use Rattle.math_list.proofs.Places.{push_cases}
+use Rattle.math_list.proofs.Tests.{bytes_same}
 
 -- ---- the ends of one path
 

@@ -14,7 +14,7 @@ use Rattle.dg_model.specs.PlanNames.{count_of}
 use Rattle.dg_model.specs.PlanRange.{AreDifferent}
 use Rattle.dg_rules.specs.inner.Lines.{AreNumbered, number_of}
 use Rattle.dg_rules.specs.inner.Standings.{count_in}
-use Rattle.fx_io.proofs.Tests.{bytes_same, unequal}
+use Rattle.math_list.proofs.Tests.{bytes_same, unequal}
 
 -- what holds of all holds of each
 each_of : {X : Type 0} (P : X → Type 0) (xs : List X) (k : ℕ) (x : X) → AllByRecursion P xs → slice_get xs k ≡ Some x → P x

@@ -1,4 +1,4 @@
--- A plan in range whose paths are found is one of the diagram. Crates above may cite this file.
+-- A plan in range whose paths are found is one of the diagram.
 use Rattle.std.proofs.Common.{◌≡◌, ℕ, zero, suc, ◌<◌, Bool, true, false, List, [], ◌∷◌, length, map, bytes_eq, refl, sym, ap, subst, ◌∙◌, arith}
 use Rattle.std.specs.Prelude.{◌≤◌, All, Some, slice_get, slice_index}
 use Rattle.std.specs.List.{AllByRecursion}
@@ -15,7 +15,7 @@ use Rattle.dg_model.specs.Attributes.{attributes_of}
 use Rattle.dg_model.specs.PlanNames.{IsFound, KeepsPlan, IsResolved, count_of}
 use Rattle.dg_model.specs.PlanOf.{IsPlanOf, StagesAreAllowed, stages_at}
 use Rattle.dg_model.specs.PlanRange.{IsPlanInRange, IsRegisterCount}
-use Rattle.fx_io.proofs.Places.{held}
+use Rattle.math_list.proofs.Places.{held}
 
 -- the plan of these lines
 abbrev with_lines : Plan → List Pipeline → Plan

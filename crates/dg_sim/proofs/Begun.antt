@@ -18,7 +18,7 @@ use Rattle.dg_sim.specs.Ring.{PastValues}
 use Rattle.dg_tables.specs.State.{kept_count, kept_hits}
 use Rattle.dg_sim.specs.Sim.{values_of, IsProgram, IsSimOf, Stands}
 use Rattle.dg_sim.specs.inner.Building.{AreRooms}
-use Rattle.fx_io.proofs.Places.{get_some, push_cases}
+use Rattle.math_list.proofs.Places.{get_some, push_cases}
 
 take_none : (n : ℕ) → let none : List ℤ = [] in take n none ≡ none
 take_none zero = refl

@@ -12,7 +12,7 @@ use Rattle.dg_model.specs.Equation.{Equation, KindEquation, ElementEquation, Sto
 use Rattle.dg_model.specs.Wires.{type_into, value_into}
 use Rattle.dg_tables.specs.declared.entries.Place.{Place}
 use Rattle.dg_sim.specs.inner.Building.{HandsOn, IsAlways, IsElementwise}
-use Rattle.dg_tables.proofs.Lists.{get_mapped}
+use Rattle.math_list.proofs.Numbers.{get_mapped}
 
 module _ (diagram : Diagram) (attributes : Attributes) (place : Place) (b : Block) (block_is : slice_get diagram.blocks place.block ≡ Some b) where
   pub of_kind : (kind : Kind) → b.kind ≡ kind → (stimulus : Stimulus) (table : Table) (t : ℕ) (v : ℤ) → KindEquation diagram attributes stimulus table kind b place.block place.port place.element t v

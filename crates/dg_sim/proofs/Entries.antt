@@ -12,7 +12,7 @@ use Rattle.dg_model.specs.declared.diagram.Diagram.{Diagram}
 use Rattle.dg_model.specs.Signals.{Attributes}
 use Rattle.dg_tables.specs.declared.entries.Place.{Place}
 use Rattle.dg_tables.specs.Entries.{IsEntry}
-use Rattle.fx_io.proofs.Places.{held}
+use Rattle.math_list.proofs.Places.{held}
 
 -- what is read at an entry's block is the block
 pub block_there : (diagram : Diagram) (attributes : Attributes) (place : Place) (list : List Block) (one : Block) → list ≡ diagram.blocks → IsEntry diagram attributes place → one ≡ get_or list place.block one → slice_get diagram.blocks place.block ≡ Some one

@@ -16,7 +16,7 @@ use Rattle.dg_tables.specs.Roots.{root_at, roots_of}
 use Rattle.dg_sim.specs.inner.Building.{IsMade, IsRule, IsFilled, AreShown}
 use Rattle.dg_tables.specs.Entries.{IsEntry}
 use Rattle.dg_sim.proofs.Grown.{rule_grows}
-use Rattle.fx_io.proofs.Places.{push_cases, get_some, there_map}
+use Rattle.math_list.proofs.Places.{push_cases, get_some, there_map}
 use Rattle.std.proofs.lemmas.List.{length-map}
 
 cell_is : (diagram : Diagram) (attributes : Attributes) (program : Program) (k : ℕ) (place : Place) (cell : Cell) → IsEntry diagram attributes place → cell.period ≡ attributes.period_at place.block → IsRule diagram attributes program k place cell.rule → IsCell diagram attributes program k place cell

@@ -14,7 +14,7 @@ use Rattle.dg_sim.specs.declared.program.Rule.TheVariants.{Input, Fixed, Same, W
 use Rattle.dg_sim.specs.Program.{part, operation_at, Gives, CanGive, IsWithin}
 use Rattle.dg_sim.specs.Sim.{Agrees}
 use Rattle.dg_sim.specs.inner.Building.{Grows, IsAlways, IsMade, IsRule}
-use Rattle.fx_io.proofs.Places.{get_left}
+use Rattle.math_list.proofs.Places.{get_left}
 use Rattle.dg_sim.proofs.Serving.{part_more, fixed_rule}
 
 pub grows_same : (program : Program) → Grows program program

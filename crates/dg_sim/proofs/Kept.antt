@@ -23,7 +23,7 @@ use Rattle.dg_tables.specs.Entries.{Reads}
 use Rattle.std.specs.Ordering.{int_eq}
 use Rattle.dg_sim.proofs.Swept.{hit_false}
 use Rattle.dg_sim.proofs.ByKind.{of_kind}
-use Rattle.fx_io.proofs.Places.{last_at, push_cases}
+use Rattle.math_list.proofs.Places.{last_at, push_cases}
 
 -- what is kept, or the initial value, is what the equation asks for
 pub kept_match : (o : Option ℤ) (initial v : ℤ) (P : ℤ → Type 0) → P initial → v ≡ unwrap_or o initial → MatchOption o (P v) (λ w. v ≡ w)

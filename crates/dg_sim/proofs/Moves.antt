@@ -7,7 +7,7 @@ use Rattle.dg_sim.specs.declared.program.Program.{Program}
 use Rattle.dg_sim.specs.Ring.{PastValues}
 use Rattle.dg_sim.specs.Program.{value_at, is_on, move_of}
 use Rattle.dg_sim.specs.Sim.{past_moved}
-use Rattle.dg_waves.proofs.Waved.{set_same}
+use Rattle.math_list.proofs.Places.{set_same}
 
 -- what a memory keeps after the sample
 abbrev pub after : Memory → ℕ → List ℤ → PastValues → PastValues

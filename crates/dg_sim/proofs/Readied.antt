@@ -10,7 +10,7 @@ use Rattle.dg_sim.specs.declared.program.Program.{Program}
 use Rattle.dg_sim.specs.Program.{CanGive}
 use Rattle.dg_sim.specs.Ready.{IsReadyFor, AreReady}
 use Rattle.dg_sim.specs.Sim.{IsProgram}
-use Rattle.fx_io.proofs.Places.{push_cases, get_some}
+use Rattle.math_list.proofs.Places.{push_cases, get_some}
 
 pub can_some : (diagram : Diagram) (attributes : Attributes) (program : Program) (k : ℕ) (cell : Cell) → IsProgram diagram attributes program → slice_get program.cells k ≡ Some cell → CanGive program (λ j. pos 0) cell.rule
 can_some diagram attributes program k cell is here =

@@ -1,8 +1,8 @@
 -- A push into a ring puts a value before what it keeps.
 use Rattle.std.proofs.Common.{◌≡◌, ℕ, zero, suc, ◌+◌, ◌-◌, ◌<◌, ◌≤◌, ◌⊎◌, inl, inr, Bool, cond, ℤ, pos, Some, None, slice_get, List, ◌∷◌, map, length, take, get_or, set, length-set, get_or-set_same, get_or-set_other, ap, ap₂, sym, ◌∙◌, refl, arith, lt-ltb, le-ltb, add-one}
 use Rattle.std.proofs.lemmas.Bool.{cases_lt}
-use Rattle.dg_waves.proofs.Waved.{mapped_at}
-use Rattle.dg_waves.specs.Rounds.{numbers_from}
+use Rattle.math_list.proofs.Numbers.{mapped_at}
+use Rattle.math_list.specs.Numbers.{numbers_from}
 use Rattle.dg_sim.specs.Ring.{place, ring_values}
 
 pub map_shifted : {A : Type 0} (f g : ℕ → A) (k m : ℕ) → ((p : ℕ) → p < k + m → f (suc p) ≡ g p) → map f (numbers_from (suc k) m) ≡ map g (numbers_from k m)

@@ -4,7 +4,7 @@ use Rattle.dg_model.specs.declared.diagram.Diagram.{Diagram}
 use Rattle.dg_model.specs.Signals.{Attributes, Stimulus, Table}
 use Rattle.fx_type.specs.declared.kind.FxType.TheVariants.{Num}
 use Rattle.fx_type.specs.FxType.{InRange}
-use Rattle.dg_waves.specs.Rounds.{numbers_from}
+use Rattle.math_list.specs.Numbers.{numbers_from}
 use Rattle.dg_model.specs.declared.diagram.Block.{Block}
 use Rattle.dg_model.specs.declared.op.Op.{Op}
 use Rattle.dg_model.specs.Operation.{Operation, OpGives, CanPrepare, CanCarryOut, type_of, value_of}
@@ -19,8 +19,8 @@ use Rattle.dg_tables.specs.Entries.{entry, IsEntry, Reads}
 use Rattle.dg_sim.specs.Program.{part, operation_at, looked_at}
 use Rattle.dg_sim.specs.Sim.{Agrees}
 use Rattle.dg_sim.specs.inner.Building.{IsRule, HandsOn, IsAlways, AreRead, IsElementwise}
-use Rattle.dg_tables.proofs.Lists.{get_mapped, length_mapped}
-use Rattle.fx_io.proofs.Places.{push_cases, get_some}
+use Rattle.math_list.proofs.Numbers.{get_mapped, length_mapped}
+use Rattle.math_list.proofs.Places.{push_cases, get_some}
 
 -- ---- parts of a list that grows
 pub part_more : {A : Type 0} (xs ys : List A) (first count : ℕ) → first + count ≤ length xs → part (xs ++ ys) first count ≡ part xs first count

@@ -1,6 +1,6 @@
 -- The elements that a Mux and a Demux read are there.
 use Rattle.std.proofs.Common.{◌≡◌, ℕ, suc, ◌+◌, ◌-◌, ◌^◌, ◌<◌, ◌≤◌, inr, List, Option, Some, None, MatchOption, slice_get, map, sum, ap, sym, ◌∙◌, subst, refl, arith}
-use Rattle.dg_waves.specs.Rounds.{numbers_from}
+use Rattle.math_list.specs.Numbers.{numbers_from}
 use Rattle.dg_model.specs.declared.diagram.Diagram.{Diagram}
 use Rattle.dg_model.specs.declared.diagram.Block.{Block}
 use Rattle.dg_model.specs.declared.diagram.Edge.{Edge}
@@ -17,7 +17,10 @@ use Rattle.dg_tables.specs.Finding.{IsRead}
 use Rattle.dg_tables.proofs.Drivers.{source_there}
 use Rattle.dg_sim.proofs.Entries.{ports_are}
 use Rattle.dg_tables.proofs.Fitting.{widths_fit}
-use Rattle.dg_tables.proofs.Lists.{below_repeated, find_holds, get_number, length_numbers, sum_before}
+use Rattle.dg_tables.proofs.Lists.{below_repeated}
+use Rattle.math_list.proofs.Numbers.{get_number, length_mapped}
+use Rattle.math_list.proofs.Searches.{find_holds}
+use Rattle.math_list.proofs.Sums.{sum_before}
 
 module _ (diagram : Diagram) (is : IsChecked diagram) (block : ℕ) where
   abbrev into : ℕ → ℕ
@@ -77,7 +80,7 @@ module _ (diagram : Diagram) (is : IsChecked diagram) (block : ℕ) where
   pub part_read : (inputs element signal k : ℕ) → IsPart (widths_into diagram (attributes_of diagram) block inputs) element signal k → IsRead diagram (attributes_of diagram) block (suc signal) k
   part_read inputs element signal k part =
       let f = width_into diagram (attributes_of diagram) block in
-      let signal_is : signal < inputs = subst (λ (n : ℕ). signal < n) (length_numbers f 1 inputs) part.signal_is in
+      let signal_is : signal < inputs = subst (λ (n : ℕ). signal < n) (length_mapped f 1 inputs) part.signal_is in
       let e : 1 + signal ≡ suc signal = omega arith in
       let within : k < f (suc signal) = subst (λ (n : ℕ). k < n) (get_number f 1 inputs signal signal_is ∙ ap f e) part.within in
       below_repeated (f (suc signal)) k (inr within)

@@ -13,7 +13,7 @@ use Rattle.dg_model.specs.Wires.{width_into}
 use Rattle.dg_tables.specs.declared.roots.Root.{Root}
 use Rattle.dg_tables.specs.Entries.{IsEntry, place_at}
 use Rattle.dg_tables.specs.Roots.{root_at, roots_of}
-use Rattle.fx_io.proofs.Places.{map_there}
+use Rattle.math_list.proofs.Places.{map_there}
 use Rattle.dg_model.specs.Solves.{shown_ports, shown_width, ports_of_role, width_of_role}
 
 -- a root output port shows what its input offers, at port 1

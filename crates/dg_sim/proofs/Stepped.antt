@@ -16,7 +16,7 @@ use Rattle.dg_tables.specs.Steps.{KeptMoves}
 use Rattle.dg_tables.specs.Entries.{entry}
 use Rattle.dg_sim.specs.Program.{value_at, is_on, move_of}
 use Rattle.dg_sim.specs.Sim.{values_of, kept_at, Agrees, IsSimOf, IsAt, IsStepped, Keep, Shows}
-use Rattle.fx_io.proofs.Places.{there_map}
+use Rattle.math_list.proofs.Places.{there_map}
 use Rattle.dg_sim.proofs.Moves.{after}
 
 module _ (checked : CheckedDiagram) (program : Program) (t : ℕ) (row later_row : List ℤ) (pasts later : List PastValues) (prepared : List Prepared)

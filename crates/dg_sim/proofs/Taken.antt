@@ -18,7 +18,7 @@ use Rattle.dg_tables.specs.declared.roots.Root.{Root}
 use Rattle.dg_sim.specs.inner.Building.{IsRule}
 use Rattle.dg_tables.specs.Roots.{root_at, roots_of}
 use Rattle.dg_sim.proofs.ByKind.{of_kind}
-use Rattle.fx_io.proofs.Places.{map_there, there_map}
+use Rattle.math_list.proofs.Places.{map_there, there_map}
 use Rattle.dg_sim.proofs.Entries.{ports_are}
 
 pub input_rule : (diagram : Diagram) (program : Program) (k : ℕ) (place : Place) (b : Block) → slice_get diagram.blocks place.block ≡ Some b → IsWired diagram → InputsAreListed

@@ -2,7 +2,7 @@
 use Rattle.std.proofs.Common.{◌≡◌, ℕ, ◌<◌, ◌+◌, ◌++◌, ◌||◌, Bool, ℤ, pos, int_lt, List, [], ◌∷◌, ◌⊎◌, inl, inr, length, map, Some, slice_get, ap, sym, ◌∙◌, subst, subst₂, refl, arith, append-nil, length-append}
 use Rattle.std.specs.List.{list_any}
 use Rattle.fx_type.specs.declared.kind.FxType.{FxType}
-use Rattle.dg_waves.specs.Rounds.{numbers_from}
+use Rattle.math_list.specs.Numbers.{numbers_from}
 use Rattle.dg_model.specs.declared.diagram.Diagram.{Diagram}
 use Rattle.dg_model.specs.declared.diagram.Block.{Block}
 use Rattle.dg_model.specs.declared.kind.Kind.TheVariants.{EnableTest}
@@ -16,7 +16,7 @@ use Rattle.dg_sim.specs.Program.{part}
 use Rattle.dg_sim.specs.inner.Building.{AreElements, IsMade}
 use Rattle.dg_tables.specs.Entries.{Reads}
 use Rattle.dg_sim.proofs.ByKind.{of_kind}
-use Rattle.fx_io.proofs.Places.{push_cases}
+use Rattle.math_list.proofs.Places.{push_cases}
 use Rattle.dg_sim.proofs.Serving.{values_same}
 use Rattle.dg_sim.proofs.Worked.{part_there, end_there}
 

@@ -15,7 +15,7 @@ use Rattle.dg_sim.specs.declared.program.Rule.TheVariants.{Works}
 use Rattle.dg_sim.specs.Program.{part, operation_at}
 use Rattle.dg_sim.specs.inner.Building.{AreRead, IsMade, IsElementwise}
 use Rattle.dg_tables.specs.Entries.{AreEntries}
-use Rattle.dg_tables.proofs.Lists.{length_mapped}
+use Rattle.math_list.proofs.Numbers.{length_mapped}
 use Rattle.dg_sim.proofs.Serving.{part_last, operation_of_block, work_rule}
 
 pub part_there : {A : Type 0} (old more all : List A) (first count : ℕ) → all ≡ old ++ more → first ≡ length old → count ≡ length more → part all first count ≡ more

@@ -1,6 +1,6 @@
 -- A ring of the latest values of a Delay (own).
 use Rattle.std.specs.Prelude.{ℕ, ◌+◌, ◌-◌, nat_lt, cond, ℤ, pos, List, map, length, slice_index_or}
-use Rattle.dg_waves.specs.Rounds.{numbers_from}
+use Rattle.math_list.specs.Numbers.{numbers_from}
 
 -- where a ring of n places has the value that is k older than the latest, which stands at `head`
 abbrev pub place : ℕ → ℕ → ℕ → ℕ

@@ -1,6 +1,6 @@
 //! The rules of a Mux and of a Demux: which element of an input they hand on.
 ghost use Rattle.std.specs.Prelude.{◌≡◌, ◌≤◌, ◌<◌, ◌-◌, ◌^◌, ◌⊎◌, ℕ, suc, map, sum, List, Some, slice_get};
-ghost use Rattle.dg_waves.specs.Rounds.{numbers_from};
+ghost use Rattle.math_list.specs.Numbers.{numbers_from};
 ghost use Rattle.dg_model.specs.Attributes.{attributes_of};
 ghost use Rattle.dg_model.specs.Signals.{Attributes};
 ghost use Rattle.dg_model.specs.declared.diagram.Diagram.{Diagram};

@@ -11,7 +11,7 @@ use Rattle.dg_sort.specs.Rows.{Reads}
 use Rattle.dg_sort.specs.inner.Back.{LeadsBack, IsOnCycle}
 use Rattle.dg_sort.specs.inner.Search.{on_cycle, IsJoined}
 use Rattle.dg_sort.specs.inner.State.{IsLooked, IsHeldFrom, IsLeft, IsRead, NoneBetween, BeginsAfter, floor_of, AreGroups, AreLooked}
-use Rattle.fx_io.proofs.Places.{get_left, get_take, get_taken, last_at, push_cases}
+use Rattle.math_list.proofs.Places.{get_left, get_take, get_taken, last_at, push_cases}
 use Rattle.dg_sort.proofs.Ways.{ways_join, way_reads, way_closes}
 use Rattle.dg_sort.proofs.Passing.{Popped, still_looked}
 use Rattle.dg_sort.proofs.Meeting.{floor_low}

@@ -1,4 +1,4 @@
--- What the edges of a wired diagram join, and its edges for latency one after another. Crates above may cite this file.
+-- What the edges of a wired diagram join, and its edges for latency one after another.
 use Rattle.std.proofs.Common.{◌≡◌, ℕ, suc, ◌+◌, ◌<◌, ◌≤◌, List, ◌∷◌, ◌++◌, length, map, drop, refl, ap, subst, ◌∙◌, arith}
 use Rattle.std.specs.Prelude.{slice_get, Some, None, Option, MatchOption}
 use Rattle.std.proofs.lemmas.List.{drop_more}

@@ -11,8 +11,7 @@ use Rattle.dg_sort.specs.Rows.{Reads}
 use Rattle.fx_io.specs.Rows.{row_at}
 use Rattle.dg_sort.specs.inner.Back.{LeadsBack, IsOnCycle}
 use Rattle.dg_sort.specs.inner.State.{IsLooked, IsPlaced, IsSettled, IsHeldFrom, IsLeft, IsRead, NoneBetween, BeginsAfter, floor_of, ArePlaced, AreGroups, AreLooked}
-use Rattle.dg_waves.proofs.Waved.{set_same, set_other}
-use Rattle.fx_io.proofs.Places.{get_left, get_right, get_cases, last_at, push_cases}
+use Rattle.math_list.proofs.Places.{set_same, set_other, get_left, get_right, get_cases, last_at, push_cases}
 use Rattle.dg_sort.proofs.Ways.{way_stays}
 use Rattle.dg_sort.proofs.Passing.{Popped}
 

@@ -29,7 +29,7 @@ use Rattle.dg_sort.specs.inner.Rows.{is_read_now, is_line_instant}
 use Rattle.fx_io.specs.Rows.{noted}
 use Rattle.dg_model.proofs.Ports.{joins}
 use Rattle.dg_sort.proofs.Lines.{from_there, to_there, lines_from, control_there, controls_from}
-use Rattle.fx_io.proofs.Places.{get_left, get_right, push_cases, last_at}
+use Rattle.math_list.proofs.Places.{get_left, get_right, push_cases, last_at}
 
 -- ---- a source put at the end of a row
 

@@ -7,7 +7,7 @@ use Rattle.std.proofs.lemmas.Option.{none-some, same_Some, slice_get_within}
 use Rattle.dg_sort.specs.declared.search.Mark.{Mark}
 use Rattle.dg_sort.specs.declared.search.Group.{Group}
 use Rattle.dg_sort.specs.inner.State.{IsLooked, IsPlaced, IsHeldFrom, floor_of, AreGroups, AreLooked}
-use Rattle.fx_io.proofs.Places.{get_left, push_cases}
+use Rattle.math_list.proofs.Places.{get_left, push_cases}
 
 -- one source is taken off what is left to be looked at, or none is
 pub record Popped (groups : List Group) (edges front : List ℕ) (source : ℕ) : Type 0 where

@@ -11,8 +11,7 @@ use Rattle.dg_sort.specs.Rows.{Reads}
 use Rattle.dg_sort.specs.inner.Back.{IsOnCycle}
 use Rattle.dg_sort.specs.inner.Search.{placed_marks, least_of, lowered}
 use Rattle.dg_sort.specs.inner.State.{IsBelow, IsLooked, IsPlaced, IsPlacedAt, IsSettled, IsHeldFrom, IsLeft, IsRead, NoneBetween, BeginsAfter, floor_of, ArePlaced, AreGroups, AreLooked}
-use Rattle.dg_waves.proofs.Waved.{set_same, set_other}
-use Rattle.fx_io.proofs.Places.{get_left, get_right, get_cases, get_take, get_taken, get_drop}
+use Rattle.math_list.proofs.Places.{set_same, set_other, get_left, get_right, get_cases, get_take, get_taken, get_drop}
 use Rattle.dg_sort.proofs.Passing.{last_highest}
 
 -- ---- marks

@@ -12,7 +12,7 @@ use Rattle.fx_io.specs.Rows.{row_at}
 use Rattle.dg_sort.specs.inner.Back.{LeadsBack}
 use Rattle.dg_sort.specs.inner.Search.{Walk, begun, met, placed, placed_marks, CanJoin, IsJoined, KeepsAllButGroups, on_cycle}
 use Rattle.dg_sort.specs.inner.State.{AreGroups, IsState, IsStep, IsSearched, unmet_weight}
-use Rattle.dg_waves.proofs.Waved.{set_same}
+use Rattle.math_list.proofs.Places.{set_same}
 use Rattle.dg_sort.proofs.Ways.{ways_join, way_reads}
 use Rattle.dg_sort.proofs.Passing.{Popped, none_popped, one_popped, last_highest, passed_groups, passed_looked}
 use Rattle.dg_sort.proofs.Meeting.{met_places, met_groups, met_reads}

@@ -9,8 +9,8 @@ use Rattle.dg_sort.specs.Rows.{Reads, AreKnown}
 use Rattle.fx_io.specs.Rows.{row_at}
 use Rattle.dg_sort.specs.inner.Back.{LeadsBackIn, IsOnCycle}
 use Rattle.dg_sort.specs.inner.Cycle.{IsReadBy, IsMet, met_count, AreSteps, IsPassed, AreClosed, IsFoundAt, IsLooking, IsReadCycle, IsWalked}
-use Rattle.dg_waves.proofs.Waved.{set_same, set_other, still_marked}
-use Rattle.fx_io.proofs.Places.{get_left, last_at, push_cases}
+use Rattle.dg_waves.proofs.Waved.{still_marked}
+use Rattle.math_list.proofs.Places.{set_same, set_other, get_left, last_at, push_cases}
 
 -- ---- marks
 

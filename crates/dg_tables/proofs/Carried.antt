@@ -13,13 +13,15 @@ use Rattle.dg_model.specs.Readable.{HasPorts}
 use Rattle.dg_model.specs.Hits.{hits_before, is_enabled_at, counted_hits, is_slow_to_fast}
 use Rattle.dg_model.specs.Operation.{OpGives, stored_truth}
 use Rattle.dg_model.specs.Solves.{IsShown, shown_ports, shown_width, AgreeAt}
-use Rattle.dg_waves.specs.Rounds.{numbers_from}
+use Rattle.math_list.specs.Numbers.{numbers_from}
 use Rattle.dg_model.specs.Wires.{width_into, type_into, types_into, value_into, period_into}
 use Rattle.dg_model.specs.Equation.{StoresEntry, IsOpOf, signs_of, is_enabled, IsInputAt, ElementEquation, DelayEquation, MuxEquation, DemuxEquation, RateEquation, EnableEquation, EnOutEquation, KindEquation}
 use Rattle.dg_model.specs.Instant.{reads_now, asks_now}
 use Rattle.dg_tables.proofs.Ground.{IsRanked, HasWidths}
-use Rattle.fx_io.proofs.Places.{held}
-use Rattle.dg_tables.proofs.Lists.{any_same, get_number, length_numbers, sum_before, hits_all, second_hit, filter_same, since_same, counted_below, below_repeated}
+use Rattle.math_list.proofs.Places.{held}
+use Rattle.dg_tables.proofs.Lists.{hits_all, second_hit, filter_same, since_same, counted_below, below_repeated}
+use Rattle.math_list.proofs.Numbers.{any_same, get_number, length_mapped}
+use Rattle.math_list.proofs.Sums.{sum_before}
 use Rattle.dg_tables.proofs.Sources.{IsRead, SourceAgrees, same_into, same_values, control_shown, is_readable}
 
 module _ (diagram : Diagram) (attributes : Attributes) (rank : ℕ → ℕ) (checked : IsRanked diagram attributes rank) (stimulus : Stimulus) (table other : Table)
@@ -91,7 +93,7 @@ module _ (diagram : Diagram) (attributes : Attributes) (rank : ℕ → ℕ) (che
     mux_same element v now h = (h.0, h.1, h.2, h.3 ∙ same_into diagram attributes checked.wired table other block (suc h.0) h.1 t (now (suc h.0)) (below_repeated (width_into diagram attributes block (suc h.0)) h.1 (inr within)))
       where
         signal_is : h.0 < b.inputs
-        signal_is = subst (λ (n : ℕ). h.0 < n) (length_numbers (width_into diagram attributes block) 1 b.inputs) h.2.signal_is
+        signal_is = subst (λ (n : ℕ). h.0 < n) (length_mapped (width_into diagram attributes block) 1 b.inputs) h.2.signal_is
 
         within : h.1 < width_into diagram attributes block (suc h.0)
         within =

@@ -1,4 +1,4 @@
--- The line that stands in the list is the one into its port. Crates above may cite this file.
+-- The line that stands in the list is the one into its port.
 use Rattle.std.proofs.Common.{◌≡◌, ℕ, zero, suc, ◌<◌, ◌≤◌, ◌+◌, ◌-◌, ◌&&◌, Bool, true, false, List, [], ◌∷◌, length, count_by, find, Option, Some, None, slice_get, slice_index_or, MatchOption, cond, ap, sym, ◌∙◌, refl, arith, eq-eqb, ◌==◌}
 use Rattle.std.proofs.lemmas.Option.{none-some, same_Some, slice_get_within}
 use Rattle.std.proofs.lemmas.List.Sums.{sum_by-cons}
@@ -9,8 +9,8 @@ use Rattle.dg_model.specs.Checked.{IsChecked}
 use Rattle.dg_model.specs.Widths.{widths_of}
 use Rattle.dg_model.specs.Wires.{driver_of, enters}
 use Rattle.dg_model.specs.Wired.{IsWired, Joins}
-use Rattle.fx_io.proofs.Places.{held}
-use Rattle.dg_tables.proofs.Lists.{find_holds}
+use Rattle.math_list.proofs.Places.{held}
+use Rattle.math_list.proofs.Searches.{find_holds}
 use Rattle.dg_tables.proofs.Fitting.{outputs_there}
 
 abbrev pub unit_if : Bool → ℕ

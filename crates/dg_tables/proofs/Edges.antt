@@ -1,15 +1,14 @@
--- The edges into a block by its ports. Crates above may cite this file.
+-- The edges into a block by its ports.
 use Rattle.std.proofs.Common.{◌≡◌, ℕ, suc, ◌+◌, ◌<◌, List, length, map, slice_get, Option, Some, ap, sym, ◌∙◌, arith}
-use Rattle.dg_waves.specs.Rounds.{numbers_from}
-use Rattle.dg_waves.proofs.Waved.{mapped_at}
+use Rattle.math_list.specs.Numbers.{numbers_from}
+use Rattle.math_list.proofs.Numbers.{mapped_at, length_mapped}
 use Rattle.dg_model.specs.declared.diagram.Diagram.{Diagram}
 use Rattle.dg_model.specs.declared.diagram.Block.{Block}
 use Rattle.dg_model.specs.declared.diagram.Edge.{Edge}
 use Rattle.dg_model.specs.Wires.{driver_of, edges_into, at_source}
 use Rattle.dg_model.specs.Wired.{IsWired}
 use Rattle.dg_model.proofs.Ports.{drivers_are_edges}
-use Rattle.dg_tables.proofs.Lists.{length_mapped}
-use Rattle.fx_io.proofs.Places.{map_there}
+use Rattle.math_list.proofs.Places.{map_there}
 use Rattle.std.proofs.lemmas.List.{length-map}
 
 module _ (diagram : Diagram) (wired : IsWired diagram) (block : ℕ) (b : Block) (block_is : slice_get diagram.blocks block ≡ Some b) where

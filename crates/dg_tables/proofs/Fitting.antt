@@ -1,10 +1,11 @@
--- The rule of dimensions gives each block widths and lists that fit. Crates above may cite this file.
+-- The rule of dimensions gives each block widths and lists that fit.
 use Rattle.std.proofs.Common.{◌≡◌, ℕ, suc, ◌+◌, ◌-◌, ◌<◌, ◌≤◌, ◌⊎◌, inl, inr, min, Bool, true, false, if◌then◌else◌, List, [], ◌∷◌, length, map, sum, All, slice_get, slice_index_or, Option, Some, ap, sym, ◌∙◌, subst, refl, arith}
 use Rattle.std.proofs.Math.Nat.{min-eq_left, min-eq_right}
 use Rattle.std.proofs.lemmas.Bool.{cases_lt}
 use Rattle.std.proofs.lemmas.Option.{get_or_from_slice_get, slice_get-get_or}
-use Rattle.dg_waves.specs.Rounds.{numbers_from}
-use Rattle.dg_waves.proofs.Waved.{same_places, mapped_at}
+use Rattle.math_list.specs.Numbers.{numbers_from}
+use Rattle.math_list.proofs.Numbers.{mapped_at, length_mapped}
+use Rattle.math_list.proofs.Places.{same_places, held, there_map}
 use Rattle.dg_model.specs.declared.diagram.Diagram.{Diagram}
 use Rattle.dg_model.specs.declared.diagram.Block.{Block}
 use Rattle.dg_model.specs.declared.diagram.Edge.{Edge}
@@ -20,8 +21,6 @@ use Rattle.dg_model.specs.Wires.{width_into, widths_into, edges_into}
 use Rattle.dg_model.specs.Wired.{IsWired}
 use Rattle.dg_model.proofs.Ports.{inputs_are_sources}
 use Rattle.dg_tables.proofs.Ground.{HasWidths, HasLists}
-use Rattle.fx_io.proofs.Places.{held, there_map}
-use Rattle.dg_tables.proofs.Lists.{length_mapped}
 use Rattle.dg_tables.proofs.Edges.{edges_length, edge_at, source_at}
 use Rattle.std.proofs.lemmas.List.{length-map}
 

@@ -1,4 +1,4 @@
--- The equation of a block gives a number, and it is in range. Crates above may cite this file.
+-- The equation of a block gives a number, and it is in range.
 use Rattle.std.proofs.Common.{◌≡◌, ℕ, suc, ◌+◌, ◌-◌, ◌<◌, ◌≤◌, ◌⊎◌, inl, inr, Bool, true, false, not, MatchBool, List, [], ◌∷◌, map, sum, length, filter, slice_get, Option, Some, None, MatchOption, ℤ, pos, int_lt, All, ap, sym, ◌∙◌, subst, subst₂, refl, arith, eq-or-lt_of_le, le_of_suc-le-suc}
 use Rattle.std.specs.List.{list_any}
 use Rattle.std.proofs.lemmas.Int.{ints}
@@ -22,7 +22,7 @@ use Rattle.dg_model.specs.Readable.{HasPorts}
 use Rattle.dg_model.specs.Hits.{hits_before, counted_hits, is_slow_to_fast}
 use Rattle.dg_model.specs.Operation.{AreInRange, stored_truth, type_of, value_of}
 use Rattle.dg_model.specs.Solves.{IsShown, shown_ports, shown_width}
-use Rattle.dg_waves.specs.Rounds.{numbers_from}
+use Rattle.math_list.specs.Numbers.{numbers_from}
 use Rattle.dg_model.specs.Wires.{driver_of, at_source, repeated, width_into, widths_into, type_into, types_into, value_into, values_into, period_into}
 use Rattle.dg_model.specs.Equation.{accumulator, StoresEntry, IsOpOf, IsPart, is_enabled, IsInputAt, ElementEquation, MuxEquation, RateEquation, EnableEquation, EnOutEquation, KindEquation}
 use Rattle.fx_round.specs.Laws.{StoringGivesOne}
@@ -30,8 +30,10 @@ use Rattle.dg_blocks.specs.Laws.{OperationGivesOne}
 use Rattle.dg_model.specs.Instant.{reads_now}
 use Rattle.dg_model.specs.Dimension.{IsRepeated}
 use Rattle.dg_tables.proofs.Ground.{IsRanked, IsRunnable, HasLists, KeepsType, HasWidths, operation_at}
-use Rattle.fx_io.proofs.Places.{held, get_some}
-use Rattle.dg_tables.proofs.Lists.{get_mapped, length_mapped, get_number, length_numbers, sum_before, part_some, hits_all, second_hit, counted_below, below_repeated}
+use Rattle.math_list.proofs.Places.{held, get_some}
+use Rattle.dg_tables.proofs.Lists.{part_some, hits_all, second_hit, counted_below, below_repeated}
+use Rattle.math_list.proofs.Numbers.{get_mapped, length_mapped, get_number, length_mapped as length_numbers}
+use Rattle.math_list.proofs.Sums.{sum_before}
 use Rattle.dg_tables.proofs.Sources.{IsRead, source_shown, is_readable, type_into_valid, elements_read}
 use Rattle.dg_blocks.proofs.Exactly.{truth_range}
 

@@ -1,4 +1,4 @@
--- What the rules of a model give the laws: widths and types that fit, and a rank of each block above those that it reads at once (own). Crates above may cite this file.
+-- What the rules of a model give the laws: widths and types that fit, and a rank of each block above those that it reads at once (own).
 pub use Rattle.dg_tables.specs.Fit.{AreRepeated, FitShape, HasWidths, HasLists, KeepsType}
 use Rattle.std.specs.Prelude.{◌≡◌, ℕ, ◌≤◌, ◌<◌, true, Some, slice_get}
 use Rattle.fx_type.specs.FxType.{IsType}

@@ -1,4 +1,4 @@
--- A diagram that keeps the rules, with an order of its blocks, is ranked and runnable. Crates above may cite this file.
+-- A diagram that keeps the rules, with an order of its blocks, is ranked and runnable.
 use Rattle.std.proofs.Common.{ℕ, ℤ, length, List, arith, le_trans}
 use Rattle.std.proofs.lemmas.Option.{MatchOption-at_some}
 use Rattle.dg_model.specs.declared.diagram.Block.{Block}

@@ -2,7 +2,8 @@
 use Rattle.std.proofs.Common.{◌≡◌, ℕ, zero, suc, ◌<◌, ◌≤◌, ◌⊎◌, inl, inr, List, [], ◌∷◌, length, slice_get, Option, Some, None, ap, ap₂, sym, ◌∙◌, subst, refl, arith}
 use Rattle.std.proofs.lemmas.Option.{none-some, same_Some, slice_get_within, get_or_from_slice_get}
 use Rattle.dg_waves.specs.Rounds.{round, after_rounds}
-use Rattle.dg_waves.proofs.Waved.{same_places, length_round, round_at, length_after}
+use Rattle.dg_waves.proofs.Waved.{length_round, round_at, length_after}
+use Rattle.math_list.proofs.Places.{same_places}
 use Rattle.dg_model.specs.Periods.{known_or, known_at}
 
 -- what is known stands there

@@ -19,7 +19,7 @@ use Rattle.dg_model.specs.TypeRounds.{Types, explicit_type, input_types, type_of
 use Rattle.dg_model.specs.Attributes.{or_logical}
 use Rattle.dg_model.specs.Wires.{edges_into}
 use Rattle.dg_model.specs.Wired.{IsWired}
-use Rattle.fx_io.proofs.Places.{held, map_there}
+use Rattle.math_list.proofs.Places.{held, map_there}
 use Rattle.dg_tables.proofs.Growing.{Grows, known_there, there_known, round_grows, round_known, settled, taken_known}
 use Rattle.dg_tables.proofs.TypeRules.{AreValid, taken_more, taken_valid}
 use Rattle.std.proofs.lemmas.List.{length-map}

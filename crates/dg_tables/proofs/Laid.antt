@@ -1,10 +1,10 @@
--- How entries are laid out, one block behind another. Crates above may cite this file.
+-- How entries are laid out, one block behind another.
 use Rattle.std.proofs.Common.{◌≡◌, ℕ, zero, suc, ◌+◌, ◌-◌, ◌^◌, ◌<◌, ◌≤◌, ◌⊎◌, ◌++◌, inl, inr, List, [], ◌∷◌, length, map, Some, slice_get, length-append, length-set, get_or-set_other, get_or-set_same, ap, ap₂, sym, ◌∙◌, subst, subst₂, refl, arith, le_refl}
 use Rattle.std.specs.Prelude.{slice_set, slice_index_or}
 use Rattle.std.proofs.lemmas.Bool.{cases_lt}
 use Rattle.std.proofs.lemmas.Option.{none-some, same_Some, slice_get_within, slice_get-get_or, get_or_from_slice_get}
-use Rattle.dg_waves.specs.Rounds.{numbers_from}
-use Rattle.dg_waves.proofs.Waved.{mapped_at}
+use Rattle.math_list.specs.Numbers.{numbers_from}
+use Rattle.math_list.proofs.Numbers.{mapped_at, length_mapped}
 use Rattle.dg_model.specs.declared.diagram.Diagram.{Diagram}
 use Rattle.dg_model.specs.declared.diagram.Block.{Block}
 use Rattle.dg_model.specs.Attributes.{attributes_of}
@@ -17,8 +17,7 @@ use Rattle.dg_tables.specs.declared.reading.Starts.{Starts}
 use Rattle.dg_tables.specs.Entries.{IsEntry, AreEntries, place_at}
 use Rattle.dg_tables.specs.Finding.{AreLines, IsNumbered, Finds}
 use Rattle.dg_tables.specs.inner.Laying.{ArePut, AreLaid}
-use Rattle.dg_tables.proofs.Lists.{length_mapped}
-use Rattle.fx_io.proofs.Places.{get_left, get_some}
+use Rattle.math_list.proofs.Places.{get_left, get_some}
 
 -- ---- one list behind another
 behind : {A : Type 0} (xs ys : List A) (i : ℕ) (y : A) → slice_get ys i ≡ Some y → slice_get (xs ++ ys) (length xs + i) ≡ Some y

@@ -11,7 +11,7 @@ use Rattle.dg_model.specs.Wired.{IsWired, Joins, StandsBefore}
 use Rattle.dg_tables.specs.Finding.{AreLines}
 use Rattle.dg_tables.specs.inner.Laying.{AreLinesTo, line_put}
 use Rattle.dg_tables.proofs.Drivers.{unit_if, count_by-cons, some_counted, driver_is}
-use Rattle.fx_io.proofs.Places.{held, get_some}
+use Rattle.math_list.proofs.Places.{held, get_some}
 use Rattle.dg_tables.proofs.Ranks.{found_at}
 
 -- ---- one that is counted once

@@ -1,63 +1,17 @@
--- Lists of numbers, hits, and what a search finds. Crates above may cite this file.
-use Rattle.std.proofs.Common.{◌≡◌, ℕ, zero, suc, add-one, ◌+◌, ◌++◌, ◌-◌, ◌%◌, ◌<◌, ◌≤◌, ◌⊎◌, ◌||◌, cond, Bool, true, false, List, [], ◌∷◌, length, map, take, sum, filter, find, slice_get, slice_index, get_or, All, Option, Some, None, if◌then◌else◌, ◌==◌, inl, inr, ap, ap₂, sym, ◌∙◌, subst, refl, append_assoc, arith, le_refl, lit<}
+-- Lists of numbers, hits, and what a search finds.
+use Rattle.std.proofs.Common.{◌≡◌, ℕ, zero, suc, ◌+◌, ◌-◌, ◌%◌, ◌<◌, ◌≤◌, ◌⊎◌, cond, Bool, true, false, List, [], ◌∷◌, map, take, sum, filter, slice_get, slice_index, All, Option, Some, None, if◌then◌else◌, ◌==◌, inl, inr, ap, ap₂, sym, ◌∙◌, subst, refl, arith, lit<}
 use Rattle.std.proofs.Math.Nat.{mod-le}
-use Rattle.std.specs.List.{list_any}
-use Rattle.std.proofs.lemmas.List.Elements.{All-nil, All-cons, All-head, All-tail, All-weaker, All-filter}
+use Rattle.std.proofs.lemmas.List.Elements.{All-nil, All-cons, All-weaker, All-filter}
 use Rattle.std.proofs.lemmas.Bool.{cases_lt}
-use Rattle.std.proofs.lemmas.Option.{none-some, same_Some}
+use Rattle.std.proofs.lemmas.Option.{none-some}
 use Rattle.dg_model.specs.Signals.{Table}
 use Rattle.dg_model.specs.Hits.{Hits, is_hit, last_hit, hits_before, is_enabled_at, hits_since_enabled, counted_hits}
-use Rattle.dg_waves.specs.Rounds.{numbers_from}
+use Rattle.math_list.specs.Numbers.{numbers_from}
 use Rattle.dg_model.specs.Wires.{repeated}
 use Rattle.dg_model.specs.Equation.{IsPart}
-use Rattle.fx_io.proofs.Places.{held, sum-cons}
-use Rattle.std.proofs.lemmas.List.Sums.{sum_by-append, sum_by-cons}
-use Rattle.dg_waves.proofs.Waved.{numbers_suc, take_numbers}
-
--- ---- what is found or read has what all have
-pub find_holds : {X : Type 0} (P : X → Type 0) (test : X → Bool) (xs : List X) (x : X) → All P xs → find test xs ≡ Some x → P x
-find_holds P test [] x all e = absurd (none-some x e)
-find_holds {X} P test (y ∷ ys) x all e = go (test y) (find_holds P test ys x (All-tail P y ys all)) e
-  where
-    go : (b : Bool) → (find test ys ≡ Some x → P x) → cond b (Some y) (find test ys) ≡ Some x → P x
-    go true rest e = subst P (same_Some y x e) (All-head P y ys all)
-    go false rest e = rest e
-
--- ---- lists over numbers
-pub map_same : {A : Type 0} (f g : ℕ → A) (k n : ℕ) → ((p : ℕ) → k ≤ p → p < k + n → f p ≡ g p) → map f (numbers_from k n) ≡ map g (numbers_from k n)
-map_same f g k zero h = refl
-map_same f g k (suc n) h = ap₂ (λ x xs. x ∷ xs) (h k (le_refl k) (omega arith)) (map_same f g (suc k) n (λ p l m. h p (omega arith) (omega arith)))
-
-pub any_same : (f g : ℕ → Bool) (k n : ℕ) → ((p : ℕ) → k ≤ p → p < k + n → f p ≡ g p) → list_any f (numbers_from k n) ≡ list_any g (numbers_from k n)
-any_same f g k zero h = refl
-any_same f g k (suc n) h = ap₂ (λ x y. x || y) (h k (le_refl k) (omega arith)) (any_same f g (suc k) n (λ p l m. h p (omega arith) (omega arith)))
-
-pub get_number : (f : ℕ → ℕ) (k n i : ℕ) → i < n → slice_index (map f (numbers_from k n)) i ≡ f (k + i)
-get_number f k zero i h = absurd (omega (arith, h))
-get_number f k (suc n) zero h = ap f (omega arith)
-get_number f k (suc n) (suc i) h = get_number f (suc k) n i (omega arith) ∙ ap f (omega arith)
-
-pub length_numbers : (f : ℕ → ℕ) (k n : ℕ) → length (map f (numbers_from k n)) ≡ n
-length_numbers f k zero = refl
-length_numbers f k (suc n) = ap suc (length_numbers f (suc k) n)
-
--- the numbers before one of them, with it, have no greater sum than all
-pub sum_before : (f : ℕ → ℕ) (k n i : ℕ) → i < n → sum (map f (numbers_from k i)) + f (k + i) ≤ sum (map f (numbers_from k n))
-sum_before f k zero i h = absurd (omega (arith, h))
-sum_before f k (suc n) zero h = let e : f (k + 0) ≡ f k = ap f (omega arith) in omega (arith, sum-cons (f k) (map f (numbers_from (suc k) n)), e)
-sum_before f k (suc n) (suc i) h =
-    let e : f (k + suc i) ≡ f (suc k + i) = ap f (omega arith) in
-    omega (arith, e, sum-cons (f k) (map f (numbers_from (suc k) n)), sum-cons (f k) (map f (numbers_from (suc k) i)), sum_before f (suc k) n i (omega arith))
-
--- ---- parts of signals end to end
-pub parts_one : (widths : List ℕ) (i j k l : ℕ) → i < length widths → j < length widths → k < slice_index widths i → l < slice_index widths j → sum (take i widths) + k ≡ sum (take j widths) + l → (i ≡ j) × (k ≡ l)
-parts_one [] i j k l p q r s e = absurd (omega (arith, p))
-parts_one (w ∷ ws) zero zero k l p q r s e = (refl, omega (arith, e))
-parts_one (w ∷ ws) zero (suc j) k l p q r s e = absurd (omega (arith, e, r, sum-cons w (take j ws)))
-parts_one (w ∷ ws) (suc i) zero k l p q r s e = absurd (omega (arith, e, s, sum-cons w (take i ws)))
-parts_one (w ∷ ws) (suc i) (suc j) k l p q r s e =
-    let h = parts_one ws i j k l (omega arith) (omega arith) r s (omega (arith, e, sum-cons w (take i ws), sum-cons w (take j ws))) in
-    (ap suc h.0, h.1)
+use Rattle.math_list.proofs.Places.{held, sum-cons}
+use Rattle.math_list.proofs.Numbers.{take_numbers}
+use Rattle.math_list.proofs.Numbers.{get_number, length_mapped as length_numbers}
 
 -- ---- hits
 is_zero : (n : ℕ) → (n ≡ 0) ⊎ ¬ (n ≡ 0)
@@ -144,15 +98,6 @@ below_repeated width element (inr h) = go (width == 1) refl
     go true e = omega (arith, h)
     go false e = h
 
-pub get_mapped : {A : Type 0} (f : ℕ → A) (d : A) (k n i : ℕ) → i < n → get_or (map f (numbers_from k n)) i d ≡ f (k + i)
-get_mapped f d k zero i h = absurd (omega (arith, h))
-get_mapped f d k (suc n) zero h = ap f (omega arith)
-get_mapped f d k (suc n) (suc i) h = get_mapped f d (suc k) n i (omega arith) ∙ ap f (omega arith)
-
-pub length_mapped : {A : Type 0} (f : ℕ → A) (k n : ℕ) → length (map f (numbers_from k n)) ≡ n
-length_mapped f k zero = refl
-length_mapped f k (suc n) = ap suc (length_mapped f (suc k) n)
-
 -- an element of the sum of all widths is an element of one
 pub part_some : (widths : List ℕ) (element : ℕ) → element < sum widths → (signal : ℕ) × (k : ℕ) × IsPart widths element signal k
 part_some [] element h = absurd (omega (arith, h))
@@ -163,25 +108,6 @@ part_some (w ∷ ws) element h = go (cases_lt element w) (λ l. part_some ws (el
     go (inr g) rest =
         let r = rest (omega (arith, h, g, sum-cons w ws)) in
         (suc r.0, r.1, record { signal_is = omega (arith, r.2.signal_is); within = r.2.within; place = omega (arith, g, r.2.place, sum-cons w (take r.0 ws)) })
-
-pub map_end_zero : {A : Type 0} (f : ℕ → A) (n : ℕ) → map f (numbers_from 0 (suc n)) ≡ map f (numbers_from 0 n) ++ f n ∷ []
-map_end_zero f n = let e : 0 + n ≡ n = omega arith in numbers_suc f 0 n ∙ ap (λ (m : ℕ). map f (numbers_from 0 n) ++ f m ∷ []) e
-
--- a list that had f of the first numbers pushed has one more pushed
-pub one_pushed : {X : Type 0} (f : ℕ → X) (n : ℕ) (before old new : List X) → old ≡ before ++ map f (numbers_from 0 n) → new ≡ old ++ f n ∷ [] → new ≡ before ++ map f (numbers_from 0 (n + 1))
-one_pushed {X} f n before old new is pushed =
-    rw add-one (pushed ∙ ap (λ (xs : List X). xs ++ f n ∷ []) is ∙ append_assoc before (map f (numbers_from 0 n)) (f n ∷ []) ∙ ap (λ (xs : List X). before ++ xs) (sym (map_end_zero f n)))
-
-pub map_last : {A : Type 0} (f : ℕ → A) (n : ℕ) → map f (numbers_from 1 (n + 1)) ≡ map f (numbers_from 1 n) ++ f (n + 1) ∷ []
-map_last f n = rw add-one (numbers_suc f 1 n ∙ (let e : 1 + n ≡ suc n = omega arith in ap (λ (m : ℕ). map f (numbers_from 1 n) ++ f m ∷ []) e))
-
--- one number more
-pub sum_last : (f : ℕ → ℕ) (n : ℕ) → sum (map f (numbers_from 1 (n + 1))) ≡ sum (map f (numbers_from 1 n)) + f (n + 1)
-sum_last f n =
-    let e = ap (λ (xs : List ℕ). sum xs) (map_last f n) in
-    let split = sum_by-append (λ x. x) (map f (numbers_from 1 n)) (f (n + 1) ∷ []) in
-    let one = sum_by-cons (λ x. x) (f (n + 1)) [] in
-    omega (arith, e, split, one)
 
 -- the signal in which the elements before end has the element
 pub part_here : (f : ℕ → ℕ) (inputs signal left width element : ℕ) → signal < inputs → width ≡ f (signal + 1) → left < width → element ≡ sum (map f (numbers_from 1 signal)) + left

@@ -9,7 +9,7 @@ use Rattle.std.proofs.lemmas.List.Kept.{AllPairs-cons}
 use Rattle.std.proofs.lemmas.Map.Made.{IsDistinct-from_AllPairs}
 use Rattle.std.proofs.lemmas.Map.Steps.{length-le_from_distinct_below}
 use Rattle.std.proofs.lemmas.Option.{none-some, same_Some, get_or_from_slice_get, slice_get_within}
-use Rattle.dg_waves.proofs.Waved.{set_same, set_other}
+use Rattle.math_list.proofs.Places.{set_same, set_other, held}
 use Rattle.dg_model.specs.declared.diagram.Block.{Block}
 use Rattle.dg_model.specs.declared.diagram.Diagram.{Diagram}
 use Rattle.dg_model.specs.declared.row.Role.{Role}
@@ -18,7 +18,6 @@ use Rattle.dg_model.specs.RootElements.{has_number, number_in}
 use Rattle.dg_tables.specs.declared.roots.Side.{Side}
 use Rattle.dg_tables.specs.declared.roots.Side.TheVariants.{Inputs, Outputs}
 use Rattle.dg_tables.specs.inner.Ports.{ArePortsTo, IsNumberOf, IsPortNumber, port_put, root_on}
-use Rattle.fx_io.proofs.Places.{held}
 use Rattle.dg_model.proofs.Roots.{IsIn, apart, first_is, in_filter_map, in_later}
 
 -- ---- the root ports of a side have the numbers from 1 to their count

@@ -1,4 +1,4 @@
--- A rank from an order of the blocks: the place of a block in it. Crates above may cite this file.
+-- A rank from an order of the blocks: the place of a block in it.
 use Rattle.std.proofs.Common.{◌≡◌, ℕ, zero, suc, ◌+◌, ◌<◌, ◌≤◌, ◌==◌, ◌&&◌, Bool, true, false, true≢false, cond, List, [], ◌∷◌, ◌++◌, length, map, find, slice_get, Option, Some, ap, sym, ◌∙◌, subst, refl, arith, eqb-true, eq-eqb}
 use Rattle.std.proofs.lemmas.Option.{none-some, same_Some, slice_get_within, get_or_from_slice_get, slice_get-get_or}
 use Rattle.dg_model.specs.declared.diagram.Diagram.{Diagram}
@@ -12,7 +12,7 @@ use Rattle.dg_model.specs.Wires.{enters, driver_of}
 use Rattle.dg_model.specs.LatencyEdges.{LatencyEdge, signal_edge, asks_ever, enable_edge, enable_edges_from, latency_edges}
 use Rattle.dg_model.specs.Instant.{reads_now, is_asked_now, asks_now, takes_now_at, is_instant}
 use Rattle.dg_model.specs.Loop.{LeadsNow, IsOrder}
-use Rattle.fx_io.proofs.Places.{get_left, there_map}
+use Rattle.math_list.proofs.Places.{get_left, there_map}
 
 pub there_right : {X : Type 0} (xs ys : List X) (k : ℕ) (x : X) → slice_get ys k ≡ Some x → (j : ℕ) × (slice_get (xs ++ ys) j ≡ Some x)
 there_right [] ys k x e = (k, e)

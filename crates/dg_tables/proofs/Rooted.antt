@@ -1,8 +1,8 @@
--- Lists of root elements, port after port. Crates above may cite this file.
+-- Lists of root elements, port after port.
 use Rattle.std.proofs.Common.{◌≡◌, ℕ, zero, suc, ◌+◌, ◌≤◌, ◌++◌, List, [], ◌∷◌, length, map, filter_map, count_by, Option, Some, None, is_some, slice_get, ap, sym, ◌∙◌, refl, arith, append_assoc, append-nil, add-one}
 use Rattle.std.specs.List.{flat_map, cons_option}
 use Rattle.std.proofs.lemmas.List.{map-append}
-use Rattle.dg_waves.specs.Rounds.{numbers_from}
+use Rattle.math_list.specs.Numbers.{numbers_from}
 use Rattle.std.proofs.lemmas.Option.{none-some}
 use Rattle.dg_model.specs.declared.diagram.Diagram.{Diagram}
 use Rattle.dg_model.specs.declared.diagram.Block.{Block}
@@ -16,7 +16,7 @@ use Rattle.dg_model.specs.RootElements.{RootElement, root_element, elements_of_p
 use Rattle.dg_tables.specs.declared.roots.Root.{Root}
 use Rattle.dg_tables.specs.Roots.{root_at, roots_of}
 use Rattle.dg_tables.proofs.Drivers.{count_by-cons, unit_if}
-use Rattle.fx_io.proofs.Places.{held}
+use Rattle.math_list.proofs.Places.{held}
 
 pub counted_map : {A B : Type 0} (f : A → Option B) (xs : List A) → count_by (λ x. is_some (f x)) xs ≡ length (filter_map f xs)
 counted_map f [] = refl

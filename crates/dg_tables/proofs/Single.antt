@@ -1,4 +1,4 @@
--- The equation of a block at a place gives at most one number. Crates above may cite this file.
+-- The equation of a block at a place gives at most one number.
 use Rattle.std.proofs.Common.{◌≡◌, ℕ, suc, ◌-◌, Bool, true, false, MatchBool, List, filter, slice_get, Option, Some, None, MatchOption, ℤ, ap, ap₂, sym, ◌∙◌, subst}
 use Rattle.fx_type.specs.declared.kind.FxType.{FxType}
 use Rattle.fx_type.specs.declared.decimal.Decimal.{Decimal}
@@ -19,7 +19,7 @@ use Rattle.dg_model.specs.Operation.{OpGives}
 use Rattle.dg_model.specs.Wires.{widths_into, type_into, types_into, value_into, values_into, entry_of, period_into}
 use Rattle.dg_model.specs.Equation.{StoresEntry, IsOpOf, accumulator, signs_of, is_enabled, IsInputAt, ElementEquation, MuxEquation, RateEquation, EnOutEquation, KindEquation}
 use Rattle.dg_tables.proofs.Ground.{IsRanked}
-use Rattle.dg_tables.proofs.Lists.{parts_one}
+use Rattle.math_list.proofs.Sums.{parts_one}
 use Rattle.fx_round.specs.Laws.{StoringGivesOne}
 use Rattle.dg_blocks.specs.Laws.{AddsUpInType, OperationGivesAtMostOne}
 use Rattle.dg_tables.proofs.Sources.{type_into_valid}

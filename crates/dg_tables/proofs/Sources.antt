@@ -1,4 +1,4 @@
--- What an input reads: a place that the table shows. Crates above may cite this file.
+-- What an input reads: a place that the table shows.
 use Rattle.std.proofs.Common.{◌≡◌, ℕ, ◌<◌, ◌≤◌, ◌⊎◌, inl, inr, slice_get, Option, Some, None, MatchOption, pos, Bool, true, false, true≢false, ap, sym, subst, refl, arith}
 use Rattle.fx_type.specs.declared.kind.FxType.TheVariants.{Logical}
 use Rattle.fx_type.specs.FxType.{IsType}
@@ -16,8 +16,10 @@ use Rattle.dg_model.specs.Wired.{IsWired, Joins, NamesControl}
 use Rattle.dg_model.specs.Wires.{enters, driver_of, at_source, repeated, width_into, type_into, value_into, values_into}
 pub use Rattle.dg_tables.specs.Finding.{IsRead}
 use Rattle.dg_tables.proofs.Ground.{HasWidths}
-use Rattle.fx_io.proofs.Places.{held}
-use Rattle.dg_tables.proofs.Lists.{find_holds, map_same, below_repeated}
+use Rattle.math_list.proofs.Places.{held}
+use Rattle.dg_tables.proofs.Lists.{below_repeated}
+use Rattle.math_list.proofs.Numbers.{map_same}
+use Rattle.math_list.proofs.Searches.{find_holds}
 
 -- the role of a control
 abbrev pub is_control : Role → Bool

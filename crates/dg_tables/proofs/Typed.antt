@@ -37,8 +37,8 @@ use Rattle.dg_model.specs.Wires.{type_into, types_into, edges_into, entry_of}
 use Rattle.dg_model.specs.Wired.{IsWired}
 use Rattle.dg_model.proofs.Ports.{inputs_are_sources, map_twice}
 use Rattle.dg_tables.proofs.Ground.{KeepsType, operation_at}
-use Rattle.fx_io.proofs.Places.{held, there_map}
-use Rattle.dg_tables.proofs.Lists.{length_mapped, get_mapped}
+use Rattle.math_list.proofs.Places.{held, there_map}
+use Rattle.math_list.proofs.Numbers.{length_mapped, get_mapped}
 use Rattle.dg_tables.proofs.Edges.{edges_length, edge_at, source_at}
 use Rattle.dg_model.proofs.SumTerms.{terms-valid}
 use Rattle.dg_tables.proofs.TypeRules.{with_some, all_valid, param_valid}

@@ -1,7 +1,7 @@
 -- How the widths, lists and types of a block and of its inputs fit (own).
 use Rattle.std.specs.Prelude.{◌≡◌, ℕ, ◌≤◌, length, map, sum, All, ⊤}
 use Rattle.fx_type.specs.declared.kind.FxType.TheVariants.{Logical}
-use Rattle.dg_waves.specs.Rounds.{numbers_from}
+use Rattle.math_list.specs.Numbers.{numbers_from}
 use Rattle.dg_model.specs.declared.diagram.Diagram.{Diagram}
 use Rattle.dg_model.specs.declared.kind.Kind.{Kind}
 use Rattle.dg_model.specs.declared.kind.Kind.TheVariants.{Inport, Outport, Constant, Ground, Sum, Gain, Product, Switch, Relational, Logic, Convert, Delay, Mux, Demux, RateTransition, Pass, EnableTest, EnOut, Terminator}

@@ -1,6 +1,6 @@
 //! The entries of a sample in order.
 ghost use Rattle.std.specs.Prelude.{◌≡◌, ◌≤◌, ◌<◌, ◌++◌, ◌∷◌, [], length, map, Some, slice_get, slice_set, IfOk, OnOk};
-ghost use Rattle.dg_waves.specs.Rounds.{numbers_from};
+ghost use Rattle.math_list.specs.Numbers.{numbers_from};
 ghost use Rattle.dg_model.specs.Attributes.{attributes_of};
 ghost use Rattle.dg_model.specs.Solves.{shown_ports, shown_width};
 ghost use Rattle.dg_tables.specs.Entries.{AreEntries, place_at};

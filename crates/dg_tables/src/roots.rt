@@ -1,6 +1,6 @@
 //! The elements of the root inputs and outputs, in the order in which rows have their numbers.
 ghost use Rattle.std.specs.Prelude.{◌≡◌, ◌++◌, ◌≤◌, ℕ, map, filter_map, count_by, is_some, length, position, slice_get, IfOk, OnOk, Some};
-ghost use Rattle.dg_waves.specs.Rounds.{numbers_from};
+ghost use Rattle.math_list.specs.Numbers.{numbers_from};
 ghost use Rattle.dg_model.specs.Attributes.{attributes_of};
 ghost use Rattle.dg_model.specs.Library.{row_of};
 ghost use Rattle.dg_model.specs.declared.diagram.Block.{Block};

@@ -9,7 +9,8 @@ use Rattle.std.proofs.lemmas.Option.{unwrap_or-slice_get, slice_get_past, slice_
 use Rattle.dg_model.specs.declared.diagram.Block.{Block}
 use Rattle.dg_model.specs.declared.diagram.Edge.{Edge}
 use Rattle.dg_waves.specs.inner.Waves.{is_in}
-use Rattle.dg_waves.proofs.Waved.{is_in_push, is_in_last, pushed_at}
+use Rattle.dg_waves.proofs.Waved.{is_in_push, is_in_last}
+use Rattle.math_list.proofs.Places.{pushed_at}
 use Rattle.dg_types.specs.declared.linked.Source.{Source}
 use Rattle.dg_types.specs.inner.Linked.{AreLinked, is_shared_out}
 use Rattle.dg_model.specs.Widths.{are_open, list_length}

@@ -8,8 +8,11 @@ use Rattle.std.proofs.lemmas.Option.{unwrap_or-slice_get, slice_get_past, slice_
 use Rattle.dg_model.specs.declared.diagram.Diagram.{Diagram}
 use Rattle.dg_model.specs.declared.diagram.Block.{Block}
 use Rattle.dg_model.specs.declared.diagram.Edge.{Edge}
-use Rattle.dg_waves.specs.Rounds.{numbers_from, round, after_rounds}
-use Rattle.dg_waves.proofs.Waved.{same_places, length_round, round_at, mapped_at}
+use Rattle.dg_waves.specs.Rounds.{round, after_rounds}
+use Rattle.math_list.specs.Numbers.{numbers_from}
+use Rattle.dg_waves.proofs.Waved.{length_round, round_at}
+use Rattle.math_list.proofs.Numbers.{mapped_at}
+use Rattle.math_list.proofs.Places.{same_places, get_some}
 use Rattle.dg_types.specs.declared.linked.Share.TheVariants.{Even, Fixed}
 use Rattle.dg_types.specs.declared.linked.Source.{Source}
 use Rattle.dg_types.specs.declared.linked.Form.{Form}
@@ -18,7 +21,6 @@ use Rattle.dg_types.specs.inner.Shown.{shape_of, declared_width, outputs_of, sho
 use Rattle.dg_model.specs.KindRow.{Shape}
 use Rattle.dg_model.specs.Widths.{Widths, width_at, input_widths, are_open, share, taken, most_width, list_length, next_of, next_widths, first_of, widths_after}
 use Rattle.dg_model.specs.Wires.{edges_into}
-use Rattle.fx_io.proofs.Places.{get_some}
 
 -- ---- one port
 

@@ -6,8 +6,8 @@ use Rattle.std.specs.Cmp.Derive.{both_true}
 use Rattle.std.proofs.lemmas.Nat.{pow-add}
 use Rattle.std.proofs.lemmas.Bool.{cases_lt, leb-true, le-leb, lt-ltb, ltb-true}
 use Rattle.std.proofs.lemmas.Int.{ints, by_lt_z}
-use Rattle.fx_num.specs.Word.{IsWord}
-use Rattle.fx_num.proofs.Arithmetic.{scaled-mono, scaled-neg, unit_apart, double}
+use Rattle.math_num.specs.Word.{IsWord}
+use Rattle.math_num.proofs.Arithmetic.{scaled-mono, scaled-neg, unit_apart, double}
 use Rattle.fx_type.specs.declared.kind.FxType.{FxType}
 use Rattle.fx_type.specs.declared.kind.FxType.TheVariants.{Num}
 use Rattle.fx_type.specs.declared.decimal.Decimal.{Decimal}
@@ -18,7 +18,7 @@ use Rattle.fx_type.proofs.Ranges.{lowest_sign, highest_sign, InRange-zero}
 use Rattle.fx_type.proofs.Stored.{Decides-in_range, rounded_rounds, unit_positive}
 use Rattle.dg_model.specs.GainParam.{frac_down}
 use Rattle.dg_types.specs.inner.TypedFit.{is_within, bits_of, at_step, HasSign}
-use Rattle.fx_io.proofs.Tests.{same_test}
+use Rattle.math_list.proofs.Tests.{same_test}
 
 -- ---- one quotient and its nearest whole number
 

@@ -3,9 +3,9 @@ use Rattle.std.proofs.Common.{◌≡◌, ℕ, ◌+◌, ◌-◌, ◌*◌, ◌/◌
 use Rattle.std.specs.Prelude.{nat_le, nat_lt}
 use Rattle.std.proofs.lemmas.Bool.{cases_lt, cases_Bool, leb-true, le-leb, lt-ltb, ltb-true}
 use Rattle.std.proofs.lemmas.Nat.{pow-add}
-use Rattle.fx_num.proofs.Arithmetic.{double}
+use Rattle.math_num.proofs.Arithmetic.{double}
 use Rattle.dg_types.specs.inner.TypedFit.{is_within, is_below}
-use Rattle.fx_io.proofs.Tests.{same_test}
+use Rattle.math_list.proofs.Tests.{same_test}
 
 -- ---- a common factor is divided out
 

@@ -7,9 +7,9 @@ use Rattle.std.specs.Cmp.Derive.{both_true}
 use Rattle.std.proofs.lemmas.Bool.{cases_lt, cases_Bool, and_parts, and_left, and_right, true≢false}
 use Rattle.std.proofs.lemmas.List.Folds.{list_all_more, list_all_at}
 use Rattle.fx_type.specs.declared.decimal.Decimal.{Decimal}
-use Rattle.fx_type.proofs.Found.{IsFirst, NonePasses, found, not_found}
+use Rattle.math_list.proofs.Searches.{IsFirst, NonePasses, found, not_found}
 use Rattle.dg_model.specs.GainParam.{frac_down}
-use Rattle.fx_num.specs.Word.{IsWord}
+use Rattle.math_num.specs.Word.{IsWord}
 use Rattle.dg_types.specs.inner.TypedFit.{at_step, HasSign, IsLowered, greatest_among}
 use Rattle.dg_types.proofs.TypedFits.{step_mono}
 

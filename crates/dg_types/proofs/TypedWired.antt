@@ -5,10 +5,12 @@ use Rattle.std.specs.Cmp.Derive.{both_true}
 use Rattle.std.proofs.lemmas.Bool.{le-leb, eq-eqb, cases_Bool, true≢false}
 use Rattle.std.proofs.lemmas.List.{length-map}
 use Rattle.std.proofs.lemmas.Option.{slice_get_within}
-use Rattle.dg_waves.specs.Rounds.{after_rounds, numbers_from}
-use Rattle.dg_waves.proofs.Waved.{rounds_agree, length_numbers}
-use Rattle.fx_num.specs.Word.{IsWord}
-use Rattle.fx_type.proofs.Found.{Decides-int_le}
+use Rattle.dg_waves.specs.Rounds.{after_rounds}
+use Rattle.math_list.specs.Numbers.{numbers_from}
+use Rattle.dg_waves.proofs.Waved.{rounds_agree}
+use Rattle.math_list.proofs.Numbers.{length_numbers}
+use Rattle.math_num.specs.Word.{IsWord}
+use Rattle.math_list.proofs.Searches.{Decides-int_le}
 use Rattle.fx_type.specs.declared.kind.FxType.{FxType}
 use Rattle.fx_type.specs.declared.kind.FxType.TheVariants.{Num, Logical}
 use Rattle.fx_type.specs.declared.spec.TypeSpec.{TypeSpec}

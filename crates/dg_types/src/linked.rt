@@ -4,7 +4,8 @@ ghost use Rattle.dg_types.specs.inner.LinkedLaws.{is_local, stays};
 ghost use Rattle.dg_types.specs.inner.Build.{all_forms};
 ghost use Rattle.dg_types.specs.inner.Shown.{shape_of, form_of as form_of_shape};
 ghost use Rattle.dg_model.specs.Limits.{longest_list};
-ghost use Rattle.dg_model.specs.Widths.{share as share_of, greatest, list_length as list_length_of, most_width};
+ghost use Rattle.dg_model.specs.Widths.{share as share_of, list_length as list_length_of, most_width};
+ghost use Rattle.math_list.specs.Numbers.{greatest};
 
 use crate::kinds::list_length;
 use dg_model::{Block, Kind, Shape};

@@ -1,5 +1,5 @@
 ghost use Rattle.std.specs.Prelude.{◌≡◌, ◌<◌, ◌≤◌, [], All, length, map, replicate, IfOk, OnOk};
-ghost use Rattle.dg_waves.specs.Rounds.{numbers_from};
+ghost use Rattle.math_list.specs.Numbers.{numbers_from};
 ghost use Rattle.dg_model.specs.KindRow.{Shape as ShapeOf};
 ghost use Rattle.dg_model.specs.Limits.{longest_list};
 ghost use Rattle.dg_model.specs.Widths.{share, most_width};

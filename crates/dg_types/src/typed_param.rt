@@ -2,7 +2,7 @@
 //! elements asks at most n + 192 times whether one is in range.
 ghost use Rattle.std.specs.Prelude.{◌≡◌, ◌-◌, ◌<◌, ◌≤ℤ◌, ◌==◌, ◌&&◌, cond, pos, negsuc, All, IfSome};
 ghost use Rattle.std.specs.List.{find, list_all, list_any, range_with_len};
-ghost use Rattle.fx_num.specs.Word.{IsWord};
+ghost use Rattle.math_num.specs.Word.{IsWord};
 ghost use Rattle.fx_type.specs.declared.kind.FxType.TheVariants.{Num};
 ghost use Rattle.fx_type.specs.FxType.{IsType};
 ghost use Rattle.fx_type.specs.StoredOf.{rounded_of, is_in_range};

@@ -1,56 +1,23 @@
--- A wave over all changes is a round. Crates above may cite this file.
-use Rattle.std.proofs.Common.{◌≡◌, ℕ, zero, suc, ◌+◌, ◌<◌, Bool, true, false, Some, inl, inr, List, [], ◌∷◌, ◌++◌, length, map, take, drop, eqb, replicate, All, refl, sym, ap, subst, ◌∙◌, arith, ◌≤◌}
+-- A wave over all changes is a round.
+use Rattle.std.proofs.Common.{◌≡◌, ℕ, zero, suc, ◌<◌, Bool, true, false, Some, inl, inr, List, [], ◌∷◌, ◌++◌, length, take, drop, eqb, replicate, All, refl, sym, ap, subst, ◌∙◌, arith, ◌≤◌}
 use Rattle.std.specs.Prelude.{◌≢◌, set, slice_get}
 use Rattle.std.proofs.lemmas.Bool.{true≢false, false≢true, eqb-true, eqb-false, eq-eqb, or_parts, or_cases, or_left, or_right, or_from, cases_Bool}
 use Rattle.std.proofs.Math.Seq.{take-append_seam}
 use Rattle.std.proofs.lemmas.List.{length-replicate, length-map}
 use Rattle.std.proofs.lemmas.Option.{none-some, same_Some, slice_get_within, get_or_from_slice_get}
 use Rattle.dg_waves.specs.declared.waves.Change.{Change}
-use Rattle.dg_waves.specs.Rounds.{numbers_from, round, after_rounds}
+use Rattle.dg_waves.specs.Rounds.{round, after_rounds}
+use Rattle.math_list.specs.Numbers.{numbers_from}
 use Rattle.dg_waves.specs.inner.Waves.{is_in, is_changed, written, marked_count, Sought, MarkedWait, ReadersMarked, Marked, IsBetween}
-
--- ---- lists by their places
-
-pub same_places : {A : Type 0} (xs ys : List A) → length xs ≡ length ys → ((k : ℕ) → k < length xs → slice_get xs k ≡ slice_get ys k) → xs ≡ ys
-same_places [] [] same at = refl
-same_places [] (y ∷ ys) same at = absurd (omega arith)
-same_places (x ∷ xs) [] same at = absurd (omega arith)
-same_places (x ∷ xs) (y ∷ ys) same at =
-    let head : x ≡ y = same_Some x y (at 0 (omega arith)) in
-    let tail : xs ≡ ys = same_places xs ys (omega arith) (λ k inside. at (suc k) (omega arith)) in cc
-
-pub set_same : {A : Type 0} (xs : List A) (k : ℕ) (x : A) → k < length xs → slice_get (set xs k x) k ≡ Some x
-set_same [] k x inside = absurd (omega arith)
-set_same (y ∷ xs) zero x inside = refl
-set_same (y ∷ xs) (suc k) x inside = set_same xs k x (omega arith)
-
-pub set_other : {A : Type 0} (xs : List A) (k j : ℕ) (x : A) → (k ≡ j → ⊥) → slice_get (set xs k x) j ≡ slice_get xs j
-set_other [] k j x differ = refl
-set_other (y ∷ xs) zero zero x differ = absurd (differ refl)
-set_other (y ∷ xs) zero (suc j) x differ = refl
-set_other (y ∷ xs) (suc k) zero x differ = refl
-set_other (y ∷ xs) (suc k) (suc j) x differ = set_other xs k j x (λ same. differ (ap suc same))
-
-pub length_set : {A : Type 0} (xs : List A) (k : ℕ) (x : A) → length (set xs k x) ≡ length xs
-length_set [] k x = refl
-length_set (y ∷ xs) zero x = refl
-length_set (y ∷ xs) (suc k) x = ap suc (length_set xs k x)
+use Rattle.math_list.proofs.Numbers.{length_numbers, mapped_at}
+use Rattle.math_list.proofs.Places.{length_set, pushed_at, same_places, set_other, set_same}
 
 pub length_written : {A : Type 0} (changes : List (Change A)) (values : List A) → length (written changes values) ≡ length values
 length_written [] values = refl
 length_written (x ∷ xs) values = length_written xs (set values x.block x.value) ∙ length_set values x.block x.value
 
-pub length_numbers : (k n : ℕ) → length (numbers_from k n) ≡ n
-length_numbers k zero = refl
-length_numbers k (suc n) = ap suc (length_numbers (suc k) n)
-
 pub length_round : {A : Type 0} (next : List A → ℕ → A) (values : List A) → length (round next values) ≡ length values
 length_round next values = length-map (numbers_from 0 (length values)) (next values) ∙ length_numbers 0 (length values)
-
-pub mapped_at : {A : Type 0} (f : ℕ → A) (from n k : ℕ) → k < n → slice_get (map f (numbers_from from n)) k ≡ Some (f (from + k))
-mapped_at f from zero k inside = absurd (omega arith)
-mapped_at f from (suc n) zero inside = ap (λ (m : ℕ). Some (f m)) (omega arith)
-mapped_at f from (suc n) (suc k) inside = mapped_at f (suc from) n k (omega arith) ∙ ap (λ (m : ℕ). Some (f m)) (omega arith)
 
 pub round_at : {A : Type 0} (next : List A → ℕ → A) (values : List A) (block : ℕ) → block < length values → slice_get (round next values) block ≡ Some (next values block)
 round_at next values block inside = mapped_at (next values) 0 (length values) block inside ∙ ap (λ (m : ℕ). Some (next values m)) (omega arith)
@@ -68,12 +35,6 @@ is_changed_push (x ∷ xs) change block is =
     let parts = or_parts (eqb x.block block) (is_changed block (xs ++ change ∷ [])) is in
     let later = is_changed_push xs change block (parts.1) in
     (or_from (eqb x.block block) (is_changed block xs) (parts.0) (later.0), later.1)
-
-pub pushed_at : {A : Type 0} (P : A → Type 0) (xs : List A) (x : A) → ((k : ℕ) (y : A) → slice_get xs k ≡ Some y → P y) → P x → (k : ℕ) (y : A) → slice_get (xs ++ x ∷ []) k ≡ Some y → P y
-pushed_at P [] x all here zero y at = subst P (same_Some x y at) here
-pushed_at P [] x all here (suc k) y at = absurd (none-some y at)
-pushed_at P (z ∷ xs) x all here zero y at = all 0 y at
-pushed_at P (z ∷ xs) x all here (suc k) y at = pushed_at P xs x (λ j w e. all (suc j) w e) here k y at
 
 -- a block that keeps its value need not wait
 pub sought_kept : {A : Type 0} (next : List A → ℕ → A) (values : List A) (changes : List (Change A)) (block : ℕ) (left : List ℕ) → slice_get values block ≡ Some (next values block) → Sought next values changes (block ∷ left) → Sought next values changes left
@@ -290,22 +251,3 @@ rounds_agree f g count same (suc n) start size =
 -- a slice that was borrowed and written over has what was written
 pub written_back : {A : Type 0} (count : ℕ) (new old : List A) → length new ≡ count → take count (new ++ drop (length new) old) ≡ new
 written_back count new old is = ap (λ n. take n (new ++ drop (length new) old)) (sym is) ∙ take-append_seam new (drop (length new) old)
-
-pub numbers_suc : {A : Type 0} (f : ℕ → A) (from n : ℕ) → map f (numbers_from from (suc n)) ≡ map f (numbers_from from n) ++ f (from + n) ∷ []
-numbers_suc f from zero = ap (λ (m : ℕ). f m ∷ []) (omega arith)
-numbers_suc {A} f from (suc n) =
-    let next : suc from + n ≡ from + suc n = omega arith in
-    ap (λ (xs : List A). f from ∷ xs) (numbers_suc f (suc from) n ∙ ap (λ (m : ℕ). map f (numbers_from (suc from) n) ++ f m ∷ []) next)
-
--- one more of a list by places
-pub numbers_more : {A : Type 0} (f : ℕ → A) (n : ℕ) → map f (numbers_from 0 (n + 1)) ≡ map f (numbers_from 0 n) ++ f n ∷ []
-numbers_more {A} f n =
-    let next : n + 1 ≡ suc n = omega arith in
-    let same : 0 + n ≡ n = omega arith in
-    ap (λ (m : ℕ). map f (numbers_from 0 m)) next ∙ numbers_suc f 0 n ∙ ap (λ (m : ℕ). map f (numbers_from 0 n) ++ f m ∷ []) same
-
-pub take_numbers : (f : ℕ → ℕ) (from n i : ℕ) → i ≤ n → take i (map f (numbers_from from n)) ≡ map f (numbers_from from i)
-take_numbers f from zero zero h = refl
-take_numbers f from zero (suc i) h = absurd (omega (arith, h))
-take_numbers f from (suc n) zero h = refl
-take_numbers f from (suc n) (suc i) h = ap (λ (xs : List ℕ). f from ∷ xs) (take_numbers f (suc from) n i (omega (arith, h)))

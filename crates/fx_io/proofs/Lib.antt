@@ -1,4 +1,2 @@
 pub mod FaultLines
-pub mod Places
 pub mod Taken
-pub mod Tests

@@ -2,7 +2,7 @@
 ghost use Rattle.std.specs.Prelude.{◌≡◌, ◌+◌, ◌*◌, ◌^◌, ◌<◌, ◌≤◌, ◌↔◌, IsTrue, pos, ◌*ℤ◌, FitsSigned};
 ghost use Rattle.std.specs.Int.{w128};
 ghost use Rattle.std.specs.Option.{SomeIff};
-ghost use Rattle.fx_num.specs.Word.{IsWord, word_lowest, word_highest, InWord, IsCongruent, IsWrapped};
+ghost use Rattle.math_num.specs.Word.{IsWord, word_lowest, word_highest, InWord, IsCongruent, IsWrapped};
 
 /// Whether a word has this width and sign. Source: own.
 pub fn is_word(width: u8, signed: bool) -> bool

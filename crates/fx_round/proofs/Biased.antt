@@ -1,12 +1,12 @@
--- Each mode is the whole number below, with a bias added before. Crates above may cite this file.
+-- Each mode is the whole number below, with a bias added before.
 use Rattle.std.proofs.Common.{◌≡◌, ℕ, suc, ◌+◌, ◌-◌, ◌*◌, ◌/◌, ◌%◌, ◌^◌, ◌<◌, ◌≤◌, Bool, true, false, ℤ, pos, negsuc, neg_ℤ, ◌+ℤ◌, ◌-ℤ◌, ◌*ℤ◌, ◌≤ℤ◌, ◌<ℤ◌, bit_and, to_z, of_z, FitsSigned, cond, int_lt, ap, sym, ◌∙◌, refl, subst, mod-lt, arith, pow_mono, pow_pos}
 use Rattle.std.specs.Int.{w64, int_max, int_min}
 use Rattle.std.specs.Int.Signed.{shr_z}
 use Rattle.std.proofs.lemmas.Int.{ints, clamps, by_lt_z}
 use Rattle.std.proofs.lemmas.Nat.{and_mask, pow-add}
-use Rattle.fx_num.specs.Word.{IsWord, InWord, IsCongruent, IsWrapped, word_lowest, word_highest}
-use Rattle.fx_num.proofs.Arithmetic.{next-scaled, mul-scaled, scaled-mono, scaled-neg, unit_apart, IsCongruent-trans, IsCongruent-part}
-use Rattle.fx_num.proofs.Shifted.{shr-divided, shl_exact, bits_congruent, remainder_congruent}
+use Rattle.math_num.specs.Word.{IsWord, InWord, IsCongruent, IsWrapped, word_lowest, word_highest}
+use Rattle.math_num.proofs.Arithmetic.{next-scaled, mul-scaled, scaled-mono, scaled-neg, unit_apart, IsCongruent-trans, IsCongruent-part}
+use Rattle.math_num.proofs.Shifts.{shr-divided, shl_exact, bits_congruent, remainder_congruent}
 use Rattle.fx_type.specs.declared.kind.FxType.TheVariants.{Num}
 use Rattle.fx_type.specs.Conversion.{Saturates, twice, IsEven, BySign, RoundsDown, RoundsUp, RoundsTiesUp, RoundsTiesDown, RoundsTiesEven}
 use Rattle.fx_type.proofs.Ranges.{lowest_sign, highest_sign}

@@ -4,11 +4,11 @@ use Rattle.std.specs.Int.{w64, w128}
 use Rattle.std.specs.Int.Signed.{shr_z}
 use Rattle.std.proofs.lemmas.Int.{ints}
 use Rattle.std.proofs.lemmas.Nat.{pow-add}
-use Rattle.fx_num.specs.Word.{IsWord, InWord, IsCongruent, IsWrapped}
-use Rattle.fx_num.proofs.Arithmetic.{add-scaled, scaled-neg, mul-scaled, IsCongruent-trans, IsCongruent-part}
-use Rattle.fx_num.proofs.Shifted.{shl_congruent, read_congruent}
+use Rattle.math_num.specs.Word.{IsWord, InWord, IsCongruent, IsWrapped}
+use Rattle.math_num.proofs.Arithmetic.{add-scaled, scaled-neg, mul-scaled, IsCongruent-trans, IsCongruent-part}
+use Rattle.math_num.proofs.Shifts.{shl_congruent, read_congruent}
 use Rattle.fx_round.proofs.Shifts.{whole_turns, near_split}
-use Rattle.fx_num.proofs.Words.{word-fits}
+use Rattle.math_num.proofs.Words.{word-fits}
 
 pub shift_congruent : (v : ℤ) (by w : ℕ) → w ≤ 128 → FitsSigned w128 v → IsCongruent (to_z w128 ((of_z w128 v * 2 ^ by) % 340282366920938463463374607431768211456)) (v *ℤ pos (2 ^ by)) (2 ^ w)
 shift_congruent v by w h f =

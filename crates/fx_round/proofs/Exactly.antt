@@ -3,8 +3,8 @@ use Rattle.std.proofs.Common.{◌≡◌, ◌≢◌, ℕ, zero, suc, ◌-◌, ◌
 use Rattle.std.specs.Int.{int_gap, int_div_euclid}
 use Rattle.std.proofs.lemmas.Bool.{cases_lt}
 use Rattle.std.proofs.lemmas.Int.{ints, by_lt_z}
-use Rattle.fx_num.specs.Word.{IsWrapped}
-use Rattle.fx_num.proofs.Arithmetic.{IsDivided, divided, next-scaled, scaled-neg, double, IsCongruent-sym, IsCongruent-trans}
+use Rattle.math_num.specs.Word.{IsWrapped}
+use Rattle.math_num.proofs.Arithmetic.{IsDivided, divided, next-scaled, scaled-neg, double, IsCongruent-sym, IsCongruent-trans}
 use Rattle.fx_type.specs.declared.kind.FxType.TheVariants.{Num, Logical}
 use Rattle.fx_type.specs.declared.rounding.Rounding.{Rounding}
 use Rattle.fx_type.specs.declared.rounding.Rounding.TheVariants.{Nearest}

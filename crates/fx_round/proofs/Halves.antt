@@ -1,7 +1,7 @@
 -- Rounding to the nearest by the whole number of halves.
 use Rattle.std.proofs.Common.{◌≡◌, ℕ, ◌*◌, ◌<◌, ℤ, pos, ◌+ℤ◌, ◌*ℤ◌, ap, ◌∙◌, arith}
 use Rattle.std.proofs.lemmas.Int.{ints}
-use Rattle.fx_num.proofs.Arithmetic.{IsDivided, add-scaled, mul-scaled, doubled-scaled, scaled-mono, scaled-at_least}
+use Rattle.math_num.proofs.Arithmetic.{IsDivided, add-scaled, mul-scaled, doubled-scaled, scaled-mono, scaled-at_least}
 use Rattle.fx_type.specs.Conversion.{RoundsTiesUp}
 
 -- n has so many halves and a rest, and these are twice the lower whole number and the bit that is left

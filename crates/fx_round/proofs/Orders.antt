@@ -2,8 +2,8 @@
 use Rattle.std.proofs.Common.{◌≡◌, ℕ, ◌-◌, ◌^◌, ◌<◌, ◌≤◌, Bool, true, false, ℤ, pos, ◌+ℤ◌, ◌*ℤ◌, ◌≤ℤ◌, ◌<ℤ◌, sym, ◌∙◌, refl, subst, arith, pow_pos}
 use Rattle.std.specs.Int.{int_gap}
 use Rattle.std.proofs.lemmas.Int.{ints, by_lt_z}
-use Rattle.fx_num.proofs.Arithmetic.{scaled-mono, next-scaled, unit_apart, near_congruent, double}
-use Rattle.fx_num.specs.Word.{InWord, IsCongruent}
+use Rattle.math_num.proofs.Arithmetic.{scaled-mono, next-scaled, unit_apart, near_congruent, double}
+use Rattle.math_num.specs.Word.{InWord, IsCongruent}
 use Rattle.fx_type.specs.declared.kind.FxType.TheVariants.{Num, Logical}
 use Rattle.fx_type.specs.declared.rounding.Rounding.{Rounding}
 use Rattle.fx_type.specs.declared.rounding.Rounding.TheVariants.{Floor, Ceiling, Zero, Nearest, Round, Convergent}

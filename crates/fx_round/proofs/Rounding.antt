@@ -2,7 +2,7 @@
 use Rattle.std.proofs.Common.{◌≡◌, ℕ, ◌+◌, ◌*◌, ◌<◌, ◌≤◌, Bool, true, false, not, ℤ, pos, negsuc, ◌+ℤ◌, ◌*ℤ◌, ◌≤ℤ◌, ◌<ℤ◌, ap, sym, refl, subst, arith, true≢false, int_div, int_rem, zero, suc, ◌%◌, ◌/◌, neg_ℤ, of_z, eqb, eqb-true}
 use Rattle.std.specs.Int.{w128, from_bool}
 use Rattle.std.proofs.lemmas.Int.{ints}
-use Rattle.fx_num.proofs.Arithmetic.{next-scaled, scaled-mono}
+use Rattle.math_num.proofs.Arithmetic.{next-scaled, scaled-mono}
 use Rattle.fx_type.specs.declared.rounding.Rounding.{Rounding}
 use Rattle.fx_type.specs.declared.rounding.Rounding.TheVariants.{Floor, Ceiling, Zero, Nearest, Round, Convergent}
 use Rattle.fx_type.specs.Conversion.{IsEven, RoundsDown, RoundsUp, RoundsTiesUp, RoundsTiesDown, RoundsTiesEven, Rounds}

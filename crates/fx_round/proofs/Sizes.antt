@@ -15,7 +15,7 @@ use Rattle.fx_round.specs.declared.split.Part.{Part}
 use Rattle.fx_round.specs.declared.split.Part.TheVariants.{Whole, BelowHalf, Half, AboveHalf}
 use Rattle.fx_round.specs.declared.split.Split.{Split}
 use Rattle.fx_round.specs.inner.Split.{IsPart, IsSplit, IsMagnitude, IsSize}
-use Rattle.fx_num.proofs.Arithmetic.{add-scaled, scaled-neg}
+use Rattle.math_num.proofs.Arithmetic.{add-scaled, scaled-neg}
 use Rattle.fx_round.proofs.Rounding.{ties_up_low, ties_up_high}
 
 -- ---- doubling

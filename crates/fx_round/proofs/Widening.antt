@@ -4,8 +4,8 @@ use Rattle.std.proofs.Common.{◌≡◌, ℕ, ◌+◌, ◌-◌, ◌^◌, ◌≤�
 use Rattle.std.proofs.lemmas.Int.{ints}
 use Rattle.std.proofs.lemmas.Bool.{false≢true}
 use Rattle.std.proofs.lemmas.Nat.{pow-add}
-use Rattle.fx_num.specs.Word.{InWord}
-use Rattle.fx_num.proofs.Arithmetic.{next-scaled, scaled-mono, scaled-neg, scaled-at_least, IsCongruent-refl}
+use Rattle.math_num.specs.Word.{InWord}
+use Rattle.math_num.proofs.Arithmetic.{next-scaled, scaled-mono, scaled-neg, scaled-at_least, IsCongruent-refl}
 use Rattle.fx_type.specs.declared.kind.FxType.TheVariants.{Num}
 use Rattle.fx_type.specs.Conversion.{Settles}
 

@@ -3,7 +3,7 @@ use Rattle.std.proofs.Common.{ℕ, ◌^◌, ℤ, FitsSigned, to_z, of_z, sym, su
 use Rattle.std.specs.Int.{w128}
 use Rattle.std.specs.Int.Signed.{shr_z}
 use Rattle.std.proofs.lemmas.Int.{to_z-of_z}
-use Rattle.fx_num.proofs.Shifted.{shr-fits}
+use Rattle.math_num.proofs.Shifts.{shr-fits}
 use Rattle.fx_type.specs.declared.rounding.Rounding.{Rounding}
 use Rattle.fx_type.specs.declared.rounding.Rounding.TheVariants.{Floor}
 use Rattle.fx_type.specs.Conversion.{Rounds}

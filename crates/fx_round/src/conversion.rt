@@ -1,6 +1,6 @@
 //! Conversion of a stored integer from one type to another.
 ghost use Rattle.std.specs.Prelude.{Bool, true, false, ℤ, pos, ◌*ℤ◌, ◌^◌, ◌≤◌};
-ghost use Rattle.fx_num.specs.Word.{IsWord, InWord};
+ghost use Rattle.math_num.specs.Word.{IsWord, InWord};
 ghost use Rattle.fx_type.specs.declared.kind.FxType.TheVariants.{Num};
 ghost use Rattle.fx_type.specs.FxType.{IsType, InRange};
 ghost use Rattle.fx_type.specs.Conversion.{Settles, StoresQuotient, Converts};

@@ -1,6 +1,6 @@
 //! Rounding and settling in 64 bits, for numbers and types of at most 63 bits.
 ghost use Rattle.std.specs.Prelude.{true, ◌≡◌, ℤ, pos, neg_ℤ, ◌+ℤ◌, ◌*ℤ◌, ◌≤ℤ◌, ◌-◌, ◌^◌, ◌≤◌, cond, int_lt};
-ghost use Rattle.fx_num.specs.Word.{IsWord, InWord, IsWrapped, word_highest};
+ghost use Rattle.math_num.specs.Word.{IsWord, InWord, IsWrapped, word_highest};
 ghost use Rattle.fx_type.specs.declared.kind.FxType.TheVariants.{Num};
 ghost use Rattle.fx_type.specs.Conversion.{twice, RoundsDown, RoundsUp, Rounds, Settles};
 ghost use Rattle.fx_round.specs.inner.Narrow.{IsTie, least_beside};

@@ -1,7 +1,7 @@
 //! Whole numbers put into a type.
 ghost use Rattle.std.specs.Prelude.{◌≡◌, ◌^◌, ◌≤◌, true, ℤ, pos, ◌+ℤ◌, ◌*ℤ◌};
 ghost use Rattle.std.specs.Int.Signed.{shr_z};
-ghost use Rattle.fx_num.specs.Word.{IsWord, IsWrapped};
+ghost use Rattle.math_num.specs.Word.{IsWord, IsWrapped};
 ghost use Rattle.fx_type.specs.declared.kind.FxType.TheVariants.{Num};
 ghost use Rattle.fx_type.specs.FxType.{IsType};
 ghost use Rattle.fx_type.specs.Conversion.{Settles};

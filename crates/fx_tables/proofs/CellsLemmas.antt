@@ -1,4 +1,4 @@
--- The numbers of a stimulus without a fault fit their columns. Crates above may cite this file.
+-- The numbers of a stimulus without a fault fit their columns.
 use Rattle.std.proofs.Common.{◌≡◌, ℕ, zero, suc, ◌+◌, ◌*◌, ◌<◌, ◌≤◌, Bool, true, false, not, None, Some, Option, List, [], ◌∷◌, ◌++◌, length, map, eqb, refl, sym, ap, subst, ◌∙◌, arith, rules}
 use Rattle.std.specs.Prelude.{ℤ, pos, slice_get, if◌then◌else◌}
 use Rattle.std.specs.List.{flat_map}
@@ -17,7 +17,7 @@ use Rattle.fx_tables.specs.declared.table.Column.{Column}
 use Rattle.fx_tables.specs.declared.table.TableFault.{TableFault}
 use Rattle.fx_tables.specs.declared.table.TableCause.{TableCause}
 use Rattle.fx_tables.specs.declared.table.TableCause.TheVariants.{TooManyRows, FieldCount, NotWhole, OutOfRange, DashAtHit, NumberOffHit}
-use Rattle.fx_io.proofs.Places.{get_front}
+use Rattle.math_list.proofs.Places.{get_front}
 
 -- what a field without a fault is
 record IsGood (dash hit range : Bool) : Type 0 where

@@ -1,4 +1,4 @@
--- What is read of a line of a plan has its form. Crates above may cite this file.
+-- What is read of a line of a plan has its form.
 use Rattle.std.proofs.Common.{◌≡◌, ◌≢◌, ℕ, zero, suc, ◌<◌, ◌≤◌, Bool, true, false, cond, not, eqb, None, Some, Option, List, [], ◌∷◌, ◌++◌, ◌⊎◌, inl, inr, length, take, drop, get_or, refl, sym, ap, subst, ◌∙◌, ⊎_elim, arith, rules, eqb-true}
 use Rattle.std.specs.Prelude.{codes, ◌&&◌, nat_le}
 use Rattle.std.specs.List.{list_all, prefix_len}
@@ -19,7 +19,7 @@ use Rattle.fx_tables.specs.PlanLines.{AreBlanks, IsCount, IsPipelineLine, IsSett
 use Rattle.fx_tables.specs.declared.entry.PlanEntry.{PlanEntry}
 use Rattle.fx_tables.specs.declared.entry.PlanEntry.TheVariants.{Passed, Cycles, Multipliers, Pipelined}
 use Rattle.fx_tables.proofs.FieldsLemmas.{IsRunAt, no_field, first_field, fields_of-blank, fields_of-field}
-use Rattle.fx_io.proofs.Tests.{cond_cases, cond_some}
+use Rattle.math_list.proofs.Tests.{cond_cases, cond_some}
 
 -- a number that is the only field
 record Sole (low high : ℕ) (fields : List (List ℕ)) (count : ℕ) : Type 0 where

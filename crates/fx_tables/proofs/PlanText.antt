@@ -1,4 +1,4 @@
--- What is read of a plan's lines is what they say, and the first bad line. Crates above may cite this file.
+-- What is read of a plan's lines is what they say, and the first bad line.
 use Rattle.std.proofs.Common.{◌≡◌, ℕ, ◌+◌, true, false, None, Some, Option, List, [], ◌∷◌, ◌++◌, length, refl, sym, ap, ◌∙◌, ⊎_elim, append_assoc, append-nil, arith}
 use Rattle.std.specs.List.{filter_map, cons_option}
 use Rattle.std.specs.Option.{option_to_list}
@@ -12,7 +12,7 @@ use Rattle.fx_tables.specs.declared.entry.PlanEntry.{PlanEntry}
 use Rattle.fx_tables.specs.declared.table.TableFault.{TableFault}
 use Rattle.fx_tables.specs.declared.table.TableFault.TheVariants.{Bad}
 use Rattle.fx_tables.specs.declared.table.TableCause.TheVariants.{PlanLine}
-use Rattle.fx_io.proofs.Tests.{cond_cases}
+use Rattle.math_list.proofs.Tests.{cond_cases}
 use Rattle.fx_tables.proofs.PlanForms.{entry_form, form_entry}
 
 abbrev Good : List PlanEntry → List (List ℕ) → List PlanEntry → Type 0

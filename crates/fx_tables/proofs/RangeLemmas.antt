@@ -13,7 +13,7 @@ use Rattle.fx_tables.specs.declared.entry.PlanEntry.{PlanEntry}
 use Rattle.fx_tables.specs.declared.entry.PlanEntry.TheVariants.{Cycles, Multipliers}
 use Rattle.fx_tables.specs.declared.draft.Draft.{Draft}
 use Rattle.fx_tables.proofs.DraftLemmas.{path_cmp, more_paths}
-use Rattle.fx_io.proofs.Tests.{differ}
+use Rattle.math_list.proofs.Tests.{differ}
 
 -- one more at the end
 each-more : {X : Type 0} (P : X → Type 0) (xs : List X) (last : X) → AllByRecursion P xs → P last → AllByRecursion P (xs ++ last ∷ [])

@@ -1,4 +1,4 @@
--- A response that is put line by line. Crates above may cite this file.
+-- A response that is put line by line.
 use Rattle.std.proofs.Common.{◌≡◌, ◌<◌, ◌≤◌, ◌+◌, ⊎_elim, ℕ, ℤ, zero, suc, List, [], ◌++◌, Option, ap, sym, ◌∙◌, append_assoc, append-nil, arith}
 use Rattle.std.proofs.Math.Numerals.{suc-eq-add-one}
 use Rattle.std.proofs.lemmas.Bool.{cases_lt}

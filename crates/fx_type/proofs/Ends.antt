@@ -3,7 +3,7 @@ use Rattle.std.proofs.Common.{◌≡◌, ℕ, ◌+◌, ◌^◌, ◌<◌, Bool, t
 use Rattle.std.specs.Int.{int_gap}
 use Rattle.std.proofs.lemmas.Int.{ints}
 use Rattle.std.proofs.lemmas.List.{take_more}
-use Rattle.fx_num.proofs.Arithmetic.{scaled-mono, scaled-neg, scaled-at_most, scaled-at_least}
+use Rattle.math_num.proofs.Arithmetic.{scaled-mono, scaled-neg, scaled-at_most, scaled-at_least}
 use Rattle.fx_type.specs.declared.kind.FxType.{FxType}
 use Rattle.fx_type.specs.FxType.{frac_of, lowest_of, highest_of, InRange, aligned}
 use Rattle.fx_type.specs.FullType.{Terms, negated_if, IsPossibleSum}

@@ -1,10 +1,11 @@
--- The greatest frac of a list of terms. Crates above may cite this file.
+-- The greatest frac of a list of terms.
 use Rattle.std.proofs.Common.{◌≡◌, ℕ, ◌+◌, ◌<◌, ◌≤◌, Bool, inl, inr, take, length, get_or, ℤ, pos, negsuc, ◌≤ℤ◌, All, Any, sym, ◌∙◌, subst, arith, take_all, List, [], zero, suc, ◌∷◌}
 use Rattle.std.specs.Int.{int_max}
 use Rattle.std.proofs.lemmas.Int.{ints}
 use Rattle.std.proofs.lemmas.List.{get_or_default}
 use Rattle.std.proofs.lemmas.List.Elements.{All-weaker, All-more}
-use Rattle.fx_type.proofs.Ranges.{frac_bounds, int_max_cases}
+use Rattle.fx_type.proofs.Ranges.{frac_bounds}
+use Rattle.math_num.proofs.Integers.{int_max_cases}
 use Rattle.fx_type.specs.declared.kind.FxType.{FxType}
 use Rattle.fx_type.specs.FxType.{IsType, frac_of}
 use Rattle.fx_type.specs.FullType.{Terms, IsGreatestFrac}

@@ -1,15 +1,15 @@
--- The full types of sums and unions. Crates above may cite this file.
+-- The full types of sums and unions.
 use Rattle.std.proofs.Common.{◌≡◌, ◌≢◌, ℕ, ◌+◌, ◌-◌, ◌^◌, ◌<◌, ◌≤◌, min, Bool, true, false, ◌||◌, ℤ, pos, ◌+ℤ◌, ◌*ℤ◌, ◌≤ℤ◌, ◌<ℤ◌, ap, sym, ◌∙◌, refl, subst, arith, pow_pos, mul-pos, true≢false, Result, Ok, Err, OnErr}
 use Rattle.std.specs.Int.{int_max, int_min, int_gap}
 use Rattle.std.proofs.lemmas.Int.{ints, clamps}
-use Rattle.fx_num.specs.Word.{IsWord}
+use Rattle.math_num.specs.Word.{IsWord}
 use Rattle.fx_type.specs.declared.full.Span.{Span}
 use Rattle.fx_type.specs.declared.kind.FxType.{FxType}
 use Rattle.fx_type.specs.declared.kind.FxType.TheVariants.{Num, Logical}
 use Rattle.fx_type.specs.FxType.{IsType, IsNumber, is_signed, width_of, frac_of, lowest_of, highest_of, InRange, aligned}
 use Rattle.fx_type.specs.FullType.{Terms, IsPossibleSum, HoldsSums, IsGreatestFrac, IsFullSum, IsFullProduct, HoldsType, HoldsBoth, IsUnion}
 use Rattle.fx_type.specs.Span.{least_term, greatest_term, sum_of, IsSpan, FitSpan, IsNarrowest}
-use Rattle.fx_num.proofs.Arithmetic.{scaled-mono, scaled-neg}
+use Rattle.math_num.proofs.Arithmetic.{scaled-mono, scaled-neg}
 use Rattle.fx_type.proofs.Ranges.{InRange-lowest, InRange-highest, InRange-fits, InRange-between}
 use Rattle.fx_type.proofs.Ends.{least_sign, greatest_sign, least_possible, greatest_possible, sum_bounds}
 

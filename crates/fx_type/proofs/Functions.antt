@@ -9,7 +9,7 @@ use Rattle.std.proofs.lemmas.Bool.{cases_lt}
 use Rattle.std.proofs.lemmas.Bool.Decides.{Decides-and, Decides-eqb, Decides-int_eq}
 use Rattle.std.proofs.lemmas.List.Elements.{All-cons, All-nil, All-weaker}
 use Rattle.std.proofs.lemmas.Int.{ints, clamps}
-use Rattle.fx_num.specs.Word.{IsWord, word_lowest, word_highest}
+use Rattle.math_num.specs.Word.{IsWord, word_lowest, word_highest}
 use Rattle.fx_type.specs.declared.full.Span.{Span}
 use Rattle.fx_type.specs.declared.kind.FxType.{FxType}
 use Rattle.fx_type.specs.declared.kind.FxType.TheVariants.{Num, Logical}
@@ -19,9 +19,10 @@ use Rattle.fx_type.specs.FullTypeOf.{holds_ends, narrowest_of, greatest_frac_of,
 use Rattle.fx_type.specs.Laws.{FullSumIsOne, FullProductIsOne, UnionIsOne}
 use Rattle.fx_type.specs.Span.{least_term, greatest_term, sum_of, IsNarrowest}
 use Rattle.fx_type.proofs.Ends.{least_sign, greatest_sign, sum_of-at_most, sum_of-at_least, least_possible, greatest_possible}
-use Rattle.fx_type.proofs.Ranges.{InRange-lowest, InRange-highest, frac_bounds, int_max_cases}
+use Rattle.fx_type.proofs.Ranges.{InRange-lowest, InRange-highest, frac_bounds}
+use Rattle.math_num.proofs.Integers.{int_max_cases}
 use Rattle.std.proofs.lemmas.Option.{same_Some}
-use Rattle.fx_type.proofs.Found.{Some≢None, one_answer, Decides-int_le, Decides-int_lt, Decides-nat_le, IsFirst, NonePasses, found, not_found}
+use Rattle.math_list.proofs.Searches.{Some≢None, one_answer, Decides-int_le, Decides-int_lt, Decides-nat_le, IsFirst, NonePasses, found, not_found}
 use Rattle.fx_type.proofs.FullTypes.{greatest_only, full_sum_is, union_is}
 
 Decides-holds_ends : (least greatest : ℤ) (s : Bool) (w : ℕ) → Decides (holds_ends least greatest s w) ((word_lowest w s ≤ℤ least) × (greatest ≤ℤ word_highest w s))

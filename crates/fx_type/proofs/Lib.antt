@@ -1,5 +1,4 @@
 mod Ends
-pub mod Found
 pub mod Fracs
 pub mod FullTypes
 mod Functions

@@ -1,11 +1,11 @@
--- The ranges of types. Crates above may cite this module.
-use Rattle.std.proofs.Common.{◌≡◌, ◌-◌, ◌^◌, ◌≤◌, Bool, true, false, cond, ◌⊎◌, inl, inr, ℤ, pos, negsuc, ◌≤ℤ◌, refl, arith, pow_mono, FitsSigned, ◌-ℤ◌, nat_abs}
-use Rattle.std.specs.Int.{w128, int_max, int_gap}
+-- The ranges of types.
+use Rattle.std.proofs.Common.{◌≡◌, ◌-◌, ◌^◌, ◌≤◌, true, false, ℤ, pos, negsuc, ◌≤ℤ◌, refl, arith, pow_mono, FitsSigned}
+use Rattle.std.specs.Int.{w128}
 use Rattle.std.proofs.lemmas.Int.{ints}
 use Rattle.fx_type.specs.declared.kind.FxType.{FxType}
 use Rattle.fx_type.specs.declared.kind.FxType.TheVariants.{Num, Logical}
 use Rattle.fx_type.specs.FxType.{IsType, frac_of, lowest_of, highest_of, InRange, width_of, is_signed}
-use Rattle.fx_num.specs.Word.{IsWord, InWord, word_lowest, word_highest}
+use Rattle.math_num.specs.Word.{IsWord, InWord, word_lowest, word_highest}
 use Rattle.std.proofs.Math.Dec.{lit≤}
 
 -- 0 lies in every range
@@ -46,35 +46,6 @@ InRange-between t l h v p q a b = record { low = omega (arith, ints, p.low, a); 
 pub frac_bounds : (t : FxType) → IsType t → (negsuc 63 ≤ℤ frac_of t) × (frac_of t ≤ℤ pos 128)
 frac_bounds (Num s w f) h = (h.1, h.2)
 frac_bounds Logical h = (omega (arith, ints), omega (arith, ints))
-
--- the greater of two is one of them
-pub int_max_cases : (x y : ℤ) → (int_max x y ≡ x) ⊎ (int_max x y ≡ y)
-int_max_cases x y = cases _
-  where
-    cases : (b : Bool) → (cond b x y ≡ x) ⊎ (cond b x y ≡ y)
-    cases true = inl refl
-    cases false = inr refl
-
--- the greater of two is bounded as both are
-pub int_max_most : (x y most : ℤ) → x ≤ℤ most → y ≤ℤ most → int_max x y ≤ℤ most
-int_max_most x y most left right =
-    elim (int_max_cases x y) [
-      | inl is ↦ rw is left
-      | inr is ↦ rw is right
-    ]
-
--- how far one frac is above another
-pub gap_is : (a b x : ℤ) → a ≤ℤ b → x ≡ b -ℤ a → nat_abs x ≡ int_gap a b
-gap_is (pos a) (pos b) x h e = omega (arith, ints, h)
-gap_is (pos a) (negsuc b) x h e = absurd (omega (arith, ints, h))
-gap_is (negsuc a) (pos b) x h e = omega (arith, ints, h)
-gap_is (negsuc a) (negsuc b) x h e = omega (arith, ints, h)
-
-pub gap_none : (a b : ℤ) → b ≤ℤ a → int_gap a b ≡ 0
-gap_none (pos a) (pos b) h = omega (arith, ints, h)
-gap_none (pos a) (negsuc b) h = refl
-gap_none (negsuc a) (pos b) h = absurd (omega (arith, ints, h))
-gap_none (negsuc a) (negsuc b) h = omega (arith, ints, h)
 
 -- the word of a valid type is one, and has its range
 pub type-word : (type : FxType) → IsType type → IsWord (width_of type) (is_signed type)

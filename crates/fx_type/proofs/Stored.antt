@@ -1,4 +1,4 @@
--- The function of a stored decimal gives what the relation allows. Crates above may cite this module.
+-- The function of a stored decimal gives what the relation allows.
 use Rattle.std.proofs.Common.{◌≡◌, ◌≢◌, ℕ, ◌*◌, ◌^◌, ◌<◌, ◌==◌, unsigned_abs, cond, Bool, true, false, true≢false, ℤ, pos, ◌+ℤ◌, ◌<ℤ◌, ap, sym, ◌∙◌, refl, subst, arith, pow_pos, mul-pos}
 use Rattle.std.specs.Prelude.{◌↔◌}
 use Rattle.std.specs.Bool.{Decides}
@@ -6,7 +6,7 @@ use Rattle.std.specs.Int.{int_gap}
 use Rattle.std.proofs.Math.Nat.{one-le-pow}
 use Rattle.std.proofs.lemmas.Bool.Decides.{Decides-and, Decides-eqb}
 use Rattle.std.proofs.lemmas.Int.{ints, clamps, by_lt_z}
-use Rattle.fx_num.proofs.Arithmetic.{IsDivided, divided, doubled-scaled, unit_apart}
+use Rattle.math_num.proofs.Arithmetic.{IsDivided, divided, doubled-scaled, unit_apart}
 use Rattle.fx_type.specs.declared.kind.FxType.{FxType}
 use Rattle.fx_type.specs.declared.kind.FxType.TheVariants.{Num, Logical}
 use Rattle.fx_type.specs.declared.rounding.Rounding.TheVariants.{Nearest}
@@ -15,7 +15,7 @@ use Rattle.fx_type.specs.FxType.{lowest_of, highest_of, InRange}
 use Rattle.fx_type.specs.Conversion.{twice, signed_digits, RoundsTiesUp, Saturates, IsTruthOf, StoresQuotient}
 use Rattle.fx_type.specs.Laws.{NearestIsOne, StoredIsOne}
 use Rattle.fx_type.specs.StoredOf.{nearest_of, rounded_of, is_in_range, clamped}
-use Rattle.fx_type.proofs.Found.{Decides-int_le}
+use Rattle.math_list.proofs.Searches.{Decides-int_le}
 use Rattle.fx_type.proofs.Ranges.{lowest_sign, highest_sign}
 
 -- ---- rounding to the nearest

@@ -2,7 +2,7 @@
 -- bounds own).
 use Rattle.std.specs.Prelude.{◌≡◌, ℕ, ◌^◌, Bool, false, ℤ, pos, negsuc, ◌*ℤ◌, ◌≤ℤ◌}
 use Rattle.std.specs.Int.{int_gap}
-use Rattle.fx_num.specs.Word.{IsWord, word_lowest, word_highest}
+use Rattle.math_num.specs.Word.{IsWord, word_lowest, word_highest}
 use Rattle.fx_type.specs.declared.kind.FxType.{FxType}
 use Rattle.fx_type.specs.declared.kind.FxType.TheVariants.{Num, Logical}
 

@@ -10,7 +10,7 @@ use Rattle.hw_arcs.specs.Latencies.{latency_at, IsCountedArc}
 use Rattle.hw_arcs.specs.Found.{AreKnown, most_gain}
 use Rattle.hw_arcs.specs.inner.State.{AreLabels}
 use Rattle.hw_arcs.specs.inner.Walk.{IsChain, IsStepBack, of_arc, of_number, gain_into, slack_into, gains_of, slacks_of}
-use Rattle.fx_io.proofs.Places.{all_cons}
+use Rattle.math_list.proofs.Places.{all_cons}
 
 -- ---- joining and cutting
 

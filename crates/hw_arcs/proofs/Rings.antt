@@ -14,7 +14,7 @@ use Rattle.hw_arcs.specs.Found.{AreKnown, most_gain}
 use Rattle.hw_arcs.specs.inner.State.{AreLabels}
 use Rattle.hw_arcs.specs.Latencies.{latency_at}
 use Rattle.hw_arcs.specs.inner.Walk.{IsChain, IsClosed, IsEnded, IsRing, IsTurnedBack, gain_into, slack_into, gains_of, slacks_of, back_from}
-use Rattle.fx_io.proofs.Places.{get_drop}
+use Rattle.math_list.proofs.Places.{get_drop}
 use Rattle.hw_arcs.proofs.Counts.{one_if}
 use Rattle.hw_arcs.proofs.Chains.{chain_joins, chain_cuts, chain_gains, ring_gains, gains_small, chain_arcs}
 

@@ -10,7 +10,7 @@ use Rattle.hw_arcs.specs.Found.{IsIn, IsWhole, AreKnown, AreLeast}
 use Rattle.hw_arcs.specs.inner.Parts.{IsTakenFrom}
 use Rattle.hw_arcs.specs.inner.State.{State, label_of, taken, relaxed, begun, popped, IsState, AreSettled, AreWithin, work_of, AreCounted, AreRows, AreRowsOf, IsRowEnd, IsStepOn}
 use Rattle.fx_io.specs.Rows.{noted, row_at}
-use Rattle.fx_io.proofs.Places.{get_left, last_at, push_cases}
+use Rattle.math_list.proofs.Places.{get_left, last_at, push_cases}
 use Rattle.hw_arcs.proofs.Moving.{set_moves}
 use Rattle.hw_arcs.proofs.Taking.{IsRest, state_taken, settled_taken, settled_passed, work_taken, within_taken}
 

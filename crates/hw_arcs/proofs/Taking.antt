@@ -10,7 +10,7 @@ use Rattle.hw_arcs.specs.Latencies.{latency_at}
 use Rattle.hw_arcs.specs.Found.{AreKnown, IsIn}
 use Rattle.hw_arcs.specs.inner.State.{State, label_of, is_pending, taken, IsPulled, AreLabels, IsState, AreSettled, AreWithin, work_of}
 use Rattle.hw_arcs.proofs.Moving.{IsMoved, set_moves, set_gets}
-use Rattle.fx_io.proofs.Places.{get_left, last_at, push_cases}
+use Rattle.math_list.proofs.Places.{get_left, last_at, push_cases}
 
 -- a time that is set
 abbrev pub timed : (ℕ → ℕ) → ℕ → ℕ → ℕ → ℕ

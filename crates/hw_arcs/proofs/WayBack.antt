@@ -9,7 +9,7 @@ use Rattle.std.proofs.lemmas.Option.{none-some, slice_get-get_or}
 use Rattle.hw_arcs.specs.declared.arc.Arc.{Arc}
 use Rattle.hw_arcs.specs.Found.{AreKnown, IsIn}
 use Rattle.hw_arcs.specs.inner.Walk.{AreGiven, IsChain, IsWay, IsWalked, IsOut}
-use Rattle.fx_io.proofs.Places.{get_left, last_at, push_cases}
+use Rattle.math_list.proofs.Places.{get_left, last_at, push_cases}
 use Rattle.hw_arcs.proofs.Counts.{one_if}
 use Rattle.hw_arcs.proofs.Moving.{set_moves}
 use Rattle.hw_arcs.proofs.Chains.{chain_joins}

@@ -5,7 +5,7 @@ use Rattle.std.specs.List.{flat_map}
 use Rattle.std.proofs.lemmas.Bool.{cases_lt}
 use Rattle.std.proofs.lemmas.List.{append_assoc, drop_all}
 use Rattle.std.proofs.lemmas.Option.{none-some, same_Some}
-use Rattle.hw_net.proofs.Growing.{front-some, last-of}
+use Rattle.math_list.proofs.Places.{get_left, last_at}
 use Rattle.dg_model.specs.declared.diagram.Diagram.{Diagram}
 use Rattle.dg_model.specs.declared.diagram.Block.{Block}
 use Rattle.dg_model.specs.declared.diagram.Edge.{Edge}
@@ -39,7 +39,7 @@ module _ (diagram : Diagram) (plan : Resolved) (times : Times) (firsts : List (L
       → IsEndAt diagram plan times firsts new more (spans ++ last ∷ []) number b edge
   end_later old new wants more spans last number b edge grow is = record {
     span = is.span;
-    is = front-some spans (last ∷ []) number is.span is.is;
+    is = get_left spans (last ∷ []) number is.span is.is;
     count = is.count;
     each = λ element below. ask_later old new wants more b edge (is.span.first + element) element grow (is.each element below);
   }
@@ -61,7 +61,7 @@ module _ (diagram : Diagram) (plan : Resolved) (times : Times) (firsts : List (L
       let size = put.size in
       record {
         span = last;
-        is = ap (slice_get (spans ++ last ∷ [])) at ∙ last-of spans last;
+        is = ap (slice_get (spans ++ last ∷ [])) at ∙ last_at spans last;
         count = omega (arith, ends, size);
         each = λ element below. subst (λ (n : ℕ). IsAskAt diagram plan times firsts new more b edge (n + element) element) (sym begins) (put.each element below);
       }

@@ -34,7 +34,7 @@ use Rattle.hw_build.specs.inner.UnderWay.{hub_level, HaveHubs}
 use Rattle.hw_build.proofs.Placing.{own_other}
 use Rattle.hw_build.proofs.Started.{one_port}
 use Rattle.fx_type.proofs.Ranges.{type-word}
-use Rattle.fx_io.proofs.Places.{get_some}
+use Rattle.math_list.proofs.Places.{get_some}
 
 -- ---- sums
 

@@ -11,7 +11,8 @@ use Rattle.hw_net.specs.declared.netlist.NetKind.TheVariants.{Comb, Reg, EnReg, 
 use Rattle.hw_net.specs.Circuit.{Circuit}
 use Rattle.hw_net.specs.Growing.{Extends, Appends}
 use Rattle.hw_net.specs.Netlist.{HasWord}
-use Rattle.hw_net.proofs.Growing.{extends-self, extends-trans, longer, split-last, still-there, stood-there}
+use Rattle.hw_net.proofs.Growing.{extends-self, extends-trans, longer, still-there, stood-there}
+use Rattle.math_list.proofs.Places.{split-last, get_some, map_there}
 use Rattle.hw_lines.specs.declared.source.Use.{Use}
 use Rattle.hw_lines.specs.Chain.{IsAnswer, reader_of, IsPart, IsCountedIn}
 use Rattle.hw_build.specs.declared.wants.Feed.{Feed}
@@ -24,7 +25,6 @@ use Rattle.hw_build.proofs.Growth.{goes_same, goes_then, goes_appended}
 use Rattle.hw_build.proofs.Levels.{level_stays, levelled_by_call, answer_level, register_level}
 use Rattle.hw_build.proofs.Soundness.{sound_by_call}
 use Rattle.hw_net.proofs.Extending.{word-stays}
-use Rattle.fx_io.proofs.Places.{get_some, map_there}
 
 -- ---- one call
 

@@ -2,7 +2,7 @@
 use Rattle.std.proofs.Common.{◌≡◌, ℕ, zero, suc, ◌+◌, ◌-◌, ◌*◌, ◌<◌, ◌≤◌, ◌⊎◌, inl, inr, List, [], ◌∷◌, length, Contains, Option, Some, None, pos, ap, sym, ◌∙◌, subst, refl, arith}
 use Rattle.std.specs.Prelude.{slice_get}
 use Rattle.std.proofs.lemmas.Option.{none-some, slice_get_within}
-use Rattle.fx_num.specs.Word.{IsWord}
+use Rattle.math_num.specs.Word.{IsWord}
 use Rattle.fx_type.specs.declared.kind.FxType.{FxType}
 use Rattle.fx_type.specs.FxType.{is_signed, width_of}
 use Rattle.dg_model.specs.declared.diagram.Diagram.{Diagram}

@@ -37,7 +37,7 @@ use Rattle.hw_build.proofs.Beginning.{find_owner}
 use Rattle.hw_build.proofs.Framing.{frame_stands, more_goes, registers_then}
 use Rattle.hw_build.proofs.Growth.{goes_appended, still_within}
 use Rattle.hw_share.proofs.Counters.{counter-kind}
-use Rattle.fx_io.proofs.Places.{get_some}
+use Rattle.math_list.proofs.Places.{get_some}
 
 -- ---- lists of nets that go on
 

@@ -14,9 +14,9 @@ use Rattle.hw_net.specs.declared.netlist.NetOp.TheVariants.{Const}
 use Rattle.hw_net.specs.Circuit.{Circuit}
 use Rattle.hw_net.specs.Frames.{is_register, register_count}
 use Rattle.hw_net.specs.Growing.{Extends, with_net}
-use Rattle.hw_net.proofs.Growing.{last-of, split-last, longer, still-there, stood-there, appends-self, appends-one, appends-trans, differ-other, count-append, IsNamed}
+use Rattle.hw_net.proofs.Growing.{longer, still-there, stood-there, appends-self, appends-one, appends-trans, differ-other, count-append, IsNamed}
+use Rattle.math_list.proofs.Places.{last_at, split-last, get_right}
 use Rattle.hw_build.specs.inner.Factors.{AddsConstants, IsCoefficient, constant_net}
-use Rattle.fx_io.proofs.Places.{get_right}
 use Rattle.fx_type.proofs.Ranges.{type-word}
 
 pub adds_none : (net : Circuit) → AddsConstants net net
@@ -58,7 +58,7 @@ pub coefficient_is : (a b : Circuit) (list : List Decimal) (element : ℕ) (type
 coefficient_is a b list element type value number stored place grown = record {
   value = value;
   stored = stored;
-  is = ap (λ (x : Circuit). slice_get x.nets number) grown ∙ ap (slice_get (a.nets ++ constant_net type value ∷ [])) place ∙ last-of a.nets (constant_net type value);
+  is = ap (λ (x : Circuit). slice_get x.nets number) grown ∙ ap (slice_get (a.nets ++ constant_net type value ∷ [])) place ∙ last_at a.nets (constant_net type value);
   new = omega (arith, place);
 }
 

@@ -1,4 +1,4 @@
--- The ports of a netlist are those that it owes, and it can be emitted. Crates above may cite this file.
+-- The ports of a netlist are those that it owes, and it can be emitted.
 use Rattle.std.proofs.Common.{◌≡◌, ℕ, zero, suc, ◌^◌, ◌<◌, List, [], ◌∷◌, ◌++◌, length, Contains, Some, ap, sym, ◌∙◌, subst, refl, arith}
 use Rattle.std.specs.Prelude.{Option, slice_get, get_or, true}
 use Rattle.std.proofs.lemmas.Option.{none-some, slice_get_within, slice_get-get_or}
@@ -37,7 +37,7 @@ use Rattle.hw_build.specs.inner.Porting.{ArePortsFor, AreInputFirsts}
 use Rattle.hw_names.specs.Taken.{AreTaken}
 use Rattle.hw_build.proofs.Finished.{finished}
 use Rattle.hw_build.proofs.Named.{named_both, port_names, port_names_differ, wants_are}
-use Rattle.hw_slots.proofs.Sums.{greatest_at}
+use Rattle.math_list.proofs.Sums.{greatest_at}
 use Rattle.hw_build.proofs.Ported.{with_ports, way_ported, units_ported, multiplied_ported, output_shown}
 use Rattle.hw_build.proofs.Running.{has_counters}
 

@@ -1,7 +1,7 @@
 -- The nets of root inputs show the stimulus.
 use Rattle.std.proofs.Common.{◌≡◌, ℕ, Bool, ℤ, [], Option, None, Some, subst}
 use Rattle.std.specs.Prelude.{slice_get}
-use Rattle.fx_num.specs.Word.{IsWrapped}
+use Rattle.math_num.specs.Word.{IsWrapped}
 use Rattle.fx_type.specs.FxType.{IsType, InRange, is_signed, width_of}
 use Rattle.dg_model.specs.declared.diagram.Diagram.{Diagram}
 use Rattle.dg_model.specs.declared.diagram.Block.{Block}
@@ -20,7 +20,7 @@ use Rattle.hw_shows.specs.Shows.{IsSeen}
 use Rattle.hw_shows.specs.Waves.{AreDriven}
 use Rattle.hw_build.specs.Places.{Places, IsRunOf, waves_of}
 use Rattle.hw_build.specs.inner.Facts.{HaveInputs}
-use Rattle.hw_net.proofs.Numbers.{wrapped-is}
+use Rattle.math_num.proofs.Words.{wrapped-is}
 use Rattle.fx_type.proofs.Ranges.{type-word, range-word}
 
 seen_is_hit : (cycles : ℕ) (period : Option ℕ) (t c : ℕ) → IsSeen cycles period 0 0 t c → Hits period t

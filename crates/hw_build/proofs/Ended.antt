@@ -34,8 +34,8 @@ use Rattle.hw_build.specs.inner.Tally.{IsPipelineAt, products_by}
 use Rattle.hw_build.specs.inner.Unread.{AreReadInTurn}
 use Rattle.hw_build.specs.inner.Spotted.{Spots}
 use Rattle.hw_build.proofs.Unread.{alone}
-use Rattle.fx_io.proofs.Tests.{some_there}
-use Rattle.fx_io.proofs.Places.{get_some}
+use Rattle.math_list.proofs.Tests.{some_there}
+use Rattle.math_list.proofs.Places.{get_some}
 
 -- a block that multiplies shows one port, as wide as it is
 pub multiplying_shows : (kind : Kind) (inputs outputs : ℕ) → (row_of kind).hardware.multiplies ≡ true → HasPorts kind inputs outputs → shown_ports kind outputs ≡ 1

@@ -35,7 +35,7 @@ use Rattle.hw_build.specs.inner.Looping.{place_in, Fits, IsBegun, IsEntered, IsG
 use Rattle.hw_build.specs.inner.Tally.{IsOwnProduct, products_by}
 use Rattle.hw_build.specs.inner.UnderWay.{own_level}
 use Rattle.hw_build.proofs.Going.{going_by_call}
-use Rattle.fx_io.proofs.Places.{get_right}
+use Rattle.math_list.proofs.Places.{get_right}
 use Rattle.hw_build.proofs.Multiplying.{same_listed}
 
 -- ---- which nets multiply

@@ -4,7 +4,7 @@ use Rattle.std.specs.Prelude.{slice_get, slice_index_or, IsSome}
 use Rattle.std.proofs.lemmas.Bool.{false≢true}
 use Rattle.std.proofs.lemmas.List.Elements.{All-cons, All-nil, Contains-get_or, Contains-push_cases}
 use Rattle.std.proofs.lemmas.Option.{same_Some, slice_get_within, slice_get-get_or}
-use Rattle.fx_io.proofs.Tests.{some_there}
+use Rattle.math_list.proofs.Tests.{some_there}
 use Rattle.fx_type.specs.declared.decimal.Decimal.{Decimal}
 use Rattle.fx_type.specs.declared.kind.FxType.{FxType}
 use Rattle.fx_type.specs.FxType.{is_signed, width_of}

@@ -7,7 +7,7 @@ use Rattle.std.proofs.lemmas.Option.{none-some, same_Some, slice_get_within, sli
 use Rattle.fx_type.specs.declared.kind.FxType.{FxType}
 use Rattle.fx_type.specs.declared.kind.FxType.TheVariants.{Logical}
 use Rattle.fx_type.specs.FxType.{is_signed, width_of}
-use Rattle.dg_waves.specs.Rounds.{numbers_from}
+use Rattle.math_list.specs.Numbers.{numbers_from}
 use Rattle.dg_model.specs.declared.diagram.Diagram.{Diagram}
 use Rattle.dg_model.specs.declared.diagram.Block.{Block}
 use Rattle.dg_model.specs.declared.diagram.Edge.{Edge}
@@ -33,7 +33,7 @@ use Rattle.hw_build.specs.inner.HubPlaces.{is_input_role}
 use Rattle.hw_build.specs.inner.Lowering.{offered_args}
 use Rattle.hw_build.specs.inner.UnderWay.{HaveOperands, line_level, own_level}
 use Rattle.hw_build.proofs.Searching.{driver_some}
-use Rattle.dg_tables.proofs.Lists.{get_number}
+use Rattle.math_list.proofs.Numbers.{get_number}
 
 -- ---- lists
 

@@ -21,7 +21,8 @@ use Rattle.hw_latency.specs.Shared.{is_shared, multiplies, multiplies_if, shares
 use Rattle.hw_net.specs.Circuit.{Circuit}
 use Rattle.hw_net.specs.Growing.{Extends}
 use Rattle.hw_net.specs.Netlist.{HasWord}
-use Rattle.hw_net.proofs.Growing.{last-of, front-of, split-last, word-stays, extends-self}
+use Rattle.hw_net.proofs.Growing.{word-stays, extends-self}
+use Rattle.math_list.proofs.Places.{last_at, get_front, split-last, held, get_some}
 use Rattle.hw_sched.specs.Laws.{IsOperation}
 use Rattle.hw_sched.specs.Slots.{Timing as Times, Operation as Shared, right_type, right_of, shared_operations}
 use Rattle.hw_share.specs.declared.operation.Operation.{Operation}
@@ -33,7 +34,6 @@ use Rattle.hw_build.proofs.FullyTyped.{full_is_there, second_is_valid}
 use Rattle.hw_build.proofs.Numbering.{operations_in_all}
 use Rattle.hw_build.proofs.Operations.{of_shared}
 use Rattle.hw_build.proofs.Serving.{is_product, multiplies_input, product_inputs}
-use Rattle.fx_io.proofs.Places.{held, get_some}
 
 -- ---- what was gathered stays
 
@@ -68,7 +68,7 @@ module _ (diagram : Diagram) (plan : Resolved) (times : Times) (offered : ℕ �
   gathers_one a b old count o one size is adds gathered = record {
     adds = adds;
     size = let e = length-append old (one ∷ []) in omega (arith, e, size);
-    kept = λ k below. front-of old (one ∷ []) k (omega (arith, below, size));
+    kept = λ k below. get_front old (one ∷ []) k (omega (arith, below, size));
     each = λ k other found past there at. elim (split-last old one found k at) [
       | inl front ↦ let inside = front.0 in absurd (omega (arith, inside, past, size))
       | inr last ↦
@@ -102,12 +102,12 @@ pub firsts_more : (diagram : Diagram) (plan : Resolved) (firsts : List (Option �
 firsts_more diagram plan firsts count first are is = record {
   size = let e = length-append firsts (first ∷ []) in let size = are.size in omega (arith, e, size);
   each = λ block below. elim (cases_lt block count) [
-    | inl less ↦ let size = are.size in front-of firsts (first ∷ []) block (omega (arith, less, size)) ∙ are.each block less
+    | inl less ↦ let size = are.size in get_front firsts (first ∷ []) block (omega (arith, less, size)) ∙ are.each block less
     | inr past ↦
         let size = are.size in
         let place : block ≡ length firsts = omega (arith, below, past, size) in
         let same : count ≡ block = omega (arith, below, past) in
-        ap (slice_get (firsts ++ first ∷ [])) place ∙ last-of firsts first ∙ ap Some is
+        ap (slice_get (firsts ++ first ∷ [])) place ∙ last_at firsts first ∙ ap Some is
         ∙ ap (λ (n : ℕ). Some (if_shared (is_shared diagram (attributes_of diagram) plan n) (first_operation diagram plan n))) same
   ];
 }

@@ -12,7 +12,7 @@ use Rattle.hw_net.proofs.Index.{same-frame, same-is, same-self}
 use Rattle.hw_sched.specs.Chained.{is_same_first}
 use Rattle.hw_build.specs.declared.wants.Feed.{Feed}
 use Rattle.hw_build.specs.inner.Feeds.{is_same_feed, compare_feeds}
-use Rattle.hw_slots.proofs.Sums.{tied_number}
+use Rattle.math_list.proofs.Sums.{tied_number}
 
 -- ---- the order
 

@@ -25,7 +25,7 @@ use Rattle.hw_build.proofs.Fewer.{asked_of, chain_registers}
 use Rattle.hw_build.proofs.FewLines.{IsRepresented, total, no_more, Every, every_none, every_first, every_more, every_filter, filter_same}
 use Rattle.hw_build.proofs.Injecting.{hubs_differ}
 use Rattle.hw_build.proofs.LineUses.{IsLineUse, every_use}
-use Rattle.fx_io.proofs.Places.{map_there, get_some}
+use Rattle.math_list.proofs.Places.{map_there, get_some}
 
 -- ---- what stands for an element among those that differ
 

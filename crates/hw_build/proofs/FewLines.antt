@@ -3,9 +3,9 @@ use Rattle.std.proofs.Common.{◌≡◌, ◌≢◌, ℕ, zero, suc, ◌+◌, ◌
 use Rattle.std.specs.Prelude.{slice_get}
 use Rattle.std.specs.List.{sum, flat_map}
 use Rattle.std.proofs.lemmas.Option.{none-some, same_Some}
-use Rattle.dg_waves.specs.Rounds.{numbers_from}
+use Rattle.math_list.specs.Numbers.{numbers_from}
 use Rattle.hw_build.proofs.Counting.{Stands, without, still_stands}
-use Rattle.fx_io.proofs.Places.{sum-cons}
+use Rattle.math_list.proofs.Places.{sum-cons}
 
 -- ---- sums over different representatives
 

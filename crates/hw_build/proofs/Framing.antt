@@ -5,7 +5,7 @@ use Rattle.std.specs.List.{flat_map}
 use Rattle.std.proofs.lemmas.Bool.{and_parts, eqb-true, cases_Bool, cases_lt}
 use Rattle.std.proofs.lemmas.List.{length-map}
 use Rattle.std.proofs.lemmas.Option.{none-some, same_Some}
-use Rattle.dg_waves.specs.Rounds.{numbers_from}
+use Rattle.math_list.specs.Numbers.{numbers_from}
 use Rattle.dg_model.specs.declared.diagram.Diagram.{Diagram}
 use Rattle.dg_model.specs.declared.resolved.Resolved.{Resolved}
 use Rattle.dg_model.specs.Attributes.{attributes_of}
@@ -22,7 +22,7 @@ use Rattle.hw_build.specs.Built.{counter_count}
 use Rattle.hw_build.specs.inner.Framed.{pair_of, IsFramed, IsBlockFrame, HasMoreRegisters}
 use Rattle.hw_build.specs.inner.Growth.{GoesOn}
 use Rattle.hw_build.proofs.Counting.{Stands, few_counters, filter_stands}
-use Rattle.fx_io.proofs.Places.{get_left, there_map}
+use Rattle.math_list.proofs.Places.{get_left, there_map}
 
 -- ---- lists of different elements
 

@@ -25,7 +25,7 @@ use Rattle.dg_tables.specs.Laws.{IsOrdered, OperationsPrepare, TypesAreValid}
 use Rattle.hw_sched.specs.Slots.{right_type, right_of}
 use Rattle.hw_build.proofs.Assembly.{repeated_one, repeated_more}
 use Rattle.hw_build.proofs.Serving.{is_product, multiplies_input, product_inputs}
-use Rattle.fx_io.proofs.Places.{held}
+use Rattle.math_list.proofs.Places.{held}
 
 -- the types of a block's inputs in order
 pub type_first : (diagram : Diagram) (attributes : Attributes) (block inputs : ℕ) → 1 ≤ inputs → type_of (types_into diagram attributes block inputs) 0 ≡ type_into diagram attributes block 1

@@ -4,7 +4,7 @@ use Rattle.std.specs.Prelude.{slice_get}
 use Rattle.std.proofs.lemmas.Bool.{cases_lt}
 use Rattle.std.proofs.lemmas.List.{append-nil, append_assoc}
 use Rattle.std.proofs.lemmas.Option.{same_Some}
-use Rattle.hw_net.proofs.Growing.{front-some, last-of, split-last}
+use Rattle.math_list.proofs.Places.{get_left, last_at, split-last}
 use Rattle.dg_model.specs.declared.diagram.Diagram.{Diagram}
 use Rattle.dg_model.specs.declared.diagram.Block.{Block}
 use Rattle.dg_model.specs.declared.nested.Target.{Target}
@@ -29,7 +29,7 @@ number_more count more (Some number) less is = omega (arith, less, is)
 pub asks_now : (old new : List Ask) (wants : List Want) (hub : ℕ) → new ≡ old ++ (record { hub = hub; want = None }) ∷ [] → AsksOne old new wants wants hub None
 asks_now old new wants hub grown = record {
   grow = record {
-    list = λ k ask at. ap (λ (xs : List Ask). slice_get xs k) grown ∙ front-some old ((record { hub = hub; want = None }) ∷ []) k ask at;
+    list = λ k ask at. ap (λ (xs : List Ask). slice_get xs k) grown ∙ get_left old ((record { hub = hub; want = None }) ∷ []) k ask at;
     wants_stay = λ k want at. at;
     numbered = λ are. record {
       each = λ k ask at. elim (split-last old (record { hub = hub; want = None }) ask k (sym (ap (λ (xs : List Ask). slice_get xs k) grown) ∙ at)) [
@@ -39,7 +39,7 @@ asks_now old new wants hub grown = record {
     };
   };
   count = ap length grown ∙ length-append old ((record { hub = hub; want = None }) ∷ []);
-  is = record { ask = record { hub = hub; want = None }; is = ap (λ (xs : List Ask). slice_get xs (length old)) grown ∙ last-of old (record { hub = hub; want = None }); hub_is = refl; wanted = tt };
+  is = record { ask = record { hub = hub; want = None }; is = ap (λ (xs : List Ask). slice_get xs (length old)) grown ∙ last_at old (record { hub = hub; want = None }); hub_is = refl; wanted = tt };
   added = sym (append-nil wants);
   allowed = λ net one are. are;
 }
@@ -48,11 +48,11 @@ pub asks_later : (old new : List Ask) (wants more : List Want) (number : ℕ) (w
 asks_later old new wants more number want place grown added =
     let one : Ask = record { hub = want.feed.hub; want = Some number } in
     let longer : length more ≡ length wants + 1 = ap length added ∙ length-append wants (want ∷ []) in
-    let there : slice_get more number ≡ Some want = ap (slice_get more) place ∙ ap (λ (xs : List Want). slice_get xs (length wants)) added ∙ last-of wants want in
+    let there : slice_get more number ≡ Some want = ap (slice_get more) place ∙ ap (λ (xs : List Want). slice_get xs (length wants)) added ∙ last_at wants want in
     record {
       grow = record {
-        list = λ k ask at. ap (λ (xs : List Ask). slice_get xs k) grown ∙ front-some old (one ∷ []) k ask at;
-        wants_stay = λ k other at. ap (λ (xs : List Want). slice_get xs k) added ∙ front-some wants (want ∷ []) k other at;
+        list = λ k ask at. ap (λ (xs : List Ask). slice_get xs k) grown ∙ get_left old (one ∷ []) k ask at;
+        wants_stay = λ k other at. ap (λ (xs : List Want). slice_get xs k) added ∙ get_left wants (want ∷ []) k other at;
         numbered = λ are. record {
           each = λ k ask at. elim (split-last old one ask k (sym (ap (λ (xs : List Ask). slice_get xs k) grown) ∙ at)) [
             | inl front ↦ number_more (length wants) (length more) ask.want (omega (arith, longer)) (are.each k ask front.1)
@@ -61,7 +61,7 @@ asks_later old new wants more number want place grown added =
         };
       };
       count = ap length grown ∙ length-append old (one ∷ []);
-      is = record { ask = one; is = ap (λ (xs : List Ask). slice_get xs (length old)) grown ∙ last-of old one; hub_is = refl; wanted = there };
+      is = record { ask = one; is = ap (λ (xs : List Ask). slice_get xs (length old)) grown ∙ last_at old one; hub_is = refl; wanted = there };
       added = added;
       allowed = λ net may are. record {
         each = λ k w at. elim (split-last wants want w k (sym (ap (λ (xs : List Want). slice_get xs k) added) ∙ at)) [

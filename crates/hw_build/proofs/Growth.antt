@@ -9,7 +9,7 @@ use Rattle.hw_net.specs.Circuit.{Circuit}
 use Rattle.hw_net.specs.Netlist.{HasWord}
 use Rattle.hw_net.specs.NetRows.{Inputs, Rows, NetShows}
 use Rattle.hw_net.specs.Growing.{Extends, Keeps, InRows, IsReopened}
-use Rattle.hw_net.proofs.Growing.{front-of}
+use Rattle.math_list.proofs.Places.{get_front}
 use Rattle.hw_build.specs.inner.Growth.{GoesOn, InLater}
 
 abbrev no_net : Net
@@ -23,7 +23,7 @@ goes_same closed hubs now = record { cycles = refl; nets = λ k inside. inl refl
 pub goes_appended : (closed hubs : ℕ) (now later : Circuit) → Extends now later → GoesOn closed hubs now later
 goes_appended closed hubs now later grown = record {
   cycles = grown.cycles;
-  nets = λ k inside. inl (ap (λ (nets : List Net). slice_get nets k) grown.nets ∙ front-of now.nets grown.added k inside);
+  nets = λ k inside. inl (ap (λ (nets : List Net). slice_get nets k) grown.nets ∙ get_front now.nets grown.added k inside);
 }
 
 -- of a netlist with fewer nets open
@@ -90,7 +90,7 @@ goes_keeps closed hubs before after later small grown goes = record {
     | inr changed ↦
         let high = changed.1 in
         let early : k < length before.nets = omega (arith, small, high) in
-        let same : slice_get after.nets k ≡ slice_get before.nets k = ap (λ (nets : List Net). slice_get nets k) grown.nets ∙ front-of before.nets grown.added k early in
+        let same : slice_get after.nets k ≡ slice_get before.nets k = ap (λ (nets : List Net). slice_get nets k) grown.nets ∙ get_front before.nets grown.added k early in
         inr (early, reopened_at after.nets later.nets before.nets later.nets k (sym same) refl changed.2)
   ];
 }

@@ -12,7 +12,7 @@ use Rattle.hw_net.specs.declared.netlist.NetPort.{NetPort}
 use Rattle.hw_net.specs.Circuit.{Circuit}
 use Rattle.hw_net.specs.Netlist.{reads}
 use Rattle.hw_net.proofs.Growing.{still-there, stood-there}
-use Rattle.fx_io.proofs.Places.{held}
+use Rattle.math_list.proofs.Places.{held}
 use Rattle.hw_build.specs.declared.blocks.Setting.{Setting}
 use Rattle.hw_build.specs.Places.{Places}
 use Rattle.hw_build.specs.inner.Building.{IsEmptyFor}

@@ -3,7 +3,7 @@ use Rattle.std.proofs.Common.{◌≡◌, ℕ, zero, suc, ◌+◌, ◌*◌, ◌<�
 use Rattle.std.specs.Prelude.{slice_get, slice_set, slice_index_or, nat_lt, ◌≢◌}
 use Rattle.std.proofs.lemmas.Bool.{cond-true, cond-false, cases_lt, lt-ltb, le-ltb}
 use Rattle.std.proofs.lemmas.Option.{none-some, same_Some, slice_get_within, slice_get-get_or, get_or_from_slice_get}
-use Rattle.dg_waves.proofs.Waved.{set_other}
+use Rattle.math_list.proofs.Places.{set_other, held}
 use Rattle.hw_net.specs.declared.netlist.Frame.{Frame}
 use Rattle.hw_net.specs.declared.netlist.Net.{Net}
 use Rattle.hw_net.specs.declared.netlist.NetKind.{NetKind}
@@ -14,7 +14,6 @@ use Rattle.hw_net.specs.Frames.{counted_frame, IsCounter}
 use Rattle.hw_net.specs.Netlist.{reads, reads_now, IsRanked}
 use Rattle.hw_net.specs.Growing.{Appends, MayReadNow, IsReopened, IsConnected}
 use Rattle.hw_net.proofs.Growing.{longer, stood-there}
-use Rattle.fx_io.proofs.Places.{held}
 use Rattle.hw_net.specs.Growing.{IsNewReg}
 use Rattle.hw_build.specs.inner.Growth.{GoesOn}
 use Rattle.hw_build.specs.inner.Levels.{IsLevelled, level_of, net_at, level_behind}

@@ -4,7 +4,7 @@ use Rattle.std.specs.Prelude.{⊤, is_some, slice_get}
 use Rattle.std.specs.List.{flat_map}
 use Rattle.std.proofs.lemmas.Bool.{and_from, and_parts, eq-eqb, eqb-true}
 use Rattle.std.proofs.lemmas.Option.{none-some, same_Some, slice_get-get_or, slice_get_within}
-use Rattle.dg_waves.specs.Rounds.{numbers_from}
+use Rattle.math_list.specs.Numbers.{numbers_from}
 use Rattle.dg_model.specs.declared.diagram.Diagram.{Diagram}
 use Rattle.dg_model.specs.declared.resolved.Resolved.{Resolved}
 use Rattle.dg_model.specs.Attributes.{attributes_of}
@@ -24,11 +24,11 @@ use Rattle.hw_build.specs.inner.Wants.{source_by, AreFolded}
 use Rattle.hw_build.proofs.Counting.{Stands}
 use Rattle.hw_build.proofs.Fewer.{asked_of}
 use Rattle.hw_build.proofs.FewLines.{every_filter}
-use Rattle.fx_io.proofs.Places.{map_there}
+use Rattle.math_list.proofs.Places.{map_there}
 use Rattle.hw_build.proofs.FewChains.{kept, feed_for, uses_are, filter_holds}
 use Rattle.hw_build.proofs.LineUses.{IsLineUse, every_use}
 use Rattle.hw_build.proofs.Feeding.{feed_same}
-use Rattle.fx_io.proofs.Tests.{none_of}
+use Rattle.math_list.proofs.Tests.{none_of}
 use Rattle.hw_build.proofs.Putting.{timing}
 
 -- ---- where things stand

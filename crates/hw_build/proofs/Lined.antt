@@ -1,7 +1,7 @@
 -- What the code finds of a line by its arc is what a chain is asked for.
 use Rattle.std.proofs.Common.{◌≡◌, ℕ, ◌+◌, ◌-◌, ◌<◌, ◌≤◌, ℤ, pos, Bool, Option, None, Some, ap, sym, ◌∙◌, subst, refl, arith}
 use Rattle.std.specs.Prelude.{◌^◌, is_some, slice_get}
-use Rattle.fx_num.specs.Word.{IsWord, InWord}
+use Rattle.math_num.specs.Word.{IsWord, InWord}
 use Rattle.fx_type.specs.declared.kind.FxType.{FxType}
 use Rattle.fx_type.specs.FxType.{IsType, InRange, is_signed, width_of}
 use Rattle.fx_type.proofs.Ranges.{InRange-zero, type-word, range-word}

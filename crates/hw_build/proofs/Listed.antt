@@ -6,7 +6,7 @@ use Rattle.std.proofs.lemmas.Option.{none-some, same_Some}
 use Rattle.hw_net.specs.declared.netlist.Net.{Net}
 use Rattle.hw_net.specs.declared.netlist.NetKind.TheVariants.{Unit}
 use Rattle.hw_build.specs.Serving.{Factors, unit_factors}
-use Rattle.fx_io.proofs.Places.{get_right}
+use Rattle.math_list.proofs.Places.{get_right}
 
 module _ {A B : Type 0} (f : A → List B) where
   -- an element with one stands behind those of the elements before it

@@ -4,7 +4,7 @@ use Rattle.std.specs.Prelude.{slice_get, slice_index_or, get_or}
 use Rattle.std.proofs.lemmas.List.{length-map, append-nil}
 use Rattle.std.proofs.lemmas.Option.{none-some, slice_get_within, slice_get-get_or}
 use Rattle.hw_net.specs.declared.netlist.NetLabel.{NetLabel}
-use Rattle.hw_net.proofs.Growing.{split-last}
+use Rattle.math_list.proofs.Places.{split-last, map_there, there_map}
 use Rattle.hw_net.specs.Emittable.{IsLabelName, AreLabels}
 use Rattle.hw_build.specs.Multiplied.{multiplication_name}
 use Rattle.hw_build.specs.Pipelined.{stage_name}
@@ -14,7 +14,6 @@ use Rattle.hw_build.specs.inner.Piping.{stage_labels}
 use Rattle.hw_build.specs.inner.Tally.{product_labels}
 use Rattle.hw_build.proofs.Labelling.{name_labelled, name_injective, mark_same}
 use Rattle.hw_build.proofs.Porting.{map_more}
-use Rattle.fx_io.proofs.Places.{map_there, there_map}
 
 pub apart_none : (hub_of : Mark → ℕ) (count hub begin stages : ℕ) → AreApart hub_of [] count hub begin stages
 apart_none hub_of count hub begin stages = record {

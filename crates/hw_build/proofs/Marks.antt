@@ -16,7 +16,8 @@ use Rattle.hw_net.specs.declared.netlist.NetLabel.{NetLabel}
 use Rattle.hw_net.specs.Circuit.{Circuit}
 use Rattle.hw_net.specs.Frames.{counter_of, counted_frame, IsCounterAt}
 use Rattle.hw_net.specs.Growing.{Extends, IsCounted, IsConnected, with_net}
-use Rattle.hw_net.proofs.Growing.{split-last, front-of, stood-there}
+use Rattle.hw_net.proofs.Growing.{stood-there}
+use Rattle.math_list.proofs.Places.{split-last, get_front, get_right}
 use Rattle.hw_sched.specs.Slots.{Timing as Times}
 use Rattle.hw_shows.specs.Timing.{Timing}
 use Rattle.hw_build.specs.declared.pipelines.Piped.{Piped}
@@ -28,7 +29,6 @@ use Rattle.hw_build.specs.inner.Tally.{product_labels}
 use Rattle.hw_build.proofs.Levels.{given, connected_here, connected_elsewhere, connected_length}
 use Rattle.hw_build.proofs.Marking.{apart_none, apart_stages, apart_product}
 use Rattle.hw_build.proofs.Piping.{with_labels, count_stages}
-use Rattle.fx_io.proofs.Places.{get_right}
 
 -- ---- Counters of a pipeline
 
@@ -86,7 +86,7 @@ module _ (timing : Timing) (before after : Circuit) (type : FxType) (block eleme
   kept_net k low =
       let size = counted_size before adds.counted (own_frame timing period block) adds.is_counted in
       let sum = length-append adds.counted.nets (wire_of type entry ∷ []) in
-      ap (λ (nets : List Net). slice_get nets k) all_nets ∙ front-of wired staged k (omega (arith, low, size, sum)) ∙ front-of adds.counted.nets (wire_of type entry ∷ []) k (omega (arith, low, size))
+      ap (λ (nets : List Net). slice_get nets k) all_nets ∙ get_front wired staged k (omega (arith, low, size, sum)) ∙ get_front adds.counted.nets (wire_of type entry ∷ []) k (omega (arith, low, size))
 
   total_size : length after.nets ≡ begin + suc (timing.stages block)
   total_size =
@@ -101,7 +101,7 @@ module _ (timing : Timing) (before after : Circuit) (type : FxType) (block eleme
   pipe_frame k frame past at =
       let whole : slice_get (wired ++ staged) k ≡ Some at.net = ap (λ (nets : List Net). slice_get nets k) (sym all_nets) ∙ at.is in
       elim (cases_lt k (length wired)) [
-        | inl less ↦ elim (split-last adds.counted.nets (wire_of type entry) at.net k (sym (front-of wired staged k less) ∙ whole)) [
+        | inl less ↦ elim (split-last adds.counted.nets (wire_of type entry) at.net k (sym (get_front wired staged k less) ∙ whole)) [
           | inl front ↦ same_Some (own_frame timing period block) frame (ap counted_frame (sym (counted_kind before adds.counted (own_frame timing period block) adds.is_counted k at.net past front.1)) ∙ at.counts)
           | inr last ↦ absurd (none-some frame (ap (λ (n : Net). counted_frame n.kind) last.1 ∙ at.counts))
         ]

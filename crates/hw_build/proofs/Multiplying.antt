@@ -22,7 +22,7 @@ use Rattle.hw_build.specs.Serving.{unit_factors, op_factors, own_factors, others
 use Rattle.hw_build.specs.inner.Factors.{AddsConstants}
 use Rattle.hw_build.specs.inner.Levels.{level_behind, level_of, net_at}
 use Rattle.hw_build.specs.inner.Multiplying.{HasNoUnits}
-use Rattle.fx_io.proofs.Places.{get_right}
+use Rattle.math_list.proofs.Places.{get_right}
 use Rattle.hw_build.proofs.Sharing.{no_factors}
 
 -- ---- kinds of nets

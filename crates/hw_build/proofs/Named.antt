@@ -14,7 +14,7 @@ use Rattle.hw_names.specs.Names.{own_names, undoubled, element_name, Given, want
 use Rattle.hw_build.specs.inner.Porting.{ArePortsFor}
 use Rattle.hw_names.specs.Taken.{AreTaken, taken_by}
 use Rattle.hw_build.proofs.Naming.{IsWanted, names_are, names_differ, plain_element}
-use Rattle.fx_io.proofs.Places.{map_there, there_map}
+use Rattle.math_list.proofs.Places.{map_there, there_map}
 
 abbrev pub name_of : NetPort → List ℕ
 name_of port = port.name

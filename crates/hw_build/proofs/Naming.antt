@@ -1,4 +1,4 @@
--- The names that are given are such as ports have, and differ. Crates above may cite this file.
+-- The names that are given are such as ports have, and differ.
 use Prim.Native.Char.{code}
 use Rattle.std.proofs.Common.{◌≡◌, ◌≢◌, ℕ, zero, suc, ◌^◌, ◌<◌, inl, inr, Bool, true, false, List, [], ◌∷◌, ◌++◌, length, Contains, codes, decimal, ap, sym, ◌∙◌, subst, refl, arith, if◌then◌else◌}
 use Rattle.std.specs.Prelude.{nat_eq, nat_lt, not, map, ◌&&◌, slice_index_or, drop}

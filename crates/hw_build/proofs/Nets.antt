@@ -5,7 +5,7 @@ use Rattle.std.specs.Ordering.{int_eq}
 use Rattle.std.proofs.lemmas.Bool.Decides.{Decides-int_eq}
 use Rattle.std.proofs.lemmas.Bool.{false≢true}
 use Rattle.std.proofs.Common.{true≢false}
-use Rattle.fx_num.specs.Word.{IsWord, InWord, IsWrapped}
+use Rattle.math_num.specs.Word.{IsWord, InWord, IsWrapped}
 use Rattle.hw_net.specs.declared.netlist.Net.{Net}
 use Rattle.hw_net.specs.declared.netlist.NetKind.{NetKind}
 use Rattle.hw_net.specs.declared.netlist.NetKind.TheVariants.{Comb, Reg, EnReg}
@@ -19,7 +19,7 @@ use Rattle.hw_shows.specs.Timing.{Timing}
 use Rattle.hw_shows.specs.Series.{AreSame, steady, span_at, IsSeries, IsEnabledSeries, IsChosen}
 use Rattle.hw_build.specs.inner.Growth.{GoesOn, InLater}
 use Rattle.hw_build.proofs.Growth.{net_later, word_later, shown_later}
-use Rattle.hw_net.proofs.Numbers.{wrapped-is}
+use Rattle.math_num.proofs.Words.{wrapped-is}
 use Rattle.hw_build.proofs.Words.{shows_word}
 
 -- the net stands at its number for good

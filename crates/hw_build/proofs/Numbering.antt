@@ -4,16 +4,15 @@ use Rattle.std.proofs.lemmas.List.{append-nil}
 use Rattle.std.specs.Prelude.{slice_get}
 use Rattle.std.specs.List.{flat_map}
 use Rattle.std.proofs.lemmas.Bool.{cases_lt, cond-true}
-use Rattle.dg_waves.specs.Rounds.{numbers_from}
+use Rattle.math_list.specs.Numbers.{numbers_from}
 use Rattle.dg_model.specs.declared.diagram.Diagram.{Diagram}
 use Rattle.dg_model.specs.declared.resolved.Resolved.{Resolved}
 use Rattle.dg_model.specs.Attributes.{attributes_of}
 use Rattle.hw_latency.specs.Shared.{is_shared}
-use Rattle.hw_net.proofs.Growing.{front-some}
+use Rattle.math_list.proofs.Places.{get_left, get_right}
 use Rattle.hw_sched.specs.Laws.{IsOperation}
 use Rattle.hw_sched.specs.Slots.{Operation, operation, operations_of, shared_operations}
 use Rattle.hw_build.specs.inner.ResultNets.{shared_width, first_operation}
-use Rattle.fx_io.proofs.Places.{get_right}
 use Rattle.hw_build.proofs.Operations.{those_from, element_there}
 
 mapped_count : (block from n : ℕ) → length (map (operation block) (numbers_from from n)) ≡ n
@@ -77,7 +76,7 @@ module _ (diagram : Diagram) (plan : Resolved) where
       let last : those 0 (suc n) ≡ those 0 n ++ own n = those_last 0 n ∙ ap (λ (k : ℕ). those 0 n ++ own k) z in
       ap (λ (xs : List Operation). slice_get xs (first_operation diagram plan block + element)) last
       ∙ elim (cases_lt block n) [
-        | inl less ↦ front-some (those 0 n) (own n) (first_operation diagram plan block + element) (operation block element) (there_in n block element less shared below)
+        | inl less ↦ get_left (those 0 n) (own n) (first_operation diagram plan block + element) (operation block element) (there_in n block element less shared below)
         | inr past ↦
             let same : block ≡ n = omega (arith, inside, past) in
             let place : first_operation diagram plan block + element ≡ length (those 0 n) + element =

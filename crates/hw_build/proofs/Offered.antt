@@ -27,7 +27,7 @@ use Rattle.hw_build.specs.inner.Multiplying.{ArePlacesBelow}
 use Rattle.hw_build.specs.inner.UnderWay.{HaveOperands}
 use Rattle.hw_build.proofs.Factoring.{shared_multiplies}
 use Rattle.hw_build.proofs.Serving.{multiplies_shape, multiplies_shown}
-use Rattle.fx_io.proofs.Places.{held}
+use Rattle.math_list.proofs.Places.{held}
 use Rattle.hw_build.proofs.Widths.{repeated_into}
 
 some_by_lag : (source own : ℕ) (lag : Option ℕ) → 0 < source → 0 < own → 0 < count_by_lag source own lag

@@ -19,7 +19,7 @@ use Rattle.hw_build.specs.inner.HubPlaces.{hub_at}
 use Rattle.hw_build.specs.inner.Outgoing.{IsSmall, clocks_to, AreOutputBlocks, IsOutputPort, AddsOutputs}
 use Rattle.hw_build.specs.inner.Porting.{AreOutputFirsts}
 use Rattle.hw_build.proofs.Porting.{output_of, output_column, output_ports_more}
-use Rattle.hw_slots.proofs.Sums.{greatest_at}
+use Rattle.math_list.proofs.Sums.{greatest_at}
 
 -- what is read at a place that is there
 pub read_at : (xs : List ℕ) (k x : ℕ) → k < length xs → x ≡ slice_index_or xs k x → x ≡ slice_index_or xs k 0

@@ -20,7 +20,7 @@ use Rattle.dg_model.specs.Wired.{Joins, MayStand}
 use Rattle.dg_model.specs.Wires.{repeated, type_into, types_into}
 use Rattle.dg_tables.specs.Fit.{HasLists}
 use Rattle.hw_net.specs.Circuit.{Circuit}
-use Rattle.fx_io.proofs.Places.{held}
+use Rattle.math_list.proofs.Places.{held}
 use Rattle.hw_lower.specs.Lowered.{AreArgs}
 use Rattle.hw_sched.specs.Chained.{first_list}
 use Rattle.hw_build.specs.declared.site.Site.{Site}

@@ -3,7 +3,7 @@ use Rattle.std.proofs.Common.{◌≡◌, ℕ, ◌+◌, ◌<◌, List, [], ◌∷
 use Rattle.std.specs.Prelude.{slice_index_or}
 use Rattle.std.proofs.lemmas.Bool.{cases_lt}
 use Rattle.std.proofs.lemmas.List.{length-append}
-use Rattle.dg_waves.specs.Rounds.{numbers_from}
+use Rattle.math_list.specs.Numbers.{numbers_from}
 use Rattle.dg_model.specs.declared.diagram.Block.{Block}
 use Rattle.dg_model.specs.declared.diagram.Diagram.{Diagram}
 use Rattle.dg_model.specs.declared.kind.Kind.TheVariants.{Mux}
@@ -14,7 +14,7 @@ use Rattle.hw_build.specs.declared.blocks.Setting.{Setting}
 use Rattle.hw_build.specs.inner.Looping.{diagram_of}
 use Rattle.hw_build.specs.inner.Offers.{AreBegins, ArePartsTo, Offer}
 use Rattle.hw_build.specs.inner.Operands.{offered_at}
-use Rattle.dg_tables.proofs.Lists.{sum_last}
+use Rattle.math_list.proofs.Sums.{sum_last}
 use Rattle.hw_build.proofs.EnteringParts.{mux_offered}
 use Rattle.hw_build.proofs.Placing.{front_read}
 use Rattle.hw_build.proofs.Tallying.{at_last}

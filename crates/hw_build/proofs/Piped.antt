@@ -3,7 +3,7 @@ use Rattle.std.proofs.Common.{◌≡◌, ℕ, zero, suc, ◌+◌, ◌-◌, ◌*�
 use Rattle.std.specs.Prelude.{slice_get}
 use Rattle.std.proofs.lemmas.Bool.{cases_lt}
 use Rattle.std.proofs.lemmas.Option.{none-some, same_Some}
-use Rattle.fx_num.specs.Word.{IsWord}
+use Rattle.math_num.specs.Word.{IsWord}
 use Rattle.fx_type.specs.declared.kind.FxType.{FxType}
 use Rattle.fx_type.specs.FxType.{is_signed, width_of}
 use Rattle.hw_net.specs.declared.netlist.Frame.{Frame}
@@ -12,7 +12,8 @@ use Rattle.hw_net.specs.Circuit.{Circuit}
 use Rattle.hw_net.specs.Frames.{counter_of}
 use Rattle.hw_net.specs.Growing.{with_net, Appends, Extends, MayRead, MayReadNow}
 use Rattle.hw_net.specs.Netlist.{HasWord}
-use Rattle.hw_net.proofs.Growing.{last-of, front-of, extends-trans, extends-one, longer, word-stays, counter-stays, differ-other, appends-counter, appends-one, appends-trans}
+use Rattle.hw_net.proofs.Growing.{extends-trans, extends-one, longer, word-stays, counter-stays, differ-other, appends-counter, appends-one, appends-trans}
+use Rattle.math_list.proofs.Places.{last_at, get_front}
 use Rattle.hw_shows.specs.Timing.{Timing}
 use Rattle.hw_build.specs.inner.Piping.{own_frame, wire_of, stage_net, stage_nets, stage_labels, AddsPipeline}
 use Rattle.hw_build.proofs.Piping.{with_nets, count_stages}
@@ -35,11 +36,11 @@ at_stage nets type frame slot begin (suc count) k below =
     let sum : length (nets ++ own) ≡ length nets + count = length-append nets own ∙ ap (λ (n : ℕ). length nets + n) (count_stages type frame slot begin count) in
     ap (λ (all : List Net). slice_get all (length nets + k)) (sym split)
     ∙ elim (cases_lt k count) [
-      | inl less ↦ front-of (nets ++ own) (one ∷ []) (length nets + k) (omega (arith, sum, less)) ∙ at_stage nets type frame slot begin count k less
+      | inl less ↦ get_front (nets ++ own) (one ∷ []) (length nets + k) (omega (arith, sum, less)) ∙ at_stage nets type frame slot begin count k less
       | inr past ↦
           let e : count ≡ k = omega (arith, past, below) in
           let place : length nets + k ≡ length (nets ++ own) = omega (arith, sum, e) in
-          ap (slice_get ((nets ++ own) ++ one ∷ [])) place ∙ last-of (nets ++ own) one ∙ ap (λ (n : ℕ). Some (stage_net type frame slot (begin + n))) e
+          ap (slice_get ((nets ++ own) ++ one ∷ [])) place ∙ last_at (nets ++ own) one ∙ ap (λ (n : ℕ). Some (stage_net type frame slot (begin + n))) e
     ]
 
 module _ (timing : Timing) (before after : Circuit) (type : FxType) (block element period entry begin : ℕ) (adds : AddsPipeline timing before after type block element period entry begin)
@@ -85,7 +86,7 @@ module _ (timing : Timing) (before after : Circuit) (type : FxType) (block eleme
   pub wire_at : slice_get bare.nets begin ≡ Some (wire_of type entry)
   wire_at =
       let size = wired_size in
-      front-of wired.nets (stage_nets type frame slot begin (timing.stages block)) begin (omega (arith, size)) ∙ ap (slice_get wired.nets) adds.begins ∙ last-of adds.counted.nets (wire_of type entry)
+      get_front wired.nets (stage_nets type frame slot begin (timing.stages block)) begin (omega (arith, size)) ∙ ap (slice_get wired.nets) adds.begins ∙ last_at adds.counted.nets (wire_of type entry)
 
   pub stage_at : (k : ℕ) → k < timing.stages block → slice_get bare.nets (begin + suc k) ≡ Some (stage_net type frame slot (begin + k))
   stage_at k below =
@@ -133,7 +134,7 @@ module _ (timing : Timing) (before after : Circuit) (type : FxType) (block eleme
       let place : begin + 0 ≡ begin = omega arith in
       record {
         net = wire_of type entry;
-        is = ap (slice_get (staged 0).nets) place ∙ front-of wired.nets [] begin (omega (arith, size)) ∙ ap (slice_get wired.nets) adds.begins ∙ last-of adds.counted.nets (wire_of type entry);
+        is = ap (slice_get (staged 0).nets) place ∙ get_front wired.nets [] begin (omega (arith, size)) ∙ ap (slice_get wired.nets) adds.begins ∙ last_at adds.counted.nets (wire_of type entry);
         wide = refl;
         sign = refl;
       }
@@ -143,7 +144,7 @@ module _ (timing : Timing) (before after : Circuit) (type : FxType) (block eleme
       let place : begin + suc count ≡ length (staged count).nets = omega (arith, size) in
       record {
         net = one;
-        is = ap (λ (c : Circuit). slice_get c.nets (begin + suc count)) (staged_next count) ∙ ap (slice_get (with_net (staged count) one).nets) place ∙ last-of (staged count).nets one;
+        is = ap (λ (c : Circuit). slice_get c.nets (begin + suc count)) (staged_next count) ∙ ap (slice_get (with_net (staged count) one).nets) place ∙ last_at (staged count).nets one;
         wide = refl;
         sign = refl;
       }

@@ -11,7 +11,8 @@ use Rattle.hw_net.specs.declared.netlist.NetLabel.{NetLabel}
 use Rattle.hw_net.specs.Circuit.{Circuit}
 use Rattle.hw_net.specs.Frames.{counter_of}
 use Rattle.hw_net.specs.Growing.{with_net, IsCounted, IsResize}
-use Rattle.hw_net.proofs.Growing.{appends-counter, front-some, still-there}
+use Rattle.hw_net.proofs.Growing.{appends-counter, still-there}
+use Rattle.math_list.proofs.Places.{get_left}
 use Rattle.hw_shows.specs.Timing.{Timing}
 use Rattle.hw_build.specs.Pipelined.{stage_name}
 use Rattle.hw_build.specs.inner.Piping.{own_frame, wire_of, stage_net, stage_nets, stage_labels, AddsPipeline, IsPipedBy}
@@ -119,7 +120,7 @@ resize_kept diagram timing before after block element entry k piped some put is 
         let grown = (appends-counter before adds.counted [] (own_frame timing p block) (some p is_period) adds.is_counted).extends in
         let wire : Net = wire_of ((attributes_of diagram).type_at block 1) entry in
         let there : slice_get ((adds.counted.nets ++ wire ∷ []) ++ stage_nets ((attributes_of diagram).type_at block 1) (own_frame timing p block) (p * timing.cycles - 1) piped.begin (timing.stages block)) k ≡ Some is.net =
-        front-some (adds.counted.nets ++ wire ∷ []) (stage_nets ((attributes_of diagram).type_at block 1) (own_frame timing p block) (p * timing.cycles - 1) piped.begin (timing.stages block)) k is.net
-        (front-some adds.counted.nets (wire ∷ []) k is.net (still-there before adds.counted k is.net grown is.is))
+        get_left (adds.counted.nets ++ wire ∷ []) (stage_nets ((attributes_of diagram).type_at block 1) (own_frame timing p block) (p * timing.cycles - 1) piped.begin (timing.stages block)) k is.net
+        (get_left adds.counted.nets (wire ∷ []) k is.net (still-there before adds.counted k is.net grown is.is))
         in
         record { net = is.net; args = is.args; is = ap (λ (c : Circuit). slice_get c.nets k) adds.grown ∙ there; resizes = is.resizes }

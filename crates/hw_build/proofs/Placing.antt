@@ -15,7 +15,8 @@ use Rattle.dg_model.specs.Widths.{widths_of}
 use Rattle.hw_net.specs.declared.netlist.Net.{Net}
 use Rattle.hw_net.specs.Circuit.{Circuit}
 use Rattle.hw_net.specs.Growing.{Extends, with_net}
-use Rattle.hw_net.proofs.Growing.{last-of, front-of, extends-self, extends-one, extends-trans, one-longer, still-there}
+use Rattle.hw_net.proofs.Growing.{extends-self, extends-one, extends-trans, one-longer, still-there}
+use Rattle.math_list.proofs.Places.{last_at, get_front}
 use Rattle.hw_sched.proofs.Widths.{widths_at}
 use Rattle.hw_build.specs.inner.HubPlaces.{before, hub_of, input_net, is_output_role, own_count, own_hubs, hub_start, IsFresh, AddsFresh, AddsPorts, AreFirsts, AddsBlock, AddsBlocks, AddsInputs}
 
@@ -49,7 +50,7 @@ fresh_one now later number type at fits grown = record {
   each = λ k low high.
       let size = one-longer now later (hub_of type) grown in
       let same : k ≡ length now.nets = omega (arith, low, high, size) in
-      (ap (slice_get later.nets) same ∙ ap (λ (x : Circuit). slice_get x.nets (length now.nets)) grown ∙ last-of now.nets (hub_of type), omega (arith, same, at, fits));
+      (ap (slice_get later.nets) same ∙ ap (λ (x : Circuit). slice_get x.nets (length now.nets)) grown ∙ last_at now.nets (hub_of type), omega (arith, same, at, fits));
 }
 
 -- ---- of a block
@@ -57,10 +58,10 @@ fresh_one now later number type at fits grown = record {
 -- what a list with one more has at its places
 pub front_read : (firsts : List ℕ) (first port : ℕ) → port < length firsts → slice_index_or (firsts ++ first ∷ []) port 0 ≡ slice_index_or firsts port 0
 front_read firsts first port below =
-    get_or_from_slice_get (firsts ++ first ∷ []) port (slice_index_or firsts port 0) 0 (front-of firsts (first ∷ []) port below ∙ slice_get-get_or firsts port 0 below)
+    get_or_from_slice_get (firsts ++ first ∷ []) port (slice_index_or firsts port 0) 0 (get_front firsts (first ∷ []) port below ∙ slice_get-get_or firsts port 0 below)
 
 last_read : (firsts : List ℕ) (first : ℕ) → slice_index_or (firsts ++ first ∷ []) (length firsts) 0 ≡ first
-last_read firsts first = get_or_from_slice_get (firsts ++ first ∷ []) (length firsts) first 0 (last-of firsts first)
+last_read firsts first = get_or_from_slice_get (firsts ++ first ∷ []) (length firsts) first 0 (last_at firsts first)
 
 pub ports_none : (now : Circuit) (type : FxType) (size : ℕ → ℕ) (firsts : List ℕ) → firsts ≡ [] → AddsPorts now now type size firsts 0
 ports_none now type size firsts none = record {
@@ -109,10 +110,10 @@ own_input false count is = absurd (false≢true is)
 
 front_list : (lists : List (List ℕ)) (list : List ℕ) (place : ℕ) → place < length lists → slice_index_or (lists ++ list ∷ []) place [] ≡ slice_index_or lists place []
 front_list lists list place below =
-    get_or_from_slice_get (lists ++ list ∷ []) place (slice_index_or lists place []) [] (front-of lists (list ∷ []) place below ∙ slice_get-get_or lists place [] below)
+    get_or_from_slice_get (lists ++ list ∷ []) place (slice_index_or lists place []) [] (get_front lists (list ∷ []) place below ∙ slice_get-get_or lists place [] below)
 
 last_list : (lists : List (List ℕ)) (list : List ℕ) → slice_index_or (lists ++ list ∷ []) (length lists) [] ≡ list
-last_list lists list = get_or_from_slice_get (lists ++ list ∷ []) (length lists) list [] (last-of lists list)
+last_list lists list = get_or_from_slice_get (lists ++ list ∷ []) (length lists) list [] (last_at lists list)
 
 pub blocks_none : (diagram : Diagram) (now : Circuit) (columns : List ℕ) (firsts : List (List ℕ)) → firsts ≡ [] → length now.nets ≡ hub_start diagram 0 → AddsBlocks diagram now now columns firsts 0
 blocks_none diagram now columns firsts none size = record {
@@ -182,7 +183,7 @@ inputs_more diagram earlier now later inputs count column is at grown = record {
             let size = is.size in
             let there : count ≡ length now.nets = sym size in
             let block_is : column ≡ block = same_Some column block (sym at ∙ ap (slice_get inputs) (sym same) ∙ block_at) in
-            ap (slice_get later.nets) (same ∙ there) ∙ ap (λ (x : Circuit). slice_get x.nets (length now.nets)) grown ∙ last-of now.nets new
+            ap (slice_get later.nets) (same ∙ there) ∙ ap (λ (x : Circuit). slice_get x.nets (length now.nets)) grown ∙ last_at now.nets new
             ∙ ap (λ (x : ℕ). Some (input_net ((attributes_of diagram).type_at x 1) count)) block_is ∙ ap (λ (x : ℕ). Some (input_net ((attributes_of diagram).type_at block 1) x)) (sym same)
       ];
 }

@@ -12,7 +12,7 @@ use Rattle.dg_model.specs.Wires.{width_into}
 use Rattle.hw_latency.specs.Weight.{samples as samples_of}
 use Rattle.hw_net.specs.declared.netlist.NetPort.{NetPort}
 use Rattle.hw_net.specs.Circuit.{Circuit}
-use Rattle.hw_net.proofs.Growing.{split-last}
+use Rattle.math_list.proofs.Places.{split-last, there_map, map_there}
 use Rattle.hw_sched.specs.Ready.{declared_latency}
 use Rattle.hw_sched.specs.Slots.{Timing as Times}
 use Rattle.hw_names.specs.declared.names.Names.{Names}
@@ -26,7 +26,6 @@ use Rattle.dg_model.specs.Laws.{InputsAreListed, OutputsAreListed, AreRootElemen
 use Rattle.dg_tables.specs.Listing.{AreBlocksOf}
 use Rattle.hw_names.proofs.Places.{place_is}
 use Rattle.hw_names.proofs.Taking.{given_more, taken_more}
-use Rattle.fx_io.proofs.Places.{there_map, map_there}
 
 pub take_more : {A : Type 0} (xs : List A) (k : ℕ) (x : A) → slice_get xs k ≡ Some x → take (suc k) xs ≡ take k xs ++ x ∷ []
 take_more [] k x at = absurd (none-some x at)

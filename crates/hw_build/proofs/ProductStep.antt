@@ -52,7 +52,7 @@ use Rattle.hw_build.proofs.ResultNets.{no_asked, are_products, result_there, ope
 use Rattle.hw_build.proofs.Sharing.{IsAskedFor, units_from, in_left, in_right, one_above, units_are_all}
 use Rattle.hw_build.proofs.UnderWay.{by_call}
 use Rattle.hw_build.proofs.Units.{HasAll, product_has, gain_has}
-use Rattle.fx_io.proofs.Places.{held, get_some}
+use Rattle.math_list.proofs.Places.{held, get_some}
 
 no_member : (read : ℕ) → Contains [] read → ⊥
 no_member read names = let below = names.1 in omega (arith, below)

@@ -7,7 +7,7 @@ use mathlib.Core.List.{map-map}
 use Rattle.fx_type.specs.declared.kind.FxType.{FxType}
 use Rattle.fx_type.specs.declared.kind.FxType.TheVariants.{Logical}
 use Rattle.fx_type.specs.FxType.{IsType, InRange, is_signed, width_of}
-use Rattle.dg_waves.specs.Rounds.{numbers_from}
+use Rattle.math_list.specs.Numbers.{numbers_from}
 use Rattle.dg_model.specs.declared.diagram.Diagram.{Diagram}
 use Rattle.dg_model.specs.declared.diagram.Block.{Block}
 use Rattle.dg_model.specs.declared.diagram.Edge.{Edge}
@@ -52,7 +52,7 @@ use Rattle.hw_build.proofs.Searching.{IsLineInto, line_into_is}
 use Rattle.hw_build.proofs.Sources.{IsSourceOf, source_is, repeated_own, output_shown, source_element, serves}
 use Rattle.hw_build.proofs.Storing.{first_in_range, first_is_initial}
 use Rattle.hw_build.proofs.Wanting.{end_may_ask}
-use Rattle.fx_io.proofs.Tests.{some_of, none_of}
+use Rattle.math_list.proofs.Tests.{some_of, none_of}
 use Rattle.hw_build.proofs.Putting.{no_places, timing, period, seen_by, wants_are, count_is, still_put, IsElement, moving_put, uses_are, use_is}
 
 module _ {diagram : Diagram} {order : List ℕ} {plan : Resolved} {times : Times} {firsts : List (List ℕ)} (l : IsLawful diagram order plan times firsts) where

@@ -2,7 +2,7 @@
 use Rattle.std.proofs.Common.{◌≡◌, ℕ, ◌+◌, ◌<◌, ◌≤◌, ◌||◌, inr, true, List, [], length, Option, Some, None, ap, sym, ◌∙◌, subst, refl, arith}
 use Rattle.std.specs.Prelude.{Bool, slice_get, slice_index_or, get_or}
 use Rattle.std.proofs.lemmas.Option.{slice_get_within, slice_get-get_or, get_or_from_slice_get}
-use Rattle.fx_num.specs.Word.{InWord}
+use Rattle.math_num.specs.Word.{InWord}
 use Rattle.fx_round.specs.Laws.{StoringGivesOne}
 use Rattle.fx_type.specs.declared.decimal.Decimal.{Decimal}
 use Rattle.fx_type.specs.declared.spec.TypeSpec.{TypeSpec}

@@ -7,7 +7,7 @@ use Rattle.std.proofs.lemmas.List.{append-nil}
 use Rattle.std.proofs.lemmas.List.Elements.{All-append, All-nil}
 use Rattle.std.proofs.lemmas.Option.{none-some, same_Some, slice_get_within, get_or_from_slice_get}
 use Rattle.hw_net.specs.Circuit.{Circuit}
-use Rattle.hw_net.proofs.Growing.{front-some, last-of, split-last}
+use Rattle.math_list.proofs.Places.{get_left, last_at, split-last}
 use Rattle.hw_lines.specs.declared.source.Use.{Use}
 use Rattle.hw_lines.specs.Chain.{IsSource, IsUse}
 use Rattle.hw_build.specs.declared.wants.Feed.{Feed}
@@ -37,7 +37,7 @@ class_found classes feed number one at same = record { grown = inl refl; has = r
 pub class_new : (old new : List Class) (feed : Feed) (number : ℕ) (one : Class) → number ≡ length old → new ≡ old ++ one ∷ [] → one.feed ≡ feed → one.uses.items ≡ [] → ((c : ℕ) (other : Class) → slice_get old c ≡ Some other → other.feed ≢ feed) → IsClassFor old new feed number
 class_new old new feed number one last grown same none fresh = record {
   grown = inr (one, grown, none, last, fresh);
-  has = record { one = one; is = ap (slice_get new) last ∙ ap (λ (xs : List Class). slice_get xs (length old)) grown ∙ last-of old one; same = same };
+  has = record { one = one; is = ap (slice_get new) last ∙ ap (λ (xs : List Class). slice_get xs (length old)) grown ∙ last_at old one; same = same };
 }
 
 -- ---- the index of classes
@@ -53,13 +53,13 @@ indexed_new old new index more feed number one are last grown same put = record 
 }
   where
     here : slice_get new number ≡ Some one
-    here = ap (slice_get new) last ∙ ap (λ (xs : List Class). slice_get xs (length old)) grown ∙ last-of old one
+    here = ap (slice_get new) last ∙ ap (λ (xs : List Class). slice_get xs (length old)) grown ∙ last_at old one
 
     found_at : (other : Feed) (n : ℕ) (flag : Bool) → is_same_feed feed other ≡ flag → (if flag then Some number else number_at_feed index other) ≡ Some n → HasFeed new other n
     found_at other n true is e = record { one = one; is = ap (slice_get new) (sym (same_Some number n e)) ∙ here; same = same ∙ feed_same feed other is }
     found_at other n false is e =
         let has = are.found other n e in
-        record { one = has.one; is = ap (λ (xs : List Class). slice_get xs n) grown ∙ front-some old (one ∷ []) n has.one has.is; same = has.same }
+        record { one = has.one; is = ap (λ (xs : List Class). slice_get xs n) grown ∙ get_left old (one ∷ []) n has.one has.is; same = has.same }
 
     none_at : (other : Feed) (flag : Bool) → is_same_feed feed other ≡ flag → (if flag then Some number else number_at_feed index other) ≡ None → (c : ℕ) (x : Class) → slice_get new c ≡ Some x → x.feed ≢ other
     none_at other true is e c x at = absurd (none-some number (sym e))
@@ -127,7 +127,7 @@ keeps_self one = record { same = refl; uses = λ p asked at. at }
 stands_mid : (old mid : List Class) (feed : Feed) (number c : ℕ) (one : Class) → IsClassFor old mid feed number → slice_get old c ≡ Some one → slice_get mid c ≡ Some one
 stands_mid old mid feed number c one is at = elim is.grown [
   | inl same ↦ ap (λ (xs : List Class). slice_get xs c) same ∙ at
-  | inr more ↦ ap (λ (xs : List Class). slice_get xs c) more.1 ∙ front-some old (more.0 ∷ []) c one at
+  | inr more ↦ ap (λ (xs : List Class). slice_get xs c) more.1 ∙ get_left old (more.0 ∷ []) c one at
 ]
 
 one_use : (P : Use → Type 0) (uses : List Use) (one : Use) → All P uses → P one → All P (uses ++ one ∷ [])
@@ -167,7 +167,7 @@ module _ (old mid new : List Class) (want : Want) (number place : ℕ) (one now 
           is = ap (slice_get new) e ∙ here;
           keeps = subst (λ (y : Class). KeepsUses y now) it (record {
             same = same;
-            uses = λ p asked stood. ap (λ (uses : List Use). slice_get uses p) grown ∙ front-some one.uses.items (want.to ∷ []) p asked stood;
+            uses = λ p asked stood. ap (λ (uses : List Use). slice_get uses p) grown ∙ get_left one.uses.items (want.to ∷ []) p asked stood;
           });
         }
 
@@ -251,7 +251,7 @@ module _ (old mid new : List Class) (want : Want) (number place : ℕ) (one now 
     before_uses wants folded = elim is.grown [
       | inl kept ↦ (folded.each number one (sym (ap (λ (xs : List Class). slice_get xs number) kept) ∙ at)).uses_are ∙ ap (λ (f : Feed). uses_of_feed f wants) (sym same)
       | inr more ↦
-          let own : ◌≡◌ {A = Class} more.0 one = same_Some more.0 one (sym (ap (slice_get mid) more.3 ∙ ap (λ (xs : List Class). slice_get xs (length old)) more.1 ∙ last-of old more.0) ∙ at) in
+          let own : ◌≡◌ {A = Class} more.0 one = same_Some more.0 one (sym (ap (slice_get mid) more.3 ∙ ap (λ (xs : List Class). slice_get xs (length old)) more.1 ∙ last_at old more.0) ∙ at) in
           sym (ap (λ (y : Class). y.uses.items) own) ∙ more.2
           ∙ sym (uses_none now.feed wants (λ k w w_at. let has = folded.covered k w w_at in λ e. more.4 has.0 has.1.one has.1.is (has.1.same ∙ sym e ∙ feed_is_own)))
     ]
@@ -281,7 +281,7 @@ module _ (old mid new : List Class) (want : Want) (number place : ℕ) (one now 
             subst (λ (y : Class). IsFolded (wants ++ want ∷ []) y) own (record {
               place = length wants;
               want = want;
-              at = last-of wants want;
+              at = last_at wants want;
               same = sym feed_is_want;
               uses_are = grown ∙ ap (λ (xs : List Use). xs ++ want.to ∷ []) (before_uses wants folded) ∙ sym (uses_own now.feed wants want feed_is_want);
             })
@@ -291,7 +291,7 @@ module _ (old mid new : List Class) (want : Want) (number place : ℕ) (one now 
             record {
               place = e.place;
               want = e.want;
-              at = front-some wants (want ∷ []) e.place e.want e.at;
+              at = get_left wants (want ∷ []) e.place e.want e.at;
               same = e.same;
               uses_are = e.uses_are ∙ sym (uses_other x.feed wants want (other_feed wants folded c x in_mid differs));
             }
@@ -303,7 +303,7 @@ module _ (old mid new : List Class) (want : Want) (number place : ℕ) (one now 
         one = now;
         is = here;
         same = feed_is_want;
-        at = ap (slice_get now.uses.items) last ∙ ap (λ (uses : List Use). slice_get uses (length one.uses.items)) grown ∙ last-of one.uses.items want.to;
+        at = ap (slice_get now.uses.items) last ∙ ap (λ (uses : List Use). slice_get uses (length one.uses.items)) grown ∙ last_at one.uses.items want.to;
       };
       folded = folded_more;
       sound = λ net wanted are. record {

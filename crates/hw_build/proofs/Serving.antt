@@ -42,7 +42,7 @@ use Rattle.hw_build.proofs.Assembly.{repeated_one, repeated_more}
 use Rattle.hw_build.proofs.Growth.{goes_same}
 use Rattle.hw_build.proofs.Operations.{of_shared, stands_once}
 use Rattle.hw_build.proofs.Timed.{slot_found}
-use Rattle.fx_io.proofs.Places.{held}
+use Rattle.math_list.proofs.Places.{held}
 use Rattle.hw_build.proofs.Widths.{repeated_into}
 
 -- ---- the kinds that multiply

@@ -3,7 +3,7 @@ use Rattle.std.proofs.Common.{◌≡◌, ℕ, zero, suc, ◌+◌, ◌<◌, ◌�
 use Rattle.std.specs.Prelude.{slice_get, slice_index_or, ◌==◌}
 use Rattle.std.proofs.lemmas.Bool.{false≢true, cases_lt, and_parts, eqb-true}
 use Rattle.std.proofs.lemmas.Option.{none-some, same_Some, slice_get_within}
-use Rattle.fx_num.specs.Word.{IsWord, InWord}
+use Rattle.math_num.specs.Word.{IsWord, InWord}
 use Rattle.hw_net.specs.declared.netlist.Frame.{Frame}
 use Rattle.hw_net.specs.declared.netlist.Net.{Net}
 use Rattle.hw_net.specs.declared.netlist.NetKind.{NetKind}
@@ -15,7 +15,7 @@ use Rattle.hw_net.specs.Frames.{counted_frame, is_frame, counter_from, counter_o
 use Rattle.hw_net.specs.Growing.{Appends, IsReopened, IsConnected}
 use Rattle.hw_net.specs.Netlist.{HasWord, HasBits, HasParts, HoldsProducts, IsKind, reads}
 use Rattle.hw_net.proofs.Growing.{stood-there}
-use Rattle.fx_io.proofs.Places.{held}
+use Rattle.math_list.proofs.Places.{held}
 use Rattle.hw_build.specs.inner.Growth.{GoesOn}
 use Rattle.hw_build.specs.inner.Soundness.{IsSoundNet, AreSound}
 use Rattle.hw_build.proofs.Growth.{goes_appended, still_within, word_later}

@@ -21,7 +21,7 @@ use Rattle.hw_net.specs.Circuit.{Circuit}
 use Rattle.hw_net.proofs.Growing.{extends-trans, still-there}
 use Rattle.hw_sched.proofs.Periods.{readable_at}
 use Rattle.hw_names.specs.Columns.{AreColumnsFrom}
-use Rattle.fx_io.proofs.Places.{there_map}
+use Rattle.math_list.proofs.Places.{there_map}
 use Rattle.hw_names.proofs.Places.{place_is, blocks_there}
 use Rattle.hw_build.specs.inner.HubPlaces.{input_net, is_input_role, AddsBlocks, AddsInputs, HasHubs}
 

@@ -3,7 +3,7 @@ use Rattle.std.proofs.Common.{◌≡◌, ℕ, zero, suc, ◌+◌, ◌-◌, ◌*�
 use Rattle.std.specs.Prelude.{slice_get}
 use Rattle.std.proofs.lemmas.Bool.{cases_lt}
 use Rattle.std.proofs.lemmas.Option.{none-some, same_Some, slice_get_within}
-use Rattle.fx_num.specs.Word.{IsWord}
+use Rattle.math_num.specs.Word.{IsWord}
 use Rattle.fx_type.specs.declared.kind.FxType.{FxType}
 use Rattle.fx_type.specs.FxType.{is_signed, width_of}
 use Rattle.hw_net.specs.declared.netlist.Frame.{Frame}
@@ -14,7 +14,8 @@ use Rattle.hw_net.specs.Circuit.{Circuit}
 use Rattle.hw_net.specs.Frames.{counter_of, register_count}
 use Rattle.hw_net.specs.Growing.{with_net, IsCounted}
 use Rattle.hw_net.specs.Netlist.{reads}
-use Rattle.hw_net.proofs.Growing.{count-append, front-of, split-last, stood-there}
+use Rattle.hw_net.proofs.Growing.{count-append, stood-there}
+use Rattle.math_list.proofs.Places.{get_front, split-last}
 use Rattle.hw_shows.specs.Timing.{Timing}
 use Rattle.hw_build.specs.Serving.{own_factors, unit_factors}
 use Rattle.hw_build.specs.inner.Piping.{own_frame, wire_of, stage_net, stage_nets, AddsPipeline}
@@ -92,7 +93,7 @@ module _ (timing : Timing) (before after : Circuit) (type : FxType) (block eleme
       there_counted early =
           let e = adds.begins in
           let sum = length-append adds.counted.nets (wire_of type entry ∷ []) in
-          sym (front-of (adds.counted.nets ++ wire_of type entry ∷ []) (stage_nets type (own_frame timing period block) (period * timing.cycles - 1) begin (timing.stages block)) k (omega (arith, early, e, sum)) ∙ front-of adds.counted.nets (wire_of type entry ∷ []) k (omega (arith, early, e)))
+          sym (get_front (adds.counted.nets ++ wire_of type entry ∷ []) (stage_nets type (own_frame timing period block) (period * timing.cycles - 1) begin (timing.stages block)) k (omega (arith, early, e, sum)) ∙ get_front adds.counted.nets (wire_of type entry ∷ []) k (omega (arith, early, e)))
           ∙ at
 
       counter : k < begin → (adds.counted ≡ before) ⊎ IsCountedNet before adds.counted → (frame : Frame) × (net.kind ≡ Counter frame)

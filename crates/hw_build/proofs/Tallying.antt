@@ -4,7 +4,7 @@ use Rattle.std.specs.Prelude.{slice_get, slice_set, Bool, if◌then◌else◌}
 use Rattle.std.specs.List.{flat_map}
 use Rattle.std.proofs.lemmas.Bool.{cases_lt}
 use Rattle.std.proofs.lemmas.Option.{none-some, same_Some, get_or_from_slice_get}
-use Rattle.fx_num.specs.Word.{IsWord}
+use Rattle.math_num.specs.Word.{IsWord}
 use Rattle.fx_type.specs.declared.kind.FxType.{FxType}
 use Rattle.fx_type.specs.FxType.{is_signed, width_of}
 use Rattle.dg_model.specs.declared.diagram.Diagram.{Diagram}
@@ -17,7 +17,8 @@ use Rattle.hw_net.specs.declared.netlist.NetOp.TheVariants.{Resize}
 use Rattle.hw_net.specs.Circuit.{Circuit}
 use Rattle.hw_net.specs.Frames.{is_register, register_count}
 use Rattle.hw_net.specs.Growing.{Appends, IsConnected, IsResize}
-use Rattle.hw_net.proofs.Growing.{last-of, still-there}
+use Rattle.hw_net.proofs.Growing.{still-there}
+use Rattle.math_list.proofs.Places.{last_at}
 use Rattle.hw_shows.specs.Timing.{Timing}
 use Rattle.hw_build.specs.Pipelined.{stage_name}
 use Rattle.hw_build.specs.Serving.{multipliers, others, own_factors, unit_factors}
@@ -34,7 +35,7 @@ use Rattle.hw_build.proofs.Turning.{contains_front, pipeline_by_call, pipeline_b
 -- ---- lists that grow at their end
 
 pub at_last : (xs : List ℕ) (x k : ℕ) → k ≡ length xs → slice_index_or (xs ++ x ∷ []) k 0 ≡ x
-at_last xs x k same = get_or_from_slice_get (xs ++ x ∷ []) k x 0 (ap (slice_get (xs ++ x ∷ [])) same ∙ last-of xs x)
+at_last xs x k same = get_or_from_slice_get (xs ++ x ∷ []) k x 0 (ap (slice_get (xs ++ x ∷ [])) same ∙ last_at xs x)
 
 -- the names of registers are among those that were put in
 stage_named : (labels : List NetLabel) (begin block element count k : ℕ) → k < count → Contains (labels ++ stage_labels begin block element count) (record { net = begin + suc k; name = stage_name block element (suc k) })
@@ -49,7 +50,7 @@ stage_named labels begin block element (suc count) k below =
       | inr past ↦
           let e : k ≡ count = omega (arith, past, below) in
           subst (λ (n : ℕ). Contains ((labels ++ own) ++ one ∷ []) (record { net = begin + suc n; name = stage_name block element (suc n) })) (sym e)
-          (let sum = length-append (labels ++ own) (one ∷ []) in (length (labels ++ own), omega (arith, sum), get_or_from_slice_get ((labels ++ own) ++ one ∷ []) (length (labels ++ own)) one one (last-of (labels ++ own) one)))
+          (let sum = length-append (labels ++ own) (one ∷ []) in (length (labels ++ own), omega (arith, sum), get_or_from_slice_get ((labels ++ own) ++ one ∷ []) (length (labels ++ own)) one one (last_at (labels ++ own) one)))
     ])
 
 -- ---- a net in place of another

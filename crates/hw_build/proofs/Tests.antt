@@ -2,19 +2,19 @@
 use Rattle.std.proofs.Common.{◌≡◌, ℕ, Bool, true, false, cond, ℤ, pos, [], ◌∷◌, ap, ◌∙◌, subst, refl, arith}
 use Rattle.std.specs.Prelude.{◌||◌, int_lt, bit_or}
 use Rattle.std.proofs.lemmas.Int.{ints}
-use Rattle.fx_num.specs.Word.{InWord, IsWrapped}
+use Rattle.math_num.specs.Word.{InWord, IsWrapped}
 use Rattle.dg_model.specs.Operation.{stored_truth}
 use Rattle.hw_net.specs.declared.netlist.Net.{Net}
 use Rattle.hw_net.specs.declared.netlist.NetKind.TheVariants.{Comb}
 use Rattle.hw_net.specs.declared.netlist.NetOp.TheVariants.{Less, Or}
 use Rattle.hw_net.specs.Circuit.{Circuit}
-use Rattle.hw_net.specs.Operation.{low_bits}
+use Rattle.math_num.specs.Bits.{low_bits}
 use Rattle.hw_net.specs.Registers.{Wave}
 use Rattle.hw_shows.specs.Series.{AreSame, steady}
 use Rattle.hw_build.specs.inner.Controls.{Tells}
 use Rattle.hw_build.specs.inner.Growth.{InLater}
 use Rattle.hw_build.proofs.Nets.{IsSettled, combined}
-use Rattle.hw_net.proofs.Numbers.{wrapped-is}
+use Rattle.math_num.proofs.Words.{wrapped-is}
 
 -- a truth in a word of one bit
 pub in_bit : (b : Bool) → InWord 1 false (stored_truth b)

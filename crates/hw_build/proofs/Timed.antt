@@ -32,7 +32,7 @@ use Rattle.hw_shows.specs.Timing.{Timing, IsPlainEdge, IsLateEdge, IsEdgeInTime}
 use Rattle.hw_shows.specs.Timed.{lag_of, lag_into, Feeds, IsInTime}
 use Rattle.hw_build.specs.Laws.{SchedulesAreTimed}
 use Rattle.hw_build.specs.Times.{is_element, number_at, slot_by, timing_by}
-use Rattle.fx_io.proofs.Places.{held}
+use Rattle.math_list.proofs.Places.{held}
 
 -- ---- slots
 

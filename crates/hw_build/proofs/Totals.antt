@@ -4,7 +4,7 @@ use Rattle.std.specs.Prelude.{slice_get, nat_lt, not, ◌&&◌, if◌then◌else
 use Rattle.std.specs.List.{sum}
 use Rattle.std.proofs.Math.Nat.{mul-suc, mul-le-mul_left, mul_comm}
 use Rattle.std.proofs.lemmas.Bool.{and_parts, cond-true, cond-false, cases_lt, lt-ltb, le-ltb, false≢true, cases_Bool}
-use Rattle.dg_waves.specs.Rounds.{numbers_from}
+use Rattle.math_list.specs.Numbers.{numbers_from}
 use Rattle.dg_model.specs.declared.diagram.Diagram.{Diagram}
 use Rattle.dg_model.specs.declared.diagram.Block.{Block}
 use Rattle.dg_model.specs.declared.kind.Kind.{Kind}
@@ -23,8 +23,8 @@ use Rattle.hw_latency.specs.Shared.{multiplies, multiplies_if, is_shared}
 use Rattle.hw_sched.specs.Ready.{unshared}
 use Rattle.hw_sched.specs.Storage.{keeps_own, kept_by_role, registers_at, registers_each, registers_in_all}
 use Rattle.hw_sched.proofs.Periods.{readable_at}
-use Rattle.fx_io.proofs.Places.{sum-cons, get_some}
-use Rattle.hw_slots.proofs.Sums.{sum_below, sum_below_next}
+use Rattle.math_list.proofs.Places.{sum-cons, get_some}
+use Rattle.math_list.proofs.Sums.{sum_below, sum_below_next}
 use Rattle.hw_build.specs.inner.HubPlaces.{before, hubs_in_all, is_input_role, own_count, own_hubs, owner_of, port_size}
 use Rattle.hw_build.specs.inner.Tally.{hub_products, hub_registers, products_by, registers_by}
 use Rattle.hw_build.proofs.Beginning.{owner_is}

@@ -12,8 +12,8 @@ use Rattle.hw_net.specs.Circuit.{Circuit}
 use Rattle.hw_net.specs.Frames.{IsCounter, counted_frame}
 use Rattle.hw_net.specs.Growing.{Appends, IsConnected}
 use Rattle.hw_net.specs.Netlist.{reads}
-use Rattle.hw_net.proofs.Growing.{front-of, longer, still-there, stood-there}
-use Rattle.fx_io.proofs.Places.{held}
+use Rattle.hw_net.proofs.Growing.{longer, still-there, stood-there}
+use Rattle.math_list.proofs.Places.{get_front, held}
 use Rattle.hw_shows.specs.Timing.{Timing}
 use Rattle.hw_build.specs.Pipelined.{stage_name}
 use Rattle.hw_build.specs.inner.Piping.{own_frame, stage_net, wire_of}
@@ -28,7 +28,7 @@ contains_front xs ys x is =
     let there : slice_get xs is.0 ≡ Some x = slice_get-get_or xs is.0 x is.1 ∙ ap (λ (l : NetLabel). Some l) is.2 in
     let sum = length-append xs ys in
     let low = is.1 in
-    (is.0, omega (arith, sum, low), get_or_from_slice_get (xs ++ ys) is.0 x x (front-of xs ys is.0 is.1 ∙ there))
+    (is.0, omega (arith, sum, low), get_or_from_slice_get (xs ++ ys) is.0 x x (get_front xs ys is.0 is.1 ∙ there))
 
 only_one : (i argument read : ℕ) → slice_get (argument ∷ []) i ≡ Some read → read ≡ argument
 only_one zero argument read at = sym (same_Some argument read at)

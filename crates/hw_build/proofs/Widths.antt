@@ -17,12 +17,13 @@ use Rattle.dg_model.specs.KindRow.{Shape}
 use Rattle.dg_model.specs.Laws.{WidthsAreOfEdges}
 use Rattle.dg_model.specs.Library.{row_of}
 use Rattle.dg_model.specs.Readable.{IsReadable}
-use Rattle.dg_model.specs.Widths.{width_at, widths_of, input_widths, greatest, list_length, most_width, taken, next_of}
+use Rattle.dg_model.specs.Widths.{width_at, widths_of, input_widths, list_length, most_width, taken, next_of}
+use Rattle.math_list.specs.Numbers.{greatest}
 use Rattle.dg_model.specs.Wires.{at_source, width_into, widths_into}
 use Rattle.hw_shows.specs.Timed.{lag_of}
 use Rattle.hw_build.specs.inner.Facts.{LateAreWide}
-use Rattle.dg_waves.proofs.Waved.{mapped_at}
-use Rattle.fx_io.proofs.Places.{held}
+use Rattle.math_list.proofs.Numbers.{mapped_at}
+use Rattle.math_list.proofs.Places.{held}
 
 -- the width into a port is among those of the inputs
 width_listed : WidthsAreOfEdges → (diagram : Diagram) → IsChecked diagram → (block : ℕ) (b : Block) (port : ℕ) → slice_get diagram.blocks block ≡ Some b → 1 ≤ port → port ≤ b.inputs

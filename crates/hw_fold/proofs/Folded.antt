@@ -17,11 +17,14 @@ use Rattle.hw_net.specs.Products.{Product, net_at, no_net, places, products_of}
 use Rattle.hw_refine.specs.Redirects.{redirected}
 use Rattle.hw_refine.specs.Refines.{IsReadBy, KeepsLabel, face, held_count}
 use Rattle.hw_refine.specs.Represents.{IsRepresented, Represents}
-use Rattle.hw_refine.proofs.Lists.{by-place, combs-in, found, map-get, products-are, stands, units-in, zip-append}
+use Rattle.hw_refine.proofs.Lists.{by-place, combs-in, products-are, units-in}
+use Rattle.math_list.proofs.Elements.{found, stands, all-at, all-in, from-map}
+use Rattle.math_list.proofs.Places.{map_there, there_map}
+use Rattle.math_list.proofs.Zips.{zip-append}
 use Rattle.hw_renumber.specs.Renumbered.{moved_label, moved_net, moved_nets, moved_port, place_in, renumbered}
 use Rattle.hw_renumber.specs.Sound.{CanStay, IsCounted, IsStanding}
 use Rattle.hw_renumber.proofs.Products.{comb-zip, counter-at, further, held-moved, now-read, ones, unit-zip, zip-map}
-use Rattle.hw_renumber.proofs.Sound.{all-at, all-in, image, map-has, reads-moved}
+use Rattle.hw_renumber.proofs.Sound.{reads-moved}
 use Rattle.hw_fold.specs.inner.Folded.{IsFolded}
 use Rattle.hw_fold.specs.inner.Roots.{IsAlone}
 use Rattle.hw_fold.proofs.Numbered.{places-at, places-below, places-is}
@@ -118,7 +121,7 @@ module _ (old : Circuit) (runs : IsNetlist old) (emits : IsEmittable old) (roots
   -- ---- what is kept
 
   at-new : (k : ℕ) → k < count → slice_get new.nets k ≡ Some (moved k)
-  at-new k below = map-has moved (places count) k k (places-at count k below)
+  at-new k below = there_map moved (places count) k k (places-at count k below)
 
   net-new : (k : ℕ) → k < count → net_at new.nets k ≡ moved k
   net-new k below = get_or_from_slice_get new.nets k (moved k) no_net (at-new k below)
@@ -177,22 +180,22 @@ module _ (old : Circuit) (runs : IsNetlist old) (emits : IsEmittable old) (roots
       alone-still : IsReadBy old from label.net → IsReadBy new (root from) (root label.net)
       alone-still b = record {
         alone = λ k new-below read-here.
-            let f = map-get moved (places count) k (net_at new.nets k) (slice_get-get_or new.nets k no_net new-below) in
+            let f = map_there moved (places count) k (net_at new.nets k) (slice_get-get_or new.nets k no_net new-below) in
             let p = places-is count k f.0 f.1 in
             let here = subst (λ (xs : List ℕ). Contains xs (root from)) (reads-moved root (net_at old.nets f.0).kind) (subst (λ (n : Net). Contains (reads n.kind) (root from)) (sym f.2) read-here) in
-            let m = image root (reads (net_at old.nets f.0).kind) (root from) here in
+            let m = from-map root (reads (net_at old.nets f.0).kind) (root from) here in
             let same : m.0 ≡ from = alone.only m.0 (reads-below f.0 m.0 p.0 m.1) (m.2 ∙ alone.own) in
             let e : f.0 ≡ label.net = b.alone f.0 p.0 (subst (Contains (reads (net_at old.nets f.0).kind)) same m.1) in
             sym p.1 ∙ e ∙ sym own;
         unshown = λ port shown e.
-            let m = image (moved_port root) old.outputs port shown in
+            let m = from-map (moved_port root) old.outputs port shown in
             let same : m.0.net ≡ from = alone.only m.0.net (outputs-below m.0 m.1) (ap (λ (p : NetPort). p.net) m.2 ∙ e ∙ alone.own) in
             b.unshown m.0 m.1 same;
       }
 
     label-kept : KeepsLabel old new root label
     label-kept = record {
-      there = stands new.labels c.0 (moved_label root label) (map-has (moved_label root) old.labels c.0 label (found old.labels label c));
+      there = stands new.labels c.0 (moved_label root label) (there_map (moved_label root) old.labels c.0 label (found old.labels label c));
       wide = wide-at label.net below;
       sign = sign-at label.net below;
       multiplies = λ m. record { args = map root m.args; is = kind-at ∙ ap (redirected root) m.is };

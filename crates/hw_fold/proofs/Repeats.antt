@@ -5,7 +5,7 @@ use Rattle.hw_net.specs.declared.netlist.NetKind.{NetKind}
 use Rattle.hw_net.specs.declared.netlist.NetKind.TheVariants.{Comb}
 use Rattle.hw_net.specs.declared.netlist.NetOp.{NetOp}
 use Rattle.hw_net.specs.Netlist.{reads}
-use Rattle.hw_renumber.proofs.Sound.{all-at, all-in}
+use Rattle.math_list.proofs.Elements.{all-at, all-in}
 
 pub maps-same : (f : ℕ → ℕ) (xs ys : List ℕ) → length xs ≡ length ys → ((j : ℕ) → j < length xs → f (slice_index xs j) ≡ f (slice_index ys j)) → map f xs ≡ map f ys
 maps-same f [] [] long each = refl

@@ -11,10 +11,9 @@ use Rattle.hw_net.specs.Products.{places}
 use Rattle.hw_order.specs.Order.{IsOrder}
 use Rattle.hw_refine.specs.Refines.{Refines}
 use Rattle.hw_refine.specs.Represents.{RepresentsRefine}
-use Rattle.hw_refine.proofs.Lists.{stands}
+use Rattle.math_list.proofs.Elements.{stands, all-from, all-in}
 use Rattle.hw_renumber.specs.Renumbered.{CanMove, place_in, renumbered}
 use Rattle.hw_renumber.specs.Sound.{RenumberedEmits, RenumberedRuns}
-use Rattle.hw_renumber.proofs.Sound.{all-from, all-in}
 use Rattle.hw_fold.specs.inner.Folded.{AreSettled, CanFold, IsFolded}
 use Rattle.hw_fold.specs.inner.Pinned.{IsPinned, KeepsMarks, is_marked}
 use Rattle.hw_fold.specs.inner.Roots.{fold_of}

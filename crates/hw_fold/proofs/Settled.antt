@@ -13,7 +13,7 @@ use Rattle.hw_order.specs.Order.{IsOrder}
 use Rattle.hw_refine.specs.Redirects.{redirected}
 use Rattle.hw_renumber.specs.Renumbered.{place_in}
 use Rattle.hw_renumber.proofs.Products.{further}
-use Rattle.hw_renumber.proofs.Sound.{all-at, all-in}
+use Rattle.math_list.proofs.Elements.{all-at, all-in}
 use Rattle.hw_fold.specs.inner.Pinned.{is_marked}
 use Rattle.hw_fold.specs.inner.Folded.{CanFold}
 use Rattle.hw_fold.specs.inner.Roots.{ArePinned, DoesSame, Fold, IsAlone, IsFolding, IsFound, StandsFor, fold_of}

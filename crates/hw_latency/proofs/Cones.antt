@@ -5,7 +5,7 @@ use Rattle.std.proofs.lemmas.Option.{none-some, same_Some, slice_get_within, sli
 use Rattle.dg_model.specs.declared.diagram.Diagram.{Diagram}
 use Rattle.dg_model.specs.Signals.{Attributes}
 use Rattle.dg_model.specs.Loop.{LeadsNow, IsInCone}
-use Rattle.fx_io.proofs.Places.{get_left, get_cases, get_take, get_taken, last_at}
+use Rattle.math_list.proofs.Places.{get_left, get_cases, get_take, get_taken, last_at}
 
 pub cone_self : (diagram : Diagram) (attributes : Attributes) (place : ℕ) → IsInCone diagram attributes place place
 cone_self diagram attributes place = record {

@@ -18,7 +18,7 @@ use Rattle.hw_latency.specs.Control.{control_ever}
 use Rattle.hw_latency.specs.Weight.{arc_between, arc_of, latency_arcs}
 use Rattle.hw_latency.specs.inner.Asked.{IsArcPut, IsControlPut, IsPutBy}
 use Rattle.dg_sort.proofs.Lines.{from_there, to_there, control_there, lines_from, controls_from}
-use Rattle.fx_io.proofs.Places.{push_cases, get_some}
+use Rattle.math_list.proofs.Places.{push_cases, get_some}
 
 -- the arcs of all edges but these are listed
 pub record IsListing (diagram : Diagram) (plan : Resolved) (fed : List Bool) (arcs : List Arc) (rest : List LatencyEdge) : Type 0 where

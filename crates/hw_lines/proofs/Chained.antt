@@ -1,4 +1,4 @@
--- One use after another. Crates above may cite this file.
+-- One use after another.
 use Rattle.std.proofs.Common.{◌≡◌, ℕ, zero, suc, ◌+◌, ◌*◌, ◌/◌, ◌<◌, ◌≤◌, ◌||◌, inl, inr, List, [], ◌∷◌, ◌++◌, take, drop, map, cond, length, All, Contains, Option, None, Some, is_some, slice_get, slice_index_or, Bool, true, false, if◌then◌else◌, ap, sym, ◌∙◌, subst, arith, refl, length-append, mul-le-mul_right}
 use Rattle.std.proofs.Math.Seq.{take-suc, drop-cons}
 use Rattle.std.proofs.lemmas.Option.{none-some, same_Some, slice_get_within, slice_get-get_or, get_or_from_slice_get}
@@ -9,7 +9,8 @@ use Rattle.hw_net.specs.Circuit.{Circuit}
 use Rattle.hw_net.specs.ByFrame.{is_same_frame, number_at_frame}
 use Rattle.hw_net.specs.Frames.{register_count}
 use Rattle.hw_net.proofs.Index.{same-is}
-use Rattle.hw_net.proofs.Growing.{extends-self, split-last}
+use Rattle.hw_net.proofs.Growing.{extends-self}
+use Rattle.math_list.proofs.Places.{split-last, there_map}
 use Rattle.hw_lines.specs.declared.source.Source.{Source}
 use Rattle.hw_lines.specs.declared.source.Use.{Use}
 use Rattle.hw_lines.specs.Chain.{IsSource, IsAnswer, AreAnswers, IsChained, IsCountedIn, reader_of, is_among, different_after, different, most_frames}
@@ -18,7 +19,6 @@ use Rattle.hw_lines.specs.Register.{CanHold, Grows}
 use Rattle.hw_lines.specs.inner.Parts.{AreTaps}
 use Rattle.hw_lines.specs.inner.Ends.{IsEnd, Ends, IsEndFor, PutsEnd, IsDone, frames_of}
 use Rattle.hw_lines.proofs.Steps.{tap-can-hold, taps-stay, answer-stays, grows-wider}
-use Rattle.fx_io.proofs.Places.{there_map}
 
 among-more : (frame : Frame) (frames : List Frame) (one : Frame) → is_among frame (frames ++ one ∷ []) ≡ (is_among frame frames || is_same_frame one frame)
 among-more frame [] one = by (is_same_frame one frame)

@@ -1,4 +1,4 @@
--- The end of a line is an answer for its use. Crates above may cite this file.
+-- The end of a line is an answer for its use.
 use Rattle.std.proofs.Common.{◌≡◌, ℕ, zero, suc, Result, Ok, Err, IfOk, OnOk, ◌+◌, ◌-◌, ◌*◌, ◌/◌, ◌%◌, ◌<◌, ◌≤◌, ◌⊎◌, length, inl, inr, List, Contains, Some, slice_get, Bool, true, false, ap, sym, ◌∙◌, subst, arith, refl}
 use Rattle.std.proofs.Math.Nat.{mul-mod_left}
 use Rattle.std.proofs.lemmas.Nat.{div-add-mod', mod_below}

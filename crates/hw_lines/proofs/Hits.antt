@@ -1,4 +1,4 @@
--- From hits in base samples to frames in clocks. Crates above may cite this file.
+-- From hits in base samples to frames in clocks.
 use Rattle.std.proofs.Common.{◌≡◌, ℕ, zero, suc, ◌+◌, ◌-◌, ◌*◌, ◌/◌, ◌%◌, ◌<◌, ◌≤◌, ℤ, ap, ◌∙◌, arith, subst, mul-le-mul_right}
 use Rattle.std.proofs.lemmas.Nat.{div-add-mod', mul-lt}
 use Rattle.hw_net.specs.Registers.{Wave, Span, IsReg, IsBridge}

@@ -1,10 +1,10 @@
--- A register or a bridge that is put behind a net, after the Counter of its frame. Crates above may cite this file.
+-- A register or a bridge that is put behind a net, after the Counter of its frame.
 use Rattle.std.proofs.Common.{◌≡◌, ℕ, zero, suc, Result, Ok, Err, IfOk, OnOk, ℤ, ◌+◌, ◌*◌, ◌<◌, ◌≤◌, inl, inr, [], ◌∷◌, ◌++◌, length, All, Contains, Option, None, Some, IsSome, slice_get, slice_index_or, true, false, ap, sym, ◌∙◌, subst, arith, refl}
 use Rattle.std.proofs.lemmas.Bool.{cases_lt}
 use Rattle.std.proofs.lemmas.Option.{slice_get_within}
 use Rattle.std.specs.Prelude.{⊤}
 use Rattle.hw_net.specs.Registers.{IsReg, IsBridge}
-use Rattle.fx_num.specs.Word.{IsWord, InWord}
+use Rattle.math_num.specs.Word.{IsWord, InWord}
 use Rattle.hw_net.specs.declared.netlist.Frame.{Frame}
 use Rattle.hw_net.specs.declared.netlist.Net.{Net}
 use Rattle.hw_net.specs.declared.netlist.NetKind.{NetKind}
@@ -14,7 +14,8 @@ use Rattle.hw_net.specs.Frames.{frame_of, counted_frame, counter_of, is_register
 use Rattle.hw_net.specs.Netlist.{IsKind, HasWord, reads, reads_now}
 use Rattle.hw_net.specs.NetRows.{Inputs, Rows, NetShows, span_of}
 use Rattle.hw_net.specs.Growing.{Extends, MayRead, MayReadNow, InRows, Appends, IsCounted, AddsCounter, with_net}
-use Rattle.hw_net.proofs.Growing.{last-of, split-last, longer, extends-one, still-there, stood-there, in-rows-one, in-rows-last, differ-other, appends-one, appends-trans, appends-counter, counter-stays, count-append}
+use Rattle.hw_net.proofs.Growing.{longer, extends-one, still-there, stood-there, in-rows-one, in-rows-last, differ-other, appends-one, appends-trans, appends-counter, counter-stays, count-append}
+use Rattle.math_list.proofs.Places.{last_at, split-last}
 use Rattle.hw_lines.specs.Chain.{IsPart}
 use Rattle.hw_lines.specs.Register.{Adds, Grows, SameWord, IsHeld}
 use Rattle.hw_lines.specs.inner.Parts.{IsBridged}
@@ -60,7 +61,7 @@ module _ (a b : Circuit) (frame : Frame) (some : 0 < frame.period) (counted : Is
     part-extends = extends-one b c one grown
 
     pub part-there : slice_get c.nets number ≡ Some one
-    part-there = ap (λ (x : Circuit). slice_get x.nets number) grown ∙ ap (slice_get (b.nets ++ one ∷ [])) at ∙ last-of b.nets one
+    part-there = ap (λ (x : Circuit). slice_get x.nets number) grown ∙ ap (slice_get (b.nets ++ one ∷ [])) at ∙ last_at b.nets one
 
     source-there : slice_get c.nets from ≡ Some source
     source-there = still-there b c from source part-extends (still-there a b from source counter-grows.extends there)

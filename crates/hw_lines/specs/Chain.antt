@@ -3,7 +3,7 @@ use Rattle.std.specs.Prelude.{◌≡◌, ℕ, ◌+◌, ◌/◌, ◌%◌, ◌^◌
 use Rattle.std.specs.Prelude.{◌==◌, ◌&&◌, not, nat_le, filter}
 use Rattle.std.specs.Prelude.{List, [], ◌∷◌, ◌++◌, map, length, Contains, slice_get, Some, Bool}
 use Rattle.std.specs.Prelude.{true, false, if◌then◌else◌, ⊤}
-use Rattle.fx_num.specs.Word.{IsWord, InWord}
+use Rattle.math_num.specs.Word.{IsWord, InWord}
 use Rattle.hw_net.specs.declared.netlist.Frame.{Frame}
 use Rattle.hw_net.specs.declared.netlist.Net.{Net}
 use Rattle.hw_net.specs.declared.netlist.NetKind.{NetKind}

@@ -19,7 +19,7 @@ use Rattle.hw_lower.specs.declared.plan.Plan.{Plan}
 use Rattle.hw_lower.specs.Lowered.{multiply_of}
 use Rattle.hw_lower.specs.inner.Planned.{Numbers, IsMade, IsPut, IsSwitched, word_of, step_of}
 use Rattle.hw_lower.specs.inner.Spread.{AreArguments, AreInputs, BeginsWith, HasArguments, OfArguments, IsPlanned, IsScaled}
-use Rattle.fx_io.proofs.Places.{last_at}
+use Rattle.math_list.proofs.Places.{last_at}
 use Rattle.hw_lower.proofs.Made.{one-longer, still-at}
 use Rattle.hw_lower.proofs.Spreading.{made-plain}
 use Rattle.fx_type.proofs.Ranges.{type-word}

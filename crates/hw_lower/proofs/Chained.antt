@@ -1,6 +1,6 @@
 -- One function's steps behind another's.
 use Rattle.std.proofs.Common.{◌≡◌, false, subst, refl}
-use Rattle.fx_num.specs.Word.{InWord}
+use Rattle.math_num.specs.Word.{InWord}
 use Rattle.hw_net.specs.declared.netlist.NetOp.{NetOp}
 use Rattle.hw_lower.specs.declared.plan.Word.{Word}
 use Rattle.hw_lower.specs.declared.plan.Operand.{Operand}

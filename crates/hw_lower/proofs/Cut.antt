@@ -3,16 +3,16 @@ use Rattle.std.proofs.Common.{◌≡◌, ℕ, ◌^◌, ◌<ℤ◌, ◌≤ℤ◌,
 use Rattle.std.specs.Prelude.{not, if◌then◌else◌, ◌&&◌}
 use mathlib.Core.Bool.{beq}
 use Rattle.std.proofs.Common.{eqb, eqb-true, true≢false, int_lt}
-use Rattle.hw_net.specs.Operation.{truth}
+use Rattle.math_num.specs.Bits.{truth}
 use Rattle.std.specs.Ordering.{int_eq}
 use Rattle.std.proofs.lemmas.Int.{ints}
 use Rattle.std.proofs.lemmas.Bool.{false_from_ne_true}
 use Rattle.hw_lower.specs.declared.plan.Word.{Word}
 use Rattle.hw_lower.specs.inner.Planned.{IsChosen}
-use Rattle.fx_num.specs.Word.{IsWord, InWord, IsWrapped}
-use Rattle.fx_num.proofs.Arithmetic.{add-scaled}
-use Rattle.hw_net.proofs.Modular.{is-same, not-same}
-use Rattle.hw_net.proofs.Numbers.{wrapped-is}
+use Rattle.math_num.specs.Word.{IsWord, InWord, IsWrapped}
+use Rattle.math_num.proofs.Arithmetic.{add-scaled}
+use Rattle.math_num.proofs.Residues.{is-same, not-same}
+use Rattle.math_num.proofs.Words.{wrapped-is}
 
 -- what a Choose gives
 pub chosen-is : (width : ℕ) (signed : Bool) (test chosen other r : ℤ) → IsWord width signed → InWord width signed chosen → (test ≡ pos 0 → InWord width signed other)

@@ -3,17 +3,17 @@ use Rattle.std.proofs.Common.{◌≡◌, ◌↔◌, ℕ, suc, ◌+◌, ◌-◌, 
 use Rattle.std.specs.Int.Signed.{shr_z}
 use Rattle.std.proofs.lemmas.Int.{ints, by_lt_z}
 use Rattle.std.proofs.lemmas.Nat.{pow-add}
-use Rattle.fx_num.specs.Word.{IsWord, IsWrapped, word_lowest, word_highest}
-use Rattle.fx_num.proofs.Arithmetic.{IsDivided, scaled-mono, scaled-neg, unit_apart}
-use Rattle.fx_num.proofs.Shifted.{shr-divided, shr_exact}
+use Rattle.math_num.specs.Word.{IsWord, IsWrapped, word_lowest, word_highest}
+use Rattle.math_num.proofs.Arithmetic.{IsDivided, scaled-mono, scaled-neg, unit_apart}
+use Rattle.math_num.proofs.Shifts.{shr-divided, shr_exact}
 use Rattle.fx_type.specs.declared.kind.FxType.TheVariants.{Num}
 use Rattle.fx_type.specs.Conversion.{Saturates}
 use Rattle.hw_lower.specs.declared.plan.Word.{Word}
 use Rattle.hw_lower.specs.inner.Planned.{IsChosen, IsHeldBelow, IsHeldAbove}
 use Rattle.hw_lower.proofs.Cut.{less-is}
-use Rattle.hw_net.specs.Operation.{truth}
+use Rattle.math_num.specs.Bits.{truth}
 use Rattle.std.specs.Prelude.{int_lt}
-use Rattle.hw_net.proofs.Numbers.{wrapped-is}
+use Rattle.math_num.proofs.Words.{wrapped-is}
 use Rattle.hw_net.proofs.Words.{lowest-below}
 
 pub up-bound : (high floor : ℤ) (d : ℕ) → IsDivided high d floor → (v : ℤ) → ((v *ℤ pos d) ≤ℤ high) ↔ (v ≤ℤ floor)

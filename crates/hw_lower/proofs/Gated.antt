@@ -16,7 +16,7 @@ use Rattle.hw_lower.specs.inner.Planned.{Numbers, IsChosen}
 use Rattle.hw_lower.specs.inner.Spread.{AreArguments, OfArguments, IsJoined, is_odd, truth_of}
 use Rattle.hw_lower.specs.declared.gates.Joining.{Joining}
 use Rattle.hw_lower.specs.declared.gates.Joining.TheVariants.{Every, Any, Odd}
-use Rattle.hw_net.proofs.Modular.{is-same}
+use Rattle.math_num.proofs.Residues.{is-same}
 
 -- a number is 0 or true
 record ByTruth (v : ℤ) (t : Bool) : Type 0 where

@@ -3,11 +3,11 @@ use Rattle.std.proofs.Common.{◌≡◌, ◌↔◌, ℕ, suc, ◌+◌, ◌-◌, 
 use Rattle.std.proofs.lemmas.Int.{ints}
 use Rattle.std.proofs.lemmas.Nat.{shr_high, shr_le}
 use Rattle.std.proofs.Math.Nat.{mod-eq_of_lt}
-use Rattle.fx_num.specs.Word.{IsWord, InWord}
-use Rattle.fx_num.proofs.Arithmetic.{double}
-use Rattle.hw_net.specs.Operation.{low_bits, shifted_down}
+use Rattle.math_num.specs.Word.{IsWord, InWord}
+use Rattle.math_num.proofs.Arithmetic.{double}
+use Rattle.math_num.specs.Bits.{low_bits, shifted_down}
 use Rattle.hw_lower.specs.inner.Planned.{bit_of}
-use Rattle.fx_num.proofs.Words.{size-below, size-half}
+use Rattle.math_num.proofs.Words.{size-below, size-half}
 use Rattle.hw_net.proofs.Words.{only-sign, split-low}
 
 pub low-below : (k : ℕ) (z : ℤ) → low_bits k z < 2 ^ k

@@ -2,12 +2,12 @@
 use Rattle.std.proofs.Common.{◌≡◌, inl, inr, ℕ, zero, suc, ◌+◌, ◌<◌, ◌≤◌, ℤ, List, [], ◌∷◌, ◌++◌, take, length, All, slice_get, Some, ap, sym, ◌∙◌, subst, arith, refl, length-append, append_assoc, append-nil, false}
 use Rattle.std.proofs.lemmas.Bool.{cases_lt}
 use Rattle.std.proofs.lemmas.Option.{same_Some, slice_get_within}
-use Rattle.fx_num.specs.Word.{IsWord, InWord, IsWrapped}
+use Rattle.math_num.specs.Word.{IsWord, InWord, IsWrapped}
 use Rattle.hw_net.specs.declared.netlist.NetOp.{NetOp}
 use Rattle.hw_net.specs.declared.netlist.NetOp.TheVariants.{Input, Const, Resize, ShiftUp, ShiftDown, Add, Subtract, Negate, Multiply, And, Or, Xor, Not, Less, Equal, Choose, Slice}
 use Rattle.hw_net.specs.Operation.{Operands, arity, given_by}
-use Rattle.fx_io.proofs.Places.{get_front, last_at}
-use Rattle.hw_net.proofs.Numbers.{wrapped-is}
+use Rattle.math_list.proofs.Places.{get_front, last_at}
+use Rattle.math_num.proofs.Words.{wrapped-is}
 use Rattle.hw_lower.specs.declared.plan.Word.{Word}
 use Rattle.hw_lower.specs.declared.plan.Step.{Step}
 use Rattle.hw_lower.specs.declared.plan.Operand.{Operand}

@@ -12,7 +12,8 @@ use Rattle.hw_net.specs.Circuit.{Circuit}
 use Rattle.hw_net.specs.Operation.{arity}
 use Rattle.hw_net.specs.Netlist.{HasWord, HasBits, HasParts as NetHasParts}
 use Rattle.hw_net.specs.Growing.{Extends, IsAppended, with_net}
-use Rattle.hw_net.proofs.Growing.{extends-one, still-there, word-stays, one-longer, last-of, front-some, appends-self, appends-one, appends-trans, differ-other, IsNamed}
+use Rattle.hw_net.proofs.Growing.{extends-one, still-there, word-stays, one-longer, appends-self, appends-one, appends-trans, differ-other, IsNamed}
+use Rattle.math_list.proofs.Places.{last_at, get_left}
 use Rattle.hw_lower.specs.declared.plan.Step.{Step}
 use Rattle.hw_lower.specs.inner.Planned.{IsSound, HasParts, reads_of}
 use Rattle.hw_lower.specs.inner.Spread.{IsInner}
@@ -173,13 +174,13 @@ numbers-more args base place number numbers are past is = record {
   size = length-append numbers (number ∷ []) ∙ omega (arith, are.size);
   each = λ read inside.
       elim (cases_lt read place) [
-        | inl less ↦ front-some numbers (number ∷ []) read (number_of args base read) (are.each read less)
+        | inl less ↦ get_left numbers (number ∷ []) read (number_of args base read) (are.each read less)
         | inr more ↦
             let last : read ≡ length numbers = omega (arith, are.size) in
             let k : ℕ = place - length args in
             let behind : read ≡ length args + k = omega arith in
             let value : number_of args base read ≡ number = ap (number_of args base) behind ∙ number-later args base k ∙ omega arith in
-            ap (slice_get (numbers ++ number ∷ [])) last ∙ last-of numbers number ∙ ap Some (sym value)
+            ap (slice_get (numbers ++ number ∷ [])) last ∙ last_at numbers number ∙ ap Some (sym value)
       ];
 }
 
@@ -246,7 +247,7 @@ module _ (before now new : Circuit) (steps : List Step) (args : List ℕ) (place
               let last : length args + k ≡ place = omega arith in
               let same : step ≡ other = same_Some step other (sym there ∙ ap (slice_get steps) (sym last) ∙ at) in
               let end : length before.nets + k ≡ length now.nets = omega (arith, are.size) in
-              ap (slice_get new.nets) end ∙ ap (λ (x : Circuit). slice_get x.nets (length now.nets)) grown ∙ last-of now.nets (net_of args (length before.nets) step)
+              ap (slice_get new.nets) end ∙ ap (λ (x : Circuit). slice_get x.nets (length now.nets)) grown ∙ last_at now.nets (net_of args (length before.nets) step)
               ∙ ap (λ (s : Step). Some (net_of args (length before.nets) s)) same
         ];
   }

@@ -1,15 +1,14 @@
--- A product is in the word of its full type. Crates above may cite this file.
+-- A product is in the word of its full type.
 use Rattle.std.proofs.Common.{◌≡◌, ℕ, ◌-◌, ◌*◌, ◌^◌, ◌<◌, ◌≤◌, Bool, true, false, true≢false, cond, ◌||◌, ℤ, pos, ◌*ℤ◌, ◌≤ℤ◌, ap, sym, mul_comm, ◌∙◌, arith, pow_pos, unsigned_abs, refl, subst}
 use Rattle.std.proofs.lemmas.Int.{ints}
 use Rattle.std.proofs.Math.Dec.{lit<}
-use Rattle.fx_num.specs.Word.{InWord, IsWrapped}
+use Rattle.math_num.specs.Word.{InWord, IsWrapped}
 use Rattle.fx_type.specs.declared.kind.FxType.{FxType}
 use Rattle.fx_type.specs.declared.kind.FxType.TheVariants.{Num, Logical}
 use Rattle.fx_type.specs.FxType.{IsType, InRange, is_signed, width_of}
 use Rattle.fx_type.specs.FullType.{IsFullProduct}
-use Rattle.hw_net.proofs.Numbers.{wrapped-is}
-use Rattle.fx_num.proofs.Arithmetic.{abs-between, abs-below, below-power, below-power-strict}
-use Rattle.hw_net.proofs.Magnitudes.{signed-product, unsigned-product}
+use Rattle.math_num.proofs.Words.{wrapped-is, signed-product, unsigned-product}
+use Rattle.math_num.proofs.Arithmetic.{abs-between, abs-below, below-power, below-power-strict}
 use Rattle.fx_type.proofs.Ranges.{some-width, type-word}
 
 pub word-range : (type : FxType) (v : ℤ) → InWord (width_of type) (is_signed type) v → InRange type v

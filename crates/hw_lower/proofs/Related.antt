@@ -3,18 +3,19 @@ use Rattle.std.proofs.Common.{◌≡◌, ◌≢◌, ℕ, ◌⊎◌, inl, inr, Bo
 use Rattle.std.specs.Int.{int_max, int_gap}
 use Rattle.std.proofs.lemmas.Int.{ints, by_lt_z}
 use Rattle.std.proofs.lemmas.Bool.{cases_eq}
-use Rattle.fx_num.specs.Word.{IsWrapped}
+use Rattle.math_num.specs.Word.{IsWrapped}
 use Rattle.fx_type.specs.declared.kind.FxType.{FxType}
 use Rattle.fx_type.specs.declared.kind.FxType.TheVariants.{Num, Logical}
 use Rattle.fx_type.specs.FxType.{IsType, InRange, is_signed, width_of, frac_of, aligned}
 use Rattle.fx_type.specs.FullType.{HoldsType, IsUnion}
-use Rattle.fx_type.proofs.Ranges.{int_max_cases, gap_none, type-word, range-word}
+use Rattle.fx_type.proofs.Ranges.{type-word, range-word}
+use Rattle.math_num.proofs.Integers.{int_max_cases, gap_none}
 use Rattle.dg_model.specs.declared.kind.Relation.{Relation}
 use Rattle.dg_model.specs.Operation.{compares, compares_values, stored_truth}
-use Rattle.hw_net.proofs.Numbers.{wrapped-is}
-use Rattle.fx_io.proofs.Tests.{lt-yes}
+use Rattle.math_num.proofs.Words.{wrapped-is}
+use Rattle.math_list.proofs.Tests.{lt-yes}
 use Rattle.hw_lower.proofs.Truths.{lt-no}
-use Rattle.fx_num.proofs.Arithmetic.{int_cases}
+use Rattle.math_num.proofs.Arithmetic.{int_cases}
 
 bool-cases : (a b : Bool) → (a ≡ b) ⊎ (a ≡ b → ⊥)
 bool-cases true true = inl refl

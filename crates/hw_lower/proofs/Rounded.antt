@@ -2,14 +2,14 @@
 use Rattle.std.proofs.Common.{◌≡◌, ◌↔◌, ◌⊎◌, inl, inr, ℕ, zero, suc, ◌+◌, ◌-◌, ◌*◌, ◌/◌, ◌^◌, ◌<◌, ◌≤◌, ◌<ℤ◌, ◌≤ℤ◌, Bool, true, false, ℤ, pos, negsuc, neg_ℤ, ◌+ℤ◌, ◌*ℤ◌, ap, sym, ◌∙◌, subst, arith, refl, pow_pos, pow_mono, div-add-mod'}
 use Rattle.std.proofs.Math.Nat.{mul-le-mul_left}
 use Rattle.std.proofs.lemmas.Int.{ints}
-use Rattle.fx_num.specs.Word.{IsWord, InWord}
-use Rattle.fx_num.proofs.Arithmetic.{double, next-scaled}
+use Rattle.math_num.specs.Word.{IsWord, InWord}
+use Rattle.math_num.proofs.Arithmetic.{double, next-scaled}
 use Rattle.fx_type.specs.declared.rounding.Rounding.{Rounding}
 use Rattle.fx_type.specs.declared.rounding.Rounding.TheVariants.{Floor, Ceiling, Zero, Nearest, Round, Convergent}
 use Rattle.fx_type.specs.Conversion.{IsEven, RoundsDown, RoundsUp, RoundsTiesUp, RoundsTiesDown, RoundsTiesEven, Rounds, IsTruthOf}
-use Rattle.hw_net.specs.Operation.{low_bits, shifted_down}
+use Rattle.math_num.specs.Bits.{low_bits, shifted_down}
 use Rattle.hw_lower.specs.inner.Planned.{bit_of, IsChosen, IsPastTie}
-use Rattle.fx_num.proofs.Words.{size-half}
+use Rattle.math_num.proofs.Words.{size-half}
 use Rattle.hw_net.proofs.Words.{only-sign}
 use Rattle.hw_lower.proofs.LowBits.{low-below, whole-is, bit-small}
 use Rattle.hw_net.proofs.Words.{split-low}

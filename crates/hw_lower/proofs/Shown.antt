@@ -1,9 +1,9 @@
--- What the nets of a plan show. Crates above may cite this file.
+-- What the nets of a plan show.
 use Rattle.std.proofs.Common.{◌≡◌, ℕ, zero, suc, ◌+◌, ◌-◌, ◌^◌, ◌<◌, ◌≤◌, ◌⊎◌, inl, inr, Contains, false, List, [], ◌∷◌, take, map, length, slice_get, slice_index_or, Option, Some, ℤ, pos, ap, sym, ◌∙◌, subst, arith, refl, length-append}
 use Rattle.std.proofs.lemmas.Bool.{cases_lt}
 use Rattle.std.proofs.lemmas.Option.{none-some, same_Some, slice_get_within, slice_get-get_or}
-use Rattle.fx_num.specs.Word.{IsWrapped}
-use Rattle.fx_num.proofs.Arithmetic.{IsCongruent-refl}
+use Rattle.math_num.specs.Word.{IsWrapped}
+use Rattle.math_num.proofs.Arithmetic.{IsCongruent-refl}
 use Rattle.fx_type.specs.declared.kind.FxType.{FxType}
 use Rattle.fx_type.specs.declared.kind.FxType.TheVariants.{Num}
 use Rattle.fx_type.specs.FxType.{InRange, is_signed, width_of}

@@ -2,7 +2,7 @@
 use Rattle.std.proofs.Common.{◌≡◌, ℕ, ◌+◌, ◌-◌, ◌≤◌, ◌*ℤ◌, List, [], ◌∷◌, ◌++◌, length, slice_get, Option, None, Some, inl, inr, ap, sym, ◌∙◌, subst, arith, refl, false}
 use Rattle.std.proofs.lemmas.Bool.{cases_lt}
 use Rattle.std.proofs.lemmas.Option.{none-some, same_Some, slice_get_within}
-use Rattle.fx_num.specs.Word.{IsWord, IsWrapped}
+use Rattle.math_num.specs.Word.{IsWord, IsWrapped}
 use Rattle.hw_net.specs.declared.netlist.NetOp.TheVariants.{Multiply}
 use Rattle.hw_lower.specs.declared.plan.Word.{Word}
 use Rattle.hw_lower.specs.declared.plan.Step.{Step}
@@ -10,7 +10,7 @@ use Rattle.hw_lower.specs.declared.plan.Operand.{Operand}
 use Rattle.hw_lower.specs.declared.plan.Plan.{Plan}
 use Rattle.hw_lower.specs.inner.Planned.{Numbers, Adds, IsAt, IsLast, IsPlain, IsPut, IsSound, IsStep, Gives, IsMade, step_of}
 use Rattle.hw_lower.specs.inner.Spread.{IsInner, IsMultiplyAt, Spreads, IsPlanned}
-use Rattle.fx_io.proofs.Places.{last_at}
+use Rattle.math_list.proofs.Places.{last_at}
 use Rattle.hw_lower.proofs.Chained.{gives-on}
 use Rattle.hw_lower.proofs.Made.{adds-one, adds-then, last-is, last-there, still-at, stood-at, one-longer, put-at, below-taken}
 

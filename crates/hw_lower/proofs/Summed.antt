@@ -5,15 +5,15 @@ use Rattle.std.proofs.lemmas.Int.{ints}
 use Rattle.std.proofs.lemmas.List.{take_all}
 use Rattle.std.proofs.lemmas.Slice.Zip.{length-zip}
 use Rattle.std.proofs.Math.IntN.{+ℤ_idl, +ℤ_assoc}
-use Rattle.fx_num.specs.Word.{IsCongruent, IsWrapped}
-use Rattle.fx_num.proofs.Arithmetic.{add-scaled, scaled-neg, IsCongruent-refl}
+use Rattle.math_num.specs.Word.{IsCongruent, IsWrapped}
+use Rattle.math_num.proofs.Arithmetic.{add-scaled, scaled-neg, IsCongruent-refl}
 use Rattle.fx_type.specs.declared.kind.FxType.{FxType}
 use Rattle.fx_type.specs.FxType.{InRange, is_signed, width_of, frac_of, aligned}
 use Rattle.fx_type.specs.FullType.{Terms, negated_if, IsPossibleSum, IsFullSum}
 use Rattle.dg_model.specs.Operation.{signed_sum, type_of, value_of}
 use Rattle.hw_lower.specs.inner.Planned.{Numbers}
 use Rattle.hw_lower.specs.inner.Spread.{OfArguments}
-use Rattle.hw_net.proofs.Numbers.{wrapped-is}
+use Rattle.math_num.proofs.Words.{wrapped-is}
 use Rattle.fx_type.proofs.Ranges.{type-word, range-word}
 
 -- Congruence.

@@ -3,16 +3,16 @@ use Rattle.std.proofs.Common.{◌≡◌, Bool, true, false, not, ℤ, pos, ◌-�
 use Rattle.std.specs.Ordering.{int_eq}
 use Rattle.std.proofs.lemmas.Int.{ints, by_lt_z}
 use Rattle.std.proofs.lemmas.Bool.Decides.{Decides-int_eq}
-use Rattle.fx_num.specs.Word.{IsWrapped}
+use Rattle.math_num.specs.Word.{IsWrapped}
 use Rattle.dg_model.specs.Operation.{stored_truth}
-use Rattle.hw_net.specs.Operation.{truth}
+use Rattle.math_num.specs.Bits.{truth}
 use Rattle.hw_lower.specs.declared.plan.Operand.{Operand}
 use Rattle.hw_lower.specs.declared.plan.Plan.{Plan}
 use Rattle.hw_lower.specs.inner.Planned.{Numbers, IsMade, IsChosen, IsSwitched, bit_word}
 use Rattle.hw_lower.proofs.Chained.{made-map}
-use Rattle.hw_net.proofs.Numbers.{wrapped-is}
-use Rattle.hw_net.proofs.Modular.{only-false, is-same}
-use Rattle.fx_io.proofs.Tests.{lt-yes}
+use Rattle.math_num.proofs.Words.{wrapped-is}
+use Rattle.math_num.proofs.Residues.{only-false, is-same}
+use Rattle.math_list.proofs.Tests.{lt-yes}
 
 pub truth-is : (b : Bool) (r : ℤ) → IsWrapped (truth b) 1 false r → r ≡ stored_truth b
 truth-is true r is = wrapped-is (pos 1) 1 false r (omega arith, omega arith) (record { low = omega (arith, ints); high = omega (arith, ints) }) is

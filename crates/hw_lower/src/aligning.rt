@@ -1,6 +1,6 @@
 //! Numbers of several types in one unit.
 ghost use Rattle.std.specs.Prelude.{◌≡◌, ◌<◌, ◌≤◌, length};
-ghost use Rattle.fx_num.specs.Word.{IsWrapped};
+ghost use Rattle.math_num.specs.Word.{IsWrapped};
 ghost use Rattle.fx_type.specs.FxType.{aligned};
 ghost use Rattle.hw_lower.specs.inner.Planned.{IsMade, word_of};
 ghost use Rattle.hw_lower.specs.inner.Spread.{CanAlign, argument_of, side_of};

@@ -1,7 +1,7 @@
 //! Comparisons and criteria.
 ghost use Rattle.std.specs.Prelude.{◌≡◌, Bool, not};
 ghost use Rattle.dg_model.specs.Operation.{compares, meets, stored_truth};
-ghost use Rattle.hw_net.specs.Operation.{truth};
+ghost use Rattle.math_num.specs.Bits.{truth};
 ghost use Rattle.hw_lower.specs.inner.Planned.{IsAt, IsMade, IsPlain, CanRead, IsSwitched};
 ghost use Rattle.hw_lower.specs.inner.Planned.{bit_word, of_two};
 ghost use Rattle.hw_lower.specs.inner.Spread.{CanSwitch};

@@ -3,7 +3,7 @@
 ghost use Rattle.std.specs.Prelude.{◌≡◌, ◌-◌, ◌+ℤ◌, true};
 ghost use Rattle.fx_type.specs.declared.rounding.Rounding.TheVariants.{Ceiling, Zero, Round};
 ghost use Rattle.fx_type.specs.declared.rounding.Rounding.TheVariants.{Nearest, Convergent};
-ghost use Rattle.hw_net.specs.Operation.{shifted_down, low_bits};
+ghost use Rattle.math_num.specs.Bits.{shifted_down, low_bits};
 ghost use Rattle.hw_lower.specs.inner.Planned.{IsAt, IsMade, IsPastTie, IsRounded, CanRaise, CanPassTie, CanRound};
 ghost use Rattle.hw_lower.specs.inner.Planned.{bit_word};
 

@@ -1,6 +1,6 @@
 //! A whole number put into a word, and conversions between types.
 ghost use Rattle.std.specs.Prelude.{◌≡◌, ◌≤◌, ◌<◌, ◌^◌, ◌↔◌, ◌↔◌, ℤ, pos, negsuc, ◌*ℤ◌, ◌≤ℤ◌};
-ghost use Rattle.fx_num.specs.Word.{IsWord, IsWrapped, word_lowest, word_highest};
+ghost use Rattle.math_num.specs.Word.{IsWord, IsWrapped, word_lowest, word_highest};
 ghost use Rattle.fx_type.specs.declared.kind.FxType.{FxType};
 ghost use Rattle.fx_type.specs.declared.kind.FxType.TheVariants.{Num};
 ghost use Rattle.fx_type.specs.FxType.{IsType, frac_of};

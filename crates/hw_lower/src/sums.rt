@@ -1,6 +1,6 @@
 //! Exact sums, in the word of their full type.
 ghost use Rattle.std.specs.Prelude.{◌≡◌, ◌≤ℤ◌, ◌+ℤ◌, take, zip, All, pos};
-ghost use Rattle.fx_num.specs.Word.{IsWord, IsWrapped};
+ghost use Rattle.math_num.specs.Word.{IsWord, IsWrapped};
 ghost use Rattle.fx_type.specs.FxType.{frac_of, aligned};
 ghost use Rattle.fx_type.specs.FullType.{negated_if, IsFullSum};
 ghost use Rattle.dg_model.specs.Operation.{signed_sum};

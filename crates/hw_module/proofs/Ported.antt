@@ -4,7 +4,7 @@ use Rattle.std.specs.List.{list_any}
 use Rattle.std.proofs.lemmas.Bool.{le-leb}
 use Rattle.std.proofs.lemmas.List.Elements.{All-contains, Contains-append_left, filter-append}
 use Rattle.std.proofs.lemmas.Option.{get_or_from_slice_get}
-use Rattle.fx_num.specs.Word.{IsWord, InWord}
+use Rattle.math_num.specs.Word.{IsWord, InWord}
 use Rattle.vl_ast.specs.declared.modules.Attr.{Attr}
 use Rattle.vl_ast.specs.declared.modules.Port.{Port}
 use Rattle.vl_ast.specs.declared.modules.Module.{Module}
@@ -29,7 +29,7 @@ use Rattle.vl_emit.proofs.Numbers.{number-bits, number-is}
 use Rattle.vl_emit.proofs.Sounds.{word-at}
 use Rattle.hw_module.specs.inner.Emission.{IsEmissionOf}
 use Rattle.hw_module.proofs.Lists.{get-map, filter-all, filter-none, got}
-use Rattle.fx_io.proofs.Tests.{unequal}
+use Rattle.math_list.proofs.Tests.{unequal}
 
 pub can-stall : {netlist : Circuit} {m : Module} → IsEmissionOf netlist m → is_stallable m ≡ true
 can-stall made = ap (list_any (is_bit_input (codes "clk_enable"))) made.header.ports

@@ -18,7 +18,7 @@ use Rattle.hw_names.specs.Columns.{AreColumnsFrom}
 use Rattle.hw_names.specs.Names.{Given, IsGiven, element_name, port_name, undoubled, wanted_names, wanted_of}
 use Rattle.hw_names.specs.Taken.{AreTaken, taken_by}
 use Rattle.hw_names.specs.inner.Sides.{AddsNames, elements_on, number_on, wanted_on, width_on}
-use Rattle.fx_io.proofs.Places.{map_there, there_map}
+use Rattle.math_list.proofs.Places.{map_there, there_map}
 use Rattle.hw_names.proofs.Places.{blocks_there, place_is}
 use Rattle.hw_names.proofs.Taking.{given_more, taken_more}
 

@@ -1,13 +1,13 @@
--- Where the elements of root ports stand among the columns. Crates above may cite these lemmas.
+-- Where the elements of root ports stand among the columns.
 use Rattle.std.proofs.Common.{◌≡◌, ◌≢◌, ℕ, suc, ◌+◌, ◌-◌, ◌<◌, ◌≤◌, inl, inr, List, [], ◌∷◌, ◌++◌, length, map, All, Option, None, Some, ap, sym, ◌∙◌, subst, arith, refl}
 use Rattle.std.specs.Prelude.{slice_get, slice_set, slice_index_or}
 use Rattle.std.specs.List.{flat_map, position}
 use Rattle.std.proofs.lemmas.Bool.{cases_lt}
 use Rattle.std.proofs.lemmas.List.{length-map, get_or-set_same, get_or-set_other}
 use Rattle.std.proofs.lemmas.Option.{none-some, same_Some, slice_get_within, slice_get-get_or}
-use Rattle.fx_io.proofs.Places.{get_front, get_right, map_there, there_map}
-use Rattle.dg_waves.specs.Rounds.{numbers_from}
-use Rattle.dg_waves.proofs.Waved.{length_numbers, mapped_at}
+use Rattle.math_list.proofs.Places.{get_front, get_right, map_there, there_map}
+use Rattle.math_list.specs.Numbers.{numbers_from}
+use Rattle.math_list.proofs.Numbers.{length_numbers, mapped_at}
 use Rattle.dg_model.specs.declared.diagram.Diagram.{Diagram}
 use Rattle.dg_model.specs.declared.row.Role.{Role}
 use Rattle.dg_model.specs.Attributes.{attributes_of}

@@ -1,4 +1,4 @@
--- Names that are given one after another, as a set of them has them. Crates above may cite this file.
+-- Names that are given one after another, as a set of them has them.
 use Rattle.std.proofs.Common.{◌≡◌, ℕ, zero, suc, ◌+◌, ◌<◌, ◌↔◌, inl, inr, Ordering, Bool, true, false, cond, List, [], ◌∷◌, ◌++◌, length, Contains, ap, sym, ◌∙◌, subst, refl, arith}
 use Rattle.std.specs.Prelude.{◌||◌, Vec, IsTrue, Some, slice_get, slice_index_or}
 use Rattle.dg_model.specs.declared.diagram.Diagram.{Diagram}

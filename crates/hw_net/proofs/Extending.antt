@@ -1,8 +1,7 @@
--- Netlists with nets behind their own: what stood stands, and no frame gets a second Counter. Crates above may cite this file.
-use Rattle.std.proofs.Common.{◌≡◌, ℕ, zero, suc, append-nil, append_assoc, ◌+◌, ◌<◌, ◌≤◌, ◌⊎◌, inl, inr, List, [], ◌∷◌, ◌++◌, length, Option, None, Some, IsSome, slice_get, Result, Ok, Err, IfOk, Bool, true, false, if◌then◌else◌, ap, sym, ◌∙◌, arith, refl, length-append, get_or}
-use Rattle.std.proofs.lemmas.Bool.{cases_lt}
+-- Netlists with nets behind their own: what stood stands, and no frame gets a second Counter.
+use Rattle.std.proofs.Common.{◌≡◌, ℕ, zero, suc, append-nil, append_assoc, ◌+◌, ◌<◌, ◌≤◌, ◌⊎◌, inl, inr, List, [], ◌∷◌, ◌++◌, length, Option, None, Some, IsSome, slice_get, Bool, true, false, if◌then◌else◌, ap, sym, ◌∙◌, arith, refl, length-append, get_or}
 use Rattle.std.proofs.lemmas.Option.{none-some, same_Some, slice_get_within, slice_get_read}
-pub use Rattle.fx_io.proofs.Places.{last_at as last-of, get_front as front-of, get_left as front-some}
+use Rattle.math_list.proofs.Places.{get_front as front-of, get_left as front-some, get_left}
 use Rattle.hw_net.specs.declared.netlist.Frame.{Frame}
 use Rattle.hw_net.specs.declared.netlist.Net.{Net}
 use Rattle.hw_net.specs.Circuit.{Circuit}
@@ -10,24 +9,7 @@ use Rattle.hw_net.specs.Frames.{is_frame, counted_frame, counter_from, counter_o
 use Rattle.hw_net.specs.Netlist.{HasWord}
 use Rattle.hw_net.specs.Growing.{Extends, with_net}
 use Rattle.hw_net.proofs.Index.{same-self}
-use Rattle.fx_io.proofs.Places.{get_left}
-
--- Lists.
-
--- an element of a list with one more is one of the list or the last
-pub split-last : {A : Type 0} (xs : List A) (x y : A) (k : ℕ) → slice_get (xs ++ x ∷ []) k ≡ Some y → ((k < length xs) × (slice_get xs k ≡ Some y)) ⊎ ((k ≡ length xs) × (x ≡ y))
-split-last xs x y k there =
-    elim (cases_lt k (length xs)) [
-      | inl less ↦ inl (less, sym (front-of xs (x ∷ []) k less) ∙ there)
-      | inr more ↦
-          let within = slice_get_within (xs ++ x ∷ []) k y there in
-          let last : k ≡ length xs = omega (arith, within, length-append xs (x ∷ [])) in
-          inr (last, same_Some x y (sym (last-of xs x) ∙ ap (slice_get (xs ++ x ∷ [])) (sym last) ∙ there))
-    ]
-
-pub if-both : {A E : Type 0} (P Q R : A → Type 0) (result : Result A E) → IfOk result P → IfOk result Q → ((x : A) → P x → Q x → R x) → IfOk result R
-if-both P Q R (Ok x) p q f = f x p q
-if-both P Q R (Err e) p q f = tt
+use Rattle.math_list.proofs.Places.{split-last}
 
 pub count-append : (xs ys : List Net) → register_count (xs ++ ys) ≡ register_count xs + register_count ys
 count-append [] ys = omega arith

@@ -3,8 +3,8 @@ use Rattle.std.proofs.Common.{◌≡◌, ◌≢◌, ℕ, zero, suc, ◌+◌, ◌
 use Rattle.std.proofs.lemmas.Int.{ints}
 use Rattle.std.proofs.lemmas.Bool.{cases_lt}
 use Rattle.std.proofs.Math.IntN.{+ℤ_idr}
-use Rattle.fx_num.specs.Word.{InWord, IsCongruent, IsWrapped}
-use Rattle.fx_num.proofs.Arithmetic.{add-scaled, IsCongruent-refl, int_cases}
+use Rattle.math_num.specs.Word.{InWord, IsCongruent, IsWrapped}
+use Rattle.math_num.proofs.Arithmetic.{add-scaled, IsCongruent-refl, int_cases}
 use Rattle.hw_net.specs.Registers.{Wave, Span, Takes}
 use Rattle.hw_net.specs.Closed.{frame_start}
 use Rattle.hw_net.specs.Gathered.{IsAcc, IsPart, total, AccShows}

@@ -1,5 +1,6 @@
--- What is said of a netlist is carried along as it grows. Crates above may cite these lemmas.
-pub use Rattle.hw_net.proofs.Extending.{last-of, front-of, front-some, split-last, if-both, count-append, extends-self, extends-trans, extends-one, longer, one-longer, still-there, stood-there, word-stays, counter-front, counter-stays, is-counter-stays, differ-more, differ-other, differ-counter}
+-- What is said of a netlist is carried along as it grows.
+pub use Rattle.hw_net.proofs.Extending.{count-append, extends-self, extends-trans, extends-one, longer, one-longer, still-there, stood-there, word-stays, counter-front, counter-stays, is-counter-stays, differ-more, differ-other, differ-counter}
+use Rattle.math_list.proofs.Places.{last_at, get_front, split-last, held as at-place}
 use Rattle.std.proofs.Common.{◌≡◌, ℕ, ◌<◌, ◌≤◌, ◌⊎◌, inl, inr, List, [], ◌∷◌, ◌++◌, length, All, Contains, Option, None, Some, slice_get, slice_index_or, Bool, ap, sym, ◌∙◌, subst, arith, refl}
 use Rattle.std.proofs.lemmas.Bool.{cases_lt}
 use Rattle.std.proofs.lemmas.Option.{none-some, slice_get_within}
@@ -14,7 +15,6 @@ use Rattle.hw_net.specs.Frames.{IsCounter, frame_of, counted_frame, counter_of, 
 use Rattle.hw_net.specs.Netlist.{IsKind, HasBits, HasParts, reads, reads_now}
 use Rattle.hw_net.specs.NetRows.{Inputs, Rows, NetShows}
 use Rattle.hw_net.specs.Growing.{Extends, Keeps, IsReopened, InRows, Appends, IsAppended, IsCounted, with_net}
-use Rattle.fx_io.proofs.Places.{held as at-place}
 
 -- What later netlists keep.
 
@@ -23,7 +23,7 @@ keeps-first a b c later p keeps = record {
   cycles = keeps.cycles ∙ p.cycles;
   nets = λ k inside.
       let more = longer b c p in
-      let same : slice_get c.nets k ≡ slice_get b.nets k = ap (λ (xs : List Net). slice_get xs k) p.nets ∙ front-of b.nets p.added k inside in
+      let same : slice_get c.nets k ≡ slice_get b.nets k = ap (λ (xs : List Net). slice_get xs k) p.nets ∙ get_front b.nets p.added k inside in
       elim (keeps.nets k (omega arith)) [
         | inl kept ↦ inl (kept ∙ same)
         | inr changed ↦ inr changed
@@ -79,7 +79,7 @@ pub in-rows-one : (net new : Circuit) (one : Net) (number : ℕ) (P : ℕ → Ro
 in-rows-one net new one number P at grown shows = record {
   holds = λ later keeps n inputs rows is.
       let size = one-longer net new one grown in
-      let last : slice_get new.nets (length net.nets) ≡ Some one = ap (λ (x : Circuit). slice_get x.nets (length net.nets)) grown ∙ last-of net.nets one in
+      let last : slice_get new.nets (length net.nets) ≡ Some one = ap (λ (x : Circuit). slice_get x.nets (length net.nets)) grown ∙ last_at net.nets one in
       let there : slice_get later.nets (length net.nets) ≡ Some one =
       elim (keeps.nets (length net.nets) (omega arith)) [
         | inl kept ↦ kept ∙ last

@@ -1,4 +1,4 @@
--- The index of Counters, as nets and ports are put in. Crates above may cite this file.
+-- The index of Counters, as nets and ports are put in.
 use Rattle.std.proofs.Common.{◌≡◌, ℕ, zero, suc, Result, Ok, Err, IfOk, OnOk, take, drop, slice_index_or, length-set, IsSome, subst, slice_get, set, ◌+◌, ◌==◌, nat_lt, List, [], ◌∷◌, ◌++◌, length, Option, None, Some, Bool, true, false, refl, if◌then◌else◌, ap, sym, ◌∙◌, arith}
 use Rattle.std.proofs.lemmas.Bool.{eqb-true, eqb-false, and_parts, and_from}
 use Rattle.std.specs.Ordering.{nat_cmp, is_eq}
@@ -14,7 +14,7 @@ use Rattle.hw_net.specs.declared.netlist.Net.{Net}
 use Rattle.hw_net.specs.Frames.{is_frame, counted_frame, counter_from, counter_of}
 use Rattle.hw_net.specs.ByFrame.{is_same_frame, compare_frames, number_at_frame}
 use Rattle.hw_net.specs.inner.Index.{IsIndex, IsKnown}
-use Rattle.fx_io.proofs.Tests.{tied}
+use Rattle.math_list.proofs.Tests.{tied}
 
 -- the index tells frames apart as they are
 pub same-frame : (one other : Frame) → is_eq (compare_frames one other) ≡ is_same_frame one other

@@ -3,9 +3,5 @@ pub mod Extending
 pub mod Gathered
 pub mod Growing
 pub mod Index
-pub mod Magnitudes
-pub mod Modular
-pub mod Numbers
-pub mod Places
 pub mod Steps
 pub mod Words

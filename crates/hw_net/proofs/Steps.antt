@@ -1,9 +1,9 @@
--- Rows that go on from clock to clock are the rows of the netlist. Crates above may cite this file.
+-- Rows that go on from clock to clock are the rows of the netlist.
 use Rattle.std.proofs.Common.{◌≡◌, ◌≢◌, ℕ, zero, suc, ◌+◌, ◌-◌, ◌*◌, ◌/◌, ◌%◌, ◌<◌, ◌≤◌, ◌^◌, Bool, List, All, Option, None, Some, slice_get, inl, inr, ℤ, pos, negsuc, ◌<ℤ◌, ◌≤ℤ◌, ◌*ℤ◌, length, ap, ◌∙◌, subst, arith, refl}
 use Rattle.std.proofs.lemmas.Int.{ints}
 use Rattle.std.proofs.lemmas.Nat.{mul-lt, div-add-mod', mod-mul-add}
 use Rattle.std.proofs.lemmas.Bool.{cases_lt}
-use Rattle.fx_num.specs.Word.{IsWord, IsWrapped}
+use Rattle.math_num.specs.Word.{IsWord, IsWrapped}
 use Rattle.hw_net.specs.declared.netlist.Net.{Net}
 use Rattle.hw_net.specs.declared.netlist.NetKind.{NetKind}
 use Rattle.hw_net.specs.declared.netlist.NetKind.TheVariants.{Comb, Reg, EnReg, Bridge, Unit, Counter}
@@ -12,10 +12,9 @@ use Rattle.hw_net.specs.Registers.{Wave, Span, IsLive, IsBridge, IsCounter}
 use Rattle.hw_net.specs.NetRows.{Inputs, Rows, NetShows, span_of, operands_at}
 use Rattle.hw_net.specs.Netlist.{IsKind, HoldsProducts, reads}
 use Rattle.hw_net.specs.Step.{Row, StepsGiveRows, NetStarts, NetSteps, BridgeSteps, CounterSteps}
-use Rattle.fx_io.proofs.Places.{held as at-place}
-use Rattle.hw_net.proofs.Places.{slice_get_inside}
-use Rattle.fx_num.proofs.Arithmetic.{IsCongruent-refl}
-use Rattle.hw_net.proofs.Modular.{one-wrapped}
+use Rattle.math_list.proofs.Places.{held as at-place, slice_get_inside}
+use Rattle.math_num.proofs.Arithmetic.{IsCongruent-refl}
+use Rattle.math_num.proofs.Residues.{one-wrapped}
 use Rattle.hw_net.proofs.Words.{some-or-none, InWordAt, goes-in-word}
 
 -- a remainder above 0 is below the divisor, and so is the one before it

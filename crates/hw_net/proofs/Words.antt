@@ -1,9 +1,9 @@
--- Numbers stay in their nets' words, and their bits below a place and above. Crates above may cite this file.
+-- Numbers stay in their nets' words, and their bits below a place and above.
 use Rattle.std.proofs.Common.{◌≡◌, ◌≢◌, ℕ, zero, suc, ◌+◌, ◌-◌, ◌*◌, ◌/◌, ◌%◌, ◌<◌, ◌⊎◌, inl, inr, Bool, true, false, List, length, Some, slice_get, slice_index_or, All, ℤ, pos, negsuc, ◌<ℤ◌, ◌≤ℤ◌, arith, refl, ap, sym, ◌^◌, ◌∙◌, pow_pos}
 use Rattle.std.proofs.lemmas.Int.{ints}
 use Rattle.std.proofs.lemmas.Bool.{cases_lt, cases_eq}
 use Rattle.std.proofs.lemmas.Nat.{pow-add, mod_below, mod-pow-add}
-use Rattle.fx_num.specs.Word.{InWord, word_lowest}
+use Rattle.math_num.specs.Word.{InWord, word_lowest}
 use Rattle.hw_net.specs.declared.netlist.Net.{Net}
 use Rattle.hw_net.specs.declared.netlist.NetKind.{NetKind}
 use Rattle.hw_net.specs.declared.netlist.NetKind.TheVariants.{Comb, Reg, EnReg, Bridge, Unit, Counter}
@@ -12,10 +12,10 @@ use Rattle.hw_net.specs.Registers.{Span, Takes, IsLive}
 use Rattle.hw_net.specs.NetRows.{span_of}
 use Rattle.hw_net.specs.Netlist.{IsNetlist, IsKind, HasWord, reads_now}
 use Rattle.hw_net.specs.Step.{Row, NetStarts, NetSteps, NetGoes, Goes}
-use Rattle.fx_io.proofs.Places.{held as at-place}
-use Rattle.hw_net.specs.Operation.{low_bits, shifted_down}
+use Rattle.math_list.proofs.Places.{held as at-place}
+use Rattle.math_num.specs.Bits.{low_bits, shifted_down}
 use Rattle.std.proofs.Math.Nat.{add-mul, div-eq_of_lt}
-use Rattle.fx_num.proofs.Words.{sign_of, size_of}
+use Rattle.math_num.proofs.Words.{sign_of, size_of}
 
 pub takes-or-not : (span : Span) (slot c : ℕ) → Takes span slot c ⊎ (¬ Takes span slot c)
 takes-or-not span slot c =

@@ -1,6 +1,6 @@
 -- What an accumulator shows over clocks: the sum of what it took since its frame began (own).
 use Rattle.std.specs.Prelude.{◌≡◌, ◌≢◌, ℕ, zero, suc, ◌+◌, ◌-◌, ◌<◌, Bool, ℤ, pos, ◌+ℤ◌}
-use Rattle.fx_num.specs.Word.{InWord, IsWrapped}
+use Rattle.math_num.specs.Word.{InWord, IsWrapped}
 use Rattle.hw_net.specs.Registers.{Wave, Span, Takes}
 use Rattle.hw_net.specs.Closed.{frame_start}
 

@@ -2,7 +2,7 @@
 use Rattle.std.specs.Prelude.{◌≡◌, ℕ, ◌+◌, ◌-◌, ◌*◌, ◌<◌, ◌≤◌, ◌⊎◌, ◌++◌, ◌∷◌, List, [], length}
 use Rattle.std.specs.Prelude.{All, Contains, slice_get, slice_set, None, Some, IsSome, ℤ, pos}
 use Rattle.std.specs.Prelude.{◌^◌, false, max}
-use Rattle.fx_num.specs.Word.{IsWord, InWord}
+use Rattle.math_num.specs.Word.{IsWord, InWord}
 use Rattle.hw_net.specs.declared.netlist.Frame.{Frame}
 use Rattle.hw_net.specs.declared.netlist.Net.{Net}
 use Rattle.hw_net.specs.declared.netlist.NetKind.TheVariants.{Comb, Reg, Counter}

@@ -7,7 +7,7 @@ ghost use Rattle.hw_net.specs.Circuit.{Circuit};
 ghost use Rattle.hw_net.specs.Frames.{counter_of, counted_frame};
 ghost use Rattle.hw_net.specs.Growing.{with_net, IsCounted, IsResize, IsConnected};
 ghost use Rattle.hw_net.specs.inner.Index.{IsIndex, IsKnown};
-ghost use Rattle.fx_num.specs.Word.{IsWord, InWord};
+ghost use Rattle.math_num.specs.Word.{IsWord, InWord};
 
 use crate::frame_index::FrameIndex;
 use crate::netlist::{Frame, Net, NetKind, NetLabel, NetLabels, NetOp, NetPort, NetPorts, Nets};

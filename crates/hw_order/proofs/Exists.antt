@@ -3,19 +3,20 @@ use Rattle.std.proofs.Common.{◌≡◌, ◌≢◌, ℕ, zero, suc, ◌+◌, ◌
 use Rattle.std.proofs.lemmas.Int.{ints}
 use Rattle.std.proofs.lemmas.Nat.{div-add-mod'}
 use Rattle.std.proofs.lemmas.Bool.{cases_lt}
-use Rattle.fx_num.specs.Word.{IsWord, IsCongruent, IsWrapped}
-use Rattle.fx_num.proofs.Arithmetic.{double, add-scaled, scaled-neg}
+use Rattle.math_num.specs.Word.{IsWord, IsCongruent, IsWrapped}
+use Rattle.math_num.proofs.Arithmetic.{double, add-scaled, scaled-neg}
 use Rattle.hw_net.specs.declared.netlist.Net.{Net}
 use Rattle.hw_net.specs.declared.netlist.NetKind.{NetKind}
 use Rattle.hw_net.specs.declared.netlist.NetKind.TheVariants.{Comb, Reg, EnReg, Bridge, Unit, Counter}
 use Rattle.hw_net.specs.Circuit.{Circuit}
-use Rattle.hw_net.specs.Operation.{low_bits, given_by}
+use Rattle.hw_net.specs.Operation.{given_by}
+use Rattle.math_num.specs.Bits.{low_bits}
 use Rattle.hw_net.specs.Registers.{Span, Takes, IsLive}
 use Rattle.hw_net.specs.NetRows.{Inputs, RowsAreThere, span_of, operands_at}
 use Rattle.hw_net.specs.Netlist.{IsNetlist, reads_now}
 use Rattle.hw_net.specs.Step.{Row, NetStarts, NetSteps, NetGoes, Goes, RegSteps, EnRegSteps, BridgeSteps, CounterSteps}
-use Rattle.fx_num.proofs.Shifted.{remainder_congruent}
-use Rattle.fx_io.proofs.Places.{held}
+use Rattle.math_num.proofs.Shifts.{remainder_congruent}
+use Rattle.math_list.proofs.Places.{held}
 use Rattle.hw_net.proofs.Words.{takes-or-not, lives-or-not, zero-or-not, some-or-none}
 use Rattle.hw_order.proofs.Same.{Agree, same-operands, goes-same}
 use Rattle.hw_net.proofs.Steps.{steps-give-rows}

@@ -13,8 +13,7 @@ use Rattle.hw_net.specs.declared.netlist.NetKind.{NetKind}
 use Rattle.hw_net.specs.declared.netlist.NetKind.TheVariants.{Comb, Reg, EnReg, Bridge, Unit, Counter}
 use Rattle.hw_net.specs.Netlist.{reads, reads_now, IsRanked}
 use Rattle.hw_order.specs.Order.{IsOrder}
-use Rattle.fx_io.proofs.Places.{held}
-use Rattle.hw_net.proofs.Places.{slice_get_inside}
+use Rattle.math_list.proofs.Places.{held, slice_get_inside}
 use Rattle.hw_order.specs.inner.Ordering.{place_of, IsPlaced, IsGrowing, IsClosed, Keeps, Serves, Grows, IsReader, IsLinked, IsLonger, Visits}
 
 abbrev rank_or : Option ℕ → ℕ

@@ -1,7 +1,6 @@
--- What a net shows at a clock, of two rows that are the same where it reads. Crates above may cite this
--- file.
+-- What a net shows at a clock, of two rows that are the same where it reads.
 use Rattle.std.proofs.Common.{◌≡◌, ◌≢◌, ℕ, zero, suc, ◌+◌, ◌*◌, ◌<◌, ◌≤◌, ◌⊎◌, inl, inr, Bool, List, length, Option, None, Some, slice_get, slice_index, slice_index_or, set, All, ℤ, pos, ap, sym, ◌∙◌, subst, arith, refl}
-use Rattle.fx_num.specs.Word.{IsWrapped}
+use Rattle.math_num.specs.Word.{IsWrapped}
 use Rattle.hw_net.specs.declared.netlist.Net.{Net}
 use Rattle.hw_net.specs.declared.netlist.NetKind.{NetKind}
 use Rattle.hw_net.specs.declared.netlist.NetKind.TheVariants.{Comb, Reg, EnReg, Bridge, Unit, Counter}
@@ -12,7 +11,7 @@ use Rattle.hw_net.specs.Step.{Row, NetStarts, NetSteps, NetGoes, BridgeSteps}
 use Rattle.std.proofs.lemmas.Bool.{cases_lt}
 use Rattle.std.proofs.lemmas.List.{get_or-set_same, get_or-set_other}
 use Rattle.std.proofs.lemmas.Option.{slice_get_within}
-use Rattle.fx_io.proofs.Places.{held}
+use Rattle.math_list.proofs.Places.{held}
 
 -- where two rows have the same numbers at the nets that a net reads in the same clock, it shows the same
 module _ (row other : Row) where

@@ -1,11 +1,10 @@
--- Two functions that are rows of one netlist under the same inputs are one. Crates above may cite this
--- file.
+-- Two functions that are rows of one netlist under the same inputs are one.
 use Rattle.std.proofs.Common.{◌≡◌, ℕ, zero, suc, ◌+◌, ◌-◌, ◌*◌, ◌%◌, ◌<◌, inl, inr, Bool, length, Option, None, Some, slice_get, slice_index_or, List, All, ℤ, sym, ◌∙◌, subst, arith, refl}
 use Rattle.std.proofs.lemmas.Int.{ints}
 use Rattle.std.proofs.lemmas.Nat.{mul-lt}
 use Rattle.std.proofs.lemmas.Bool.{cases_Bool, cases_lt}
-use Rattle.fx_num.specs.Word.{IsWord, IsWrapped}
-use Rattle.hw_net.proofs.Modular.{one-wrapped}
+use Rattle.math_num.specs.Word.{IsWord, IsWrapped}
+use Rattle.math_num.proofs.Residues.{one-wrapped}
 use Rattle.hw_net.proofs.Words.{takes-or-not, zero-or-not}
 use Rattle.hw_net.specs.declared.netlist.Net.{Net}
 use Rattle.hw_net.specs.declared.netlist.NetKind.{NetKind}
@@ -15,8 +14,7 @@ use Rattle.hw_net.specs.Operation.{Operands, given_by}
 use Rattle.hw_net.specs.Registers.{Wave, Span, IsReg, IsEnReg, IsBridge, IsCounter}
 use Rattle.hw_net.specs.NetRows.{Inputs, Rows, NetRows, NetShows, RowsAreOne, span_of, operands_at}
 use Rattle.hw_net.specs.Netlist.{IsNetlist, IsKind, reads, reads_now}
-use Rattle.fx_io.proofs.Places.{held as at-place}
-use Rattle.hw_net.proofs.Places.{slice_get_inside}
+use Rattle.math_list.proofs.Places.{held as at-place, slice_get_inside}
 use Rattle.hw_order.proofs.Ordering.{now-there}
 use Rattle.hw_order.proofs.Same.{same-operands}
 

@@ -7,7 +7,7 @@ use Rattle.std.specs.List.{flat_map, sum}
 use Rattle.std.proofs.lemmas.Bool.{and_parts, cases_Bool, false≢true}
 use Rattle.std.proofs.lemmas.Option.{none-some}
 use Rattle.std.proofs.Math.Nat.{mul-le-mul_left}
-use Rattle.dg_waves.specs.Rounds.{numbers_from}
+use Rattle.math_list.specs.Numbers.{numbers_from, greatest}
 use Rattle.dg_model.specs.declared.diagram.Block.{Block}
 use Rattle.dg_model.specs.declared.diagram.Diagram.{Diagram}
 use Rattle.dg_model.specs.declared.diagram.Edge.{Edge}
@@ -32,8 +32,7 @@ use Rattle.dg_model.specs.Rate.{joins_periods}
 use Rattle.dg_model.specs.Readable.{IsReadable}
 use Rattle.dg_model.specs.RootElements.{RootElement, root_outputs}
 use Rattle.dg_model.specs.Signals.{Attributes}
-use Rattle.dg_model.specs.Widths.{greatest}
-use Rattle.fx_io.proofs.Places.{held, map_there}
+use Rattle.math_list.proofs.Places.{held, map_there}
 use Rattle.hw_arcs.specs.declared.arc.Arc.{Arc}
 use Rattle.hw_arcs.specs.Latencies.{IsFeasible, KeepsArc, latency_at}
 use Rattle.hw_arcs.specs.Laws.{CyclesLeaveNone}

@@ -1,11 +1,11 @@
 -- Copies and repeated operations show the same.
 use Rattle.std.proofs.Common.{ℕ, Bool, subst}
-use Rattle.fx_num.specs.Word.{InWord, IsWrapped}
+use Rattle.math_num.specs.Word.{InWord, IsWrapped}
 use Rattle.hw_net.specs.declared.netlist.NetKind.{NetKind}
 use Rattle.hw_net.specs.NetRows.{NetShows, operands_at}
 use Rattle.hw_net.specs.Operation.{given_by}
-use Rattle.hw_net.proofs.Modular.{one-wrapped}
-use Rattle.hw_net.proofs.Numbers.{wrapped-is}
+use Rattle.math_num.proofs.Residues.{one-wrapped}
+use Rattle.math_num.proofs.Words.{wrapped-is}
 use Rattle.hw_refine.specs.Same.{CopiesShowSame, RepeatsShowSame}
 
 pub copies : CopiesShowSame

@@ -1,7 +1,7 @@
 -- A netlist without the nets that nothing reaches stands in the place of what it was made from.
 use Rattle.std.proofs.Common.{◌≡◌, ℕ, zero, suc, ◌+◌, ◌-◌, ◌*◌, ◌%◌, ◌<◌, Bool, List, [], ◌∷◌, map, Contains, Some, slice_get, refl, ap, sym, ◌∙◌, subst, arith, ◌*ℤ◌}
 use Rattle.std.proofs.Math.Nat.{mod-le}
-use Rattle.fx_num.specs.Word.{InWord, IsWrapped}
+use Rattle.math_num.specs.Word.{InWord, IsWrapped}
 use Rattle.hw_net.specs.declared.netlist.NetPort.{NetPort}
 use Rattle.hw_net.specs.declared.netlist.NetKind.{NetKind}
 use Rattle.hw_net.specs.declared.netlist.NetKind.TheVariants.{Comb, Reg, EnReg, Bridge, Unit, Counter}
@@ -14,7 +14,8 @@ use Rattle.hw_net.specs.Registers.{Wave}
 use Rattle.hw_refine.specs.Drops.{Drops, DropsRefine, IsKept}
 use Rattle.hw_refine.specs.Redirects.{redirected}
 use Rattle.hw_refine.specs.Refines.{Agree, Reflects, Refines}
-use Rattle.hw_refine.proofs.Lists.{stands, zip-length, zip-weaker}
+use Rattle.math_list.proofs.Elements.{stands}
+use Rattle.math_list.proofs.Zips.{zip-length, zip-weaker}
 
 -- what a net of old numbers shows in one function's rows, it shows by its new numbers in another's
 module _ (place : ℕ → ℕ) (n : ℕ) (whole rows : Rows) where

@@ -3,7 +3,7 @@ use Rattle.std.proofs.Common.{◌≡◌, ◌⊎◌, inl, inr, ℕ, zero, suc, �
 use Rattle.std.specs.List.{AllZip}
 use Rattle.std.specs.Prelude.{⊤}
 use Rattle.std.proofs.Math.Nat.{mod-le}
-use Rattle.fx_num.specs.Word.{InWord, IsWrapped}
+use Rattle.math_num.specs.Word.{InWord, IsWrapped}
 use Rattle.hw_net.specs.declared.netlist.Frame.{Frame}
 use Rattle.hw_net.specs.declared.netlist.Net.{Net}
 use Rattle.hw_net.specs.declared.netlist.NetLabel.{NetLabel}
@@ -20,7 +20,10 @@ use Rattle.hw_net.specs.Products.{Product, comb_product, net_at, op_product, pla
 use Rattle.hw_net.specs.Registers.{IsBridge, IsEnReg, IsReg, Span, Wave}
 use Rattle.hw_refine.specs.Refines.{Agree, IsReadBy, KeepsLabel, KeepsRegister, Refines, face, held, held_count}
 use Rattle.hw_refine.specs.Redirects.{IsRedirected, IsReported, RedirectsRefine, Redirects, redirected}
-use Rattle.hw_refine.proofs.Lists.{combs-in, found, map-get, map-same, products-are, stands, units-in, zip-append, zip-back, zip-flat, zip-get, zip-length, zip-weaker}
+use Rattle.hw_refine.proofs.Lists.{combs-in, products-are, units-in}
+use Rattle.math_list.proofs.Elements.{found, stands}
+use Rattle.math_list.proofs.Places.{map_there, map-same}
+use Rattle.math_list.proofs.Zips.{zip-append, zip-back, zip-flat, zip-get, zip-length, zip-weaker}
 
 -- ---- products, by any relation of what they read
 
@@ -260,7 +263,7 @@ module _ {old new : Circuit} {root : ℕ → ℕ} (r : Redirects old new root) w
             elim (at k).kind [
               | inl e ↦ b.alone k within (subst (λ (kind : NetKind). Contains (reads kind) from) e c)
               | inr e ↦ (let d = subst (λ (l : List ℕ). Contains l from) (ap reads e ∙ reads-moved root (net_at old.nets k).kind) c in
-                  let m = map-get root (reads (net_at old.nets k).kind) d.0 from (found (map root (reads (net_at old.nets k).kind)) from d) in
+                  let m = map_there root (reads (net_at old.nets k).kind) d.0 from (found (map root (reads (net_at old.nets k).kind)) from d) in
                   let own = r.apart label frame slot first from there is m.0 m.2 in
                   b.alone k within (subst (Contains (reads (net_at old.nets k).kind)) own (stands (reads (net_at old.nets k).kind) d.0 m.0 m.1)))
             ];

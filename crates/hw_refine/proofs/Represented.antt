@@ -1,7 +1,7 @@
 -- A netlist in which each net of another has one that shows the same stands in its place.
 use Rattle.std.proofs.Common.{◌≡◌, ◌⊎◌, inl, inr, ℕ, zero, suc, ◌<◌, Bool, List, [], ◌∷◌, map, Some, slice_get, refl, ap, sym, subst, arith, ℤ, pos}
 use Rattle.std.proofs.lemmas.Int.{ints}
-use Rattle.fx_num.specs.Word.{InWord, IsWrapped}
+use Rattle.math_num.specs.Word.{InWord, IsWrapped}
 use Rattle.hw_net.specs.declared.netlist.Net.{Net}
 use Rattle.hw_net.specs.declared.netlist.NetPort.{NetPort}
 use Rattle.hw_net.specs.declared.netlist.NetKind.{NetKind}
@@ -14,7 +14,7 @@ use Rattle.hw_net.specs.Registers.{Wave}
 use Rattle.hw_refine.specs.Redirects.{redirected}
 use Rattle.hw_refine.specs.Refines.{Agree, Reflects, Refines}
 use Rattle.hw_refine.specs.Represents.{IsCopy, Represents, RepresentsRefine}
-use Rattle.hw_refine.proofs.Lists.{zip-length, zip-weaker}
+use Rattle.math_list.proofs.Zips.{zip-length, zip-weaker}
 
 module _ (root : ℕ → ℕ) (rows : Rows) where
   -- what the roots show

@@ -1,5 +1,5 @@
 -- What registers and multiplications are left where nets read by other numbers, and the Counter of a
--- frame. Crates above may cite this file.
+-- frame.
 use Rattle.std.proofs.Common.{◌≡◌, ℕ, zero, suc, ◌+◌, ◌<◌, List, [], ◌∷◌, ◌++◌, map, flat_map, length, Contains, Option, None, Some, Bool, true, false, if◌then◌else◌, slice_get, get_or, refl, ap, arith}
 use Rattle.std.specs.List.{AllZip}
 use Rattle.std.proofs.lemmas.Option.{none-some, same_Some, slice_get_within}
@@ -16,7 +16,7 @@ use Rattle.hw_net.specs.Products.{Product, comb_product, op_product, unit_produc
 use Rattle.hw_net.proofs.Index.{same-is}
 use Rattle.hw_refine.specs.Redirects.{redirected}
 use Rattle.hw_refine.specs.Refines.{held, held_count}
-use Rattle.hw_refine.proofs.Lists.{found, stands}
+use Rattle.math_list.proofs.Elements.{found, stands}
 
 -- ---- lists
 

@@ -1,10 +1,9 @@
--- A renumbered netlist can be run and emitted. Crates above may cite this file.
-use Rattle.std.proofs.Common.{◌≡◌, ◌≢◌, ℕ, zero, suc, ◌+◌, ◌<◌, ◌≤◌, List, [], ◌∷◌, ◌++◌, map, length, All, Contains, Some, IsSome, Bool, true, false, if◌then◌else◌, slice_get, slice_index_or, refl, ap, sym, ◌∙◌, subst, arith}
+-- A renumbered netlist can be run and emitted.
+use Rattle.std.proofs.Common.{◌≡◌, ◌≢◌, ℕ, zero, suc, ◌+◌, ◌<◌, ◌≤◌, List, [], ◌∷◌, ◌++◌, map, length, All, Contains, Some, IsSome, Bool, true, false, if◌then◌else◌, slice_get, refl, ap, sym, ◌∙◌, subst, arith}
 use Rattle.std.specs.List.{AllPairs}
-use Rattle.std.specs.Option.{option_map}
 use Rattle.std.proofs.lemmas.List.{length-map, map-append}
-use Rattle.std.proofs.lemmas.Option.{get_or_from_slice_get, slice_get-get_or, slice_get-map, slice_get_within, same_Some}
-use Rattle.fx_num.specs.Word.{IsWord, InWord}
+use Rattle.std.proofs.lemmas.Option.{get_or_from_slice_get, slice_get-get_or, slice_get_within, same_Some}
+use Rattle.math_num.specs.Word.{IsWord, InWord}
 use Rattle.hw_net.specs.declared.netlist.Frame.{Frame}
 use Rattle.hw_net.specs.declared.netlist.Net.{Net}
 use Rattle.hw_net.specs.declared.netlist.NetLabel.{NetLabel}
@@ -20,36 +19,12 @@ use Rattle.hw_net.specs.Netlist.{HasBits, HasParts, HasWord, HoldsProducts, IsKi
 use Rattle.hw_net.specs.Products.{net_at, no_net}
 use Rattle.hw_net.proofs.Index.{same-self}
 use Rattle.hw_refine.specs.Redirects.{redirected}
-use Rattle.hw_refine.proofs.Lists.{found, map-get, stands}
+use Rattle.math_list.proofs.Elements.{stands}
+use Rattle.math_list.proofs.Places.{map_there}
 use Rattle.hw_renumber.specs.Renumbered.{moved_label, moved_net, moved_port, renumbered}
 use Rattle.hw_renumber.specs.Sound.{CanStay, IsStanding, RenumberedRuns, RenumberedEmits}
-
--- ---- lists
-
-pub all-from : {X : Type 0} (P : X → Type 0) (xs : List X) → ((k : ℕ) (x : X) → slice_get xs k ≡ Some x → P x) → All P xs
-all-from P xs h k d within = h k (slice_index_or xs k d) (slice_get-get_or xs k d within)
-
-pub all-at : {X : Type 0} (P : X → Type 0) (xs : List X) → All P xs → (k : ℕ) (x : X) → slice_get xs k ≡ Some x → P x
-all-at P xs h k x is = subst P (get_or_from_slice_get xs k x x is) (h k x (slice_get_within xs k x is))
-
-pub all-in : {X : Type 0} (P : X → Type 0) (xs : List X) → All P xs → (x : X) → Contains xs x → P x
-all-in P xs h x c = all-at P xs h c.0 x (found xs x c)
-
-pub map-has : {X Y : Type 0} (f : X → Y) (xs : List X) (k : ℕ) (x : X) → slice_get xs k ≡ Some x → slice_get (map f xs) k ≡ Some (f x)
-map-has f xs k x is = slice_get-map f xs k ∙ ap (option_map f) is
-
--- what a list of images has is the image of what the list has
-pub image : {X Y : Type 0} (f : X → Y) (xs : List X) (y : Y) → Contains (map f xs) y → (x : X) × Contains xs x × (f x ≡ y)
-image f xs y c = (let m = map-get f xs c.0 y (found (map f xs) y c) in (m.0, stands xs c.0 m.0 m.1, m.2))
-
-pub pairs-map : {X Y : Type 0} (f : X → Y) (R : Y → Y → Type 0) (xs : List X) → AllPairs (λ a b. R (f a) (f b)) xs → AllPairs R (map f xs)
-pairs-map f R xs h i j d less within =
-    let one = map-get f xs i (slice_index_or (map f xs) i d) (slice_get-get_or (map f xs) i d (omega (arith, less, within))) in
-    let two = map-get f xs j (slice_index_or (map f xs) j d) (slice_get-get_or (map f xs) j d within) in
-    let a = h i j one.0 less (slice_get_within xs j two.0 two.1) in
-    let b = subst (λ x. R (f x) (f (slice_index_or xs j one.0))) (get_or_from_slice_get xs i one.0 one.0 one.1) a in
-    let c = subst (λ x. R (f one.0) (f x)) (get_or_from_slice_get xs j two.0 one.0 two.1) b in
-    subst (λ y. R (slice_index_or (map f xs) i d) y) two.2 (subst (λ y. R y (f two.0)) one.2 c)
+use Rattle.math_list.proofs.Elements.{all-at, all-from, all-in, from-map as image, pairs-map}
+use Rattle.math_list.proofs.Places.{there_map as map-has}
 
 -- ---- kinds
 
@@ -116,7 +91,7 @@ module _ (old : Circuit) (place : ℕ → ℕ) (kept : List ℕ) (can : CanStay 
 
   -- what holds of the nets that stay, moved, holds of the new nets
   each-new : (P : Net → Type 0) → ((i b : ℕ) → slice_get kept i ≡ Some b → P (moved b)) → (i : ℕ) (net : Net) → slice_get new.nets i ≡ Some net → P net
-  each-new P h i net is = (let f = map-get moved kept i net is in subst P f.2 (h i f.0 f.1))
+  each-new P h i net is = (let f = map_there moved kept i net is in subst P f.2 (h i f.0 f.1))
 
   placed : (k : ℕ) → IsStanding old place kept k → place k < length new.nets
   placed k st = slice_get_within new.nets (place k) (moved st.other) (at-new (place k) st.other st.at)
@@ -146,7 +121,7 @@ module _ (old : Circuit) (place : ℕ → ℕ) (kept : List ℕ) (can : CanStay 
     bits-moved args high low st below h = record {
       ordered = h.ordered;
       within = λ k read net at is.
-          let m = map-get place args k read at in
+          let m = map_there place args k read at in
           let c = stands args k m.0 m.1 in
           let w = word-at m.0 net (st m.0 c) (subst (λ (j : ℕ). slice_get new.nets j ≡ Some net) (sym m.2) is) in
           let b = h.within k m.0 (net_at old.nets m.0) m.1 (slice_get-get_or old.nets m.0 no_net (below m.0 c)) in
@@ -204,22 +179,22 @@ module _ (old : Circuit) (place : ℕ → ℕ) (kept : List ℕ) (can : CanStay 
       there = all-from (λ (n : Net). All (λ (r : ℕ). r < length new.nets) (reads n.kind)) new.nets (each-new (λ (n : Net). All (λ (r : ℕ). r < length new.nets) (reads n.kind))
           (λ i b is. subst (All (λ (r : ℕ). r < length new.nets)) (sym (reads-moved place (net_at old.nets b).kind))
           (all-from (λ (r : ℕ). r < length new.nets) (map place (reads (net_at old.nets b).kind)) (λ k r at.
-          let m = map-get place (reads (net_at old.nets b).kind) k r at in
+          let m = map_there place (reads (net_at old.nets b).kind) k r at in
           subst (λ (r : ℕ). r < length new.nets) m.2 (placed m.0 (can.reads i b m.0 is (stands (reads (net_at old.nets b).kind) k m.0 m.1)))))));
       ranked = (
         can.rank,
         record {
           falls = λ i net is.
-              let f = map-get moved kept i net is in
+              let f = map_there moved kept i net is in
               subst (λ (n : Net). All (λ (r : ℕ). can.rank r < can.rank i) (reads_now n.kind)) f.2
               (subst (All (λ (r : ℕ). can.rank r < can.rank i)) (sym (reads-now-moved place (net_at old.nets f.0).kind))
               (all-from (λ (r : ℕ). can.rank r < can.rank i) (map place (reads_now (net_at old.nets f.0).kind)) (λ k r at.
-              let m = map-get place (reads_now (net_at old.nets f.0).kind) k r at in
+              let m = map_there place (reads_now (net_at old.nets f.0).kind) k r at in
               subst (λ (r : ℕ). can.rank r < can.rank i) m.2 (can.falls i f.0 m.0 f.1 (stands (reads_now (net_at old.nets f.0).kind) k m.0 m.1)))));
         },
       );
       inputs = λ k port is.
-          let p = map-get (moved_port place) old.inputs k port is in
+          let p = map_there (moved_port place) old.inputs k port is in
           let c = can.inputs k p.0 p.1 in
           record {
             net = moved c.other;
@@ -227,7 +202,7 @@ module _ (old : Circuit) (place : ℕ → ℕ) (kept : List ℕ) (can : CanStay 
             shows = ap (redirected place) c.shows;
           };
       outputs = all-from (λ (port : NetPort). port.net < length new.nets) new.outputs (λ k port is.
-          let p = map-get (moved_port place) old.outputs k port is in
+          let p = map_there (moved_port place) old.outputs k port is in
           subst (λ (q : NetPort). q.net < length new.nets) p.2 (placed p.0.net (can.outputs p.0 (stands old.outputs k p.0 p.1))));
     }
 
@@ -257,7 +232,7 @@ module _ (old : Circuit) (place : ℕ → ℕ) (kept : List ℕ) (can : CanStay 
 
     counters-moved : (i : ℕ) (net : Net) (frame : Frame) → slice_get new.nets i ≡ Some net → frame_of net.kind ≡ Some frame → IsSome (counter_of new.nets frame)
     counters-moved i net frame is named =
-        let f = map-get moved kept i net is in
+        let f = map_there moved kept i net is in
         let was : frame_of (net_at old.nets f.0).kind ≡ Some frame = sym (frame-moved place (net_at old.nets f.0).kind) ∙ ap (λ (n : Net). frame_of n.kind) f.2 ∙ named in
         let c = can.counters i f.0 frame f.1 was in
         counter-found new.nets 0 c.place (moved c.number) frame (at-new c.place c.number c.at) (counted-moved place (net_at old.nets c.number).kind ∙ c.counts)

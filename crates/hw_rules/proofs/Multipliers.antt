@@ -4,13 +4,13 @@ use Rattle.std.specs.Prelude.{slice_index, not, ◌&&◌}
 use Rattle.std.specs.List.{sum}
 use Rattle.std.proofs.lemmas.Bool.{cases_lt}
 use Rattle.std.proofs.lemmas.Option.{slice_get_cases, slice_get_within, get_or_from_slice_get}
-use Rattle.dg_waves.specs.Rounds.{numbers_from}
+use Rattle.math_list.specs.Numbers.{numbers_from}
 use Rattle.dg_model.specs.declared.diagram.Diagram.{Diagram}
 use Rattle.dg_model.specs.declared.resolved.Resolved.{Resolved}
 use Rattle.dg_model.specs.Attributes.{attributes_of}
 use Rattle.hw_latency.specs.Shared.{multiplies, is_shared}
-use Rattle.fx_io.proofs.Places.{sum-cons}
-use Rattle.hw_slots.proofs.Sums.{sum_below}
+use Rattle.math_list.proofs.Places.{sum-cons}
+use Rattle.math_list.proofs.Sums.{sum_below}
 use Rattle.hw_sched.specs.Answer.{AreUnits}
 use Rattle.hw_sched.specs.Laws.{UnitsAreThere, UnitsAreUsed}
 use Rattle.hw_sched.specs.Ready.{units_in_all, unshared}

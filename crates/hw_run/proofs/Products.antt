@@ -3,10 +3,10 @@ use Rattle.std.proofs.Common.{◌≡◌, ℕ, suc, ◌*◌, ◌≤◌, Bool, ℤ
 use Rattle.std.proofs.lemmas.Int.{ints}
 use Rattle.std.proofs.Math.IntN.{*ℤ_comm, *ℤ-negsuc}
 use Rattle.std.proofs.lemmas.Option.{same_Some}
-use Rattle.fx_num.specs.Word.{InWord, word_lowest, word_highest}
+use Rattle.math_num.specs.Word.{InWord, word_lowest, word_highest}
 use Rattle.hw_net.specs.declared.netlist.Net.{Net}
 use Rattle.hw_net.specs.Netlist.{HoldsProducts}
-use Rattle.fx_num.proofs.Arithmetic.{scaled-mono}
+use Rattle.math_num.proofs.Arithmetic.{scaled-mono}
 
 -- between two products by one number
 product-between : (width : ℕ) (signed : Bool) (a b x y : ℤ) → a ≤ℤ x → x ≤ℤ b → InWord width signed (a *ℤ y) → InWord width signed (b *ℤ y) → InWord width signed (x *ℤ y)

@@ -1,6 +1,6 @@
 -- What the nets of a netlist that can be run offer to a step.
 use Rattle.std.proofs.Common.{◌≡◌, ℕ, ◌<◌, Bool, List, [], ◌∷◌, length, Option, None, Some, slice_get, slice_index_or, All, arith, refl}
-use Rattle.fx_num.specs.Word.{IsWord}
+use Rattle.math_num.specs.Word.{IsWord}
 use Rattle.hw_net.specs.declared.netlist.Net.{Net}
 use Rattle.hw_net.specs.declared.netlist.NetOp.{NetOp}
 use Rattle.hw_net.specs.declared.netlist.NetOp.TheVariants.{Input, Const, Resize, ShiftUp, ShiftDown, Add, Subtract, Negate, Multiply, And, Or, Xor, Not, Less, Equal, Choose, Slice}
@@ -10,9 +10,8 @@ use Rattle.hw_net.specs.Circuit.{Circuit}
 use Rattle.hw_net.specs.Operation.{arity}
 use Rattle.hw_net.specs.Netlist.{IsNetlist, IsKind, HasParts, HasBits, reads}
 use Rattle.hw_run.specs.inner.Running.{CanGive, CanStep}
-use Rattle.fx_io.proofs.Places.{held}
-use Rattle.hw_net.proofs.Places.{slice_get_inside}
-use Rattle.fx_num.proofs.Words.{word-width}
+use Rattle.math_list.proofs.Places.{held, slice_get_inside}
+use Rattle.math_num.proofs.Words.{word-width}
 
 within-word : (nets : List Net) (args : List ℕ) (high low : ℕ) → All (λ net. IsWord net.width net.signed) nets → All (λ read. read < length nets) args → length args ≡ 1 → HasBits nets args high low → high < 128
 within-word nets [] high low words there one bits = absurd (omega arith)

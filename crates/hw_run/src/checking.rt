@@ -1,7 +1,7 @@
 //! Whether a netlist can be run.
 ghost use Rattle.std.specs.Prelude.{◌≡◌, ◌+◌, ◌-◌, ◌*◌, ◌<◌, ◌*ℤ◌, ◌↔◌, [], ℕ};
 ghost use Rattle.std.specs.Prelude.{length, All, IfOk, slice_get, Some, pos, IsTrue};
-ghost use Rattle.fx_num.specs.Word.{IsWord, InWord, word_lowest, word_highest};
+ghost use Rattle.math_num.specs.Word.{IsWord, InWord, word_lowest, word_highest};
 ghost use Rattle.hw_net.specs.declared.netlist.NetPort.{NetPort};
 ghost use Rattle.hw_net.specs.declared.netlist.NetKind.TheVariants.{Comb};
 ghost use Rattle.hw_net.specs.declared.netlist.NetOp.TheVariants.{Input};

@@ -2,8 +2,9 @@
 ghost use Rattle.std.specs.Prelude.{◌≡◌, ◌^◌, ◌<◌, ◌≤◌, ◌+◌, ◌/◌, ◌%◌, length, pos, ◌+ℤ◌, ◌-ℤ◌};
 ghost use Rattle.std.specs.Prelude.{◌*ℤ◌, negsuc, not, if◌then◌else◌, int_lt, bit_and};
 ghost use Rattle.std.specs.Prelude.{bit_or, bit_xor};
-ghost use Rattle.fx_num.specs.Word.{IsCongruent, IsWord, IsWrapped};
-ghost use Rattle.hw_net.specs.Operation.{low_bits, shifted_down, truth, given_by};
+ghost use Rattle.math_num.specs.Word.{IsCongruent, IsWord, IsWrapped};
+ghost use Rattle.hw_net.specs.Operation.{given_by};
+ghost use Rattle.math_num.specs.Bits.{low_bits, shifted_down, truth};
 ghost use Rattle.std.specs.Ordering.{int_eq};
 ghost use Rattle.hw_run.specs.inner.Running.{CanGive};
 ghost use Rattle.hw_run.specs.State.{row_of};

@@ -1,6 +1,6 @@
 //! What one net shows at a clock, from the row before and what was worked out of its own.
 ghost use Rattle.std.specs.Prelude.{◌≡◌, ◌+◌, ◌*◌, ◌-◌, ◌<◌, length, pos, slice_get, All};
-ghost use Rattle.fx_num.specs.Word.{IsWord, IsWrapped};
+ghost use Rattle.math_num.specs.Word.{IsWord, IsWrapped};
 ghost use Rattle.hw_net.specs.Operation.{given_by};
 ghost use Rattle.hw_net.specs.Netlist.{reads};
 ghost use Rattle.hw_run.specs.inner.Running.{CanGive, CanStep, Shows};

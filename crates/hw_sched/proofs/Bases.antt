@@ -6,7 +6,7 @@ use Rattle.std.proofs.lemmas.Bool.{false≢true, cases_Bool, cond-true, and_part
 use Rattle.std.proofs.lemmas.Bool.Decides.{Decides-int_eq}
 use Rattle.std.proofs.lemmas.Option.{none-some, same_Some}
 use Rattle.std.proofs.lemmas.Nat.{div_below}
-use Rattle.dg_waves.specs.Rounds.{numbers_from}
+use Rattle.math_list.specs.Numbers.{numbers_from}
 use Rattle.fx_type.specs.declared.kind.FxType.{FxType}
 use Rattle.fx_type.specs.declared.kind.FxType.TheVariants.{Num, Logical}
 use Rattle.dg_model.specs.declared.diagram.Diagram.{Diagram}
@@ -14,7 +14,7 @@ use Rattle.dg_model.specs.declared.resolved.Resolved.{Resolved}
 use Rattle.dg_model.specs.Signals.{Attributes}
 use Rattle.hw_latency.specs.Shared.{multiplies, shares, is_shared}
 use Rattle.hw_latency.specs.Weight.{samples}
-use Rattle.hw_slots.proofs.Sums.{greatest_at, sum_below_next}
+use Rattle.math_list.proofs.Sums.{greatest_at, sum_below_next}
 use Rattle.hw_sched.specs.Slots.{Timing, Operation, OperationKind, operation, operations_of, shared_operations, kind_of, is_same_mark, is_same_type, is_same_kind, level_of, count_at, shared_out, level_width, base_slot, levels_of, need_of, turn_of, slot_of}
 use Rattle.hw_sched.specs.Laws.{IsOperation}
 use Rattle.hw_sched.proofs.Lists.{greatest_within, sum_below_rises, sum_below_most, count_below, none_counted, Stands, stands_filtered, stands_joined, stands_below, passes, row_within}

@@ -6,8 +6,8 @@ use Rattle.std.proofs.lemmas.Bool.{cases_Bool, cases_eq, cond-true, cond-false, 
 use Rattle.std.proofs.lemmas.List.{length-append, length-map, map-append, drop_all}
 use Rattle.std.proofs.lemmas.List.Sums.{sum_by-append}
 use Rattle.std.proofs.lemmas.Option.{none-some, slice_get_within, get_or_from_slice_get}
-use Rattle.dg_waves.specs.Rounds.{numbers_from}
-use Rattle.dg_waves.proofs.Waved.{length_numbers}
+use Rattle.math_list.specs.Numbers.{numbers_from, greatest}
+use Rattle.math_list.proofs.Numbers.{length_numbers}
 use Rattle.dg_model.specs.declared.diagram.Diagram.{Diagram}
 use Rattle.dg_model.specs.declared.diagram.Block.{Block}
 use Rattle.dg_model.specs.declared.diagram.Edge.{Edge}
@@ -18,15 +18,14 @@ use Rattle.dg_model.specs.LatencyEdges.{LatencyEdge, signal_edge, asks_ever, ena
 use Rattle.dg_model.specs.Library.{row_of}
 use Rattle.dg_model.specs.RootElements.{RootElement, number_in, root_outputs}
 use Rattle.dg_model.specs.Signals.{Attributes}
-use Rattle.dg_model.specs.Widths.{greatest}
 use Rattle.dg_model.specs.Wired.{IsWired, root_output}
 use Rattle.dg_model.specs.Wires.{width_into}
 use Rattle.dg_sort.proofs.Lines.{lines_from, controls_from}
 use Rattle.hw_arcs.specs.Latencies.{latency_at}
 use Rattle.hw_latency.specs.Shared.{is_shared}
 use Rattle.hw_latency.specs.declared.latencies.Latencies.{Latencies}
-use Rattle.fx_io.proofs.Places.{sum-cons}
-use Rattle.hw_slots.proofs.Sums.{greatest_at, sums_same, sum_below, sum_below_next}
+use Rattle.math_list.proofs.Places.{sum-cons}
+use Rattle.math_list.proofs.Sums.{greatest_at, sums_same, sum_below, sum_below_next}
 use Rattle.hw_sched.specs.Ready.{AreReady, declared_latency, ready_of}
 use Rattle.hw_sched.specs.Answer.{timing_of}
 use Rattle.hw_sched.specs.Slots.{Timing, operation, operations_of, shared_operations}

@@ -13,7 +13,7 @@ use Rattle.dg_model.specs.Library.{row_of}
 use Rattle.dg_model.specs.Wired.{IsWired, Joins}
 use Rattle.dg_model.specs.Wires.{enters, driver_of}
 use Rattle.hw_sched.specs.Laws.{IsEdge, LinesAreEdges, ControlsAreEdges}
-use Rattle.fx_io.proofs.Places.{held, there_map}
+use Rattle.math_list.proofs.Places.{held, there_map}
 use Rattle.hw_sched.proofs.Lists.{Stands, stands_either, stands_left, stands_right, stands_later, some_counted}
 
 -- ---- what is found

@@ -11,7 +11,7 @@ use Rattle.hw_latency.specs.Cone.{is_marked}
 use Rattle.hw_latency.specs.Weight.{samples, is_registered, behind, reserve, arc_of, arc_from, arc_into}
 use Rattle.dg_model.specs.PlanOf.{stages_at}
 use Rattle.hw_sched.specs.Laws.{EdgesAreInTime}
-use Rattle.fx_io.proofs.Places.{there_map}
+use Rattle.math_list.proofs.Places.{there_map}
 use Rattle.hw_sched.proofs.Periods.{periods_are_above}
 use Rattle.hw_sched.proofs.Readiness.{unfed_ready}
 

@@ -17,7 +17,7 @@ use Rattle.hw_sched.proofs.Numbered.{taken_from}
 use Rattle.hw_sched.proofs.Paths.{take_length}
 use Rattle.hw_sched.proofs.Served.{same_period}
 use Rattle.hw_sched.proofs.Reading.{greatest_none, greatest_either, line_counts, line_skips}
-use Rattle.fx_io.proofs.Places.{get_drop}
+use Rattle.math_list.proofs.Places.{get_drop}
 
 -- ---- what the code reads
 

@@ -7,10 +7,9 @@ use Rattle.std.proofs.lemmas.Bool.{cond-true, cond-false, false≢true, cases_lt
 use Rattle.std.proofs.lemmas.List.Sums.{sum_by-take-le}
 use Rattle.std.proofs.lemmas.Nat.{div-add-mod', le-div}
 use Rattle.std.proofs.lemmas.Option.{none-some, same_Some}
-use Rattle.dg_waves.specs.Rounds.{numbers_from}
-use Rattle.dg_model.specs.Widths.{greatest}
-use Rattle.fx_io.proofs.Places.{count_cons}
-use Rattle.hw_slots.proofs.Sums.{sum_below, sum_below_next}
+use Rattle.math_list.specs.Numbers.{numbers_from, greatest}
+use Rattle.math_list.proofs.Places.{count_cons}
+use Rattle.math_list.proofs.Sums.{sum_below, sum_below_next}
 
 -- ---- zeros
 

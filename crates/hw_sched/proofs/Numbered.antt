@@ -6,22 +6,21 @@ use Rattle.std.proofs.lemmas.Bool.{false≢true, cases_Bool, cond-true, cond-fal
 use Rattle.std.proofs.lemmas.List.Sums.{sum_by-cons}
 use Rattle.std.proofs.lemmas.Nat.{div_below}
 use Rattle.std.proofs.lemmas.Option.{none-some, same_Some}
-use Rattle.dg_waves.specs.Rounds.{numbers_from}
+use Rattle.math_list.specs.Numbers.{numbers_from, greatest}
 use Rattle.dg_model.specs.declared.diagram.Diagram.{Diagram}
 use Rattle.dg_model.specs.declared.resolved.Resolved.{Resolved}
 use Rattle.dg_model.specs.Signals.{Attributes}
-use Rattle.dg_model.specs.Widths.{greatest}
 use Rattle.hw_latency.specs.Weight.{samples}
 use Rattle.hw_slots.specs.declared.operation.Operation.{Operation as Cell}
 use Rattle.hw_slots.specs.Slots.{count_at as count_in, needed, level_width as width_in, level_after, levels_of as levels_in, base_slot as base_in, need_of as need_in, turn_of as turn_in, slot_of as slot_in, beside, most_at_once as most_in, units_of_kind as units_in, unit_of as unit_in}
-use Rattle.hw_slots.proofs.Sums.{greatest_at, sums_same}
+use Rattle.math_list.proofs.Sums.{greatest_at, sums_same}
 use Rattle.hw_sched.specs.Slots.{Timing, Operation, OperationKind, shared_operations, kind_of, is_same_kind, level_of, count_at, shared_out, level_width, start_of, base_slot, levels_of, need_of, turn_of, slot_of, most_at_once, units_of_kind, new_kind, kinds_of, before_kind, unit_of}
 use Rattle.hw_sched.specs.Laws.{IsOperation}
 use Rattle.hw_sched.specs.Numbered.{OperationsAreNumbered, all_kinds, number_of, cell_of, cells_of}
 use Rattle.hw_sched.proofs.Lists.{greatest_within, stands_filtered, passes}
 use Rattle.hw_sched.proofs.Bases.{same_kind, own_kind, of_shared}
 use Rattle.hw_sched.proofs.Units.{HasKind, own_listed}
-use Rattle.fx_io.proofs.Places.{map_there, there_map, count_cons}
+use Rattle.math_list.proofs.Places.{map_there, there_map, count_cons}
 
 -- ---- lists
 

@@ -8,7 +8,7 @@ use Rattle.std.proofs.lemmas.Option.{none-some, same_Some}
 use Rattle.dg_model.specs.declared.diagram.Diagram.{Diagram}
 use Rattle.dg_model.specs.declared.resolved.Resolved.{Resolved}
 use Rattle.dg_model.specs.Signals.{Attributes}
-use Rattle.fx_io.proofs.Places.{count_cons}
+use Rattle.math_list.proofs.Places.{count_cons}
 use Rattle.hw_sched.specs.declared.keys.KindKey.{KindKey}
 use Rattle.hw_sched.specs.declared.numbers.KindNumbers.{KindNumbers}
 use Rattle.hw_sched.specs.Slots.{Timing, Operation, OperationKind, kind_of, is_same_kind, with_kind, new_kind, kinds_of, before_kind}

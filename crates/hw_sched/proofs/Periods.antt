@@ -1,4 +1,4 @@
--- Periods are above 0, and blocks whose values move on have one. Crates above may cite this file.
+-- Periods are above 0, and blocks whose values move on have one.
 use Rattle.std.proofs.Common.{◌≡◌, ℕ, zero, ◌*◌, suc, ◌/◌, ◌<◌, ◌≤◌, min, Bool, true, false, List, [], ◌∷◌, length, map, refl, sym, ap, subst, ◌∙◌, inl, inr, arith}
 use Rattle.std.specs.Prelude.{slice_get, Option, Some, None, if◌then◌else◌, ◌^◌, negsuc, ⊤}
 use Rattle.std.specs.List.{filter_map, cons_option}
@@ -27,7 +27,7 @@ use Rattle.dg_model.specs.Faults.{AllKeep}
 use Rattle.dg_model.specs.Rate.{KeepsDeclared}
 use Rattle.dg_model.specs.Wired.{IsWired}
 use Rattle.hw_sched.specs.Laws.{PeriodsAreAbove, PeriodsAreShort, is_moving, MovingHavePeriods}
-use Rattle.fx_io.proofs.Places.{held}
+use Rattle.math_list.proofs.Places.{held}
 use Rattle.dg_rates.proofs.Declaring.{declared_above}
 
 -- a number that is there is above 0

@@ -24,7 +24,7 @@ use Rattle.dg_model.specs.Wired.{MayStand}
 use Rattle.dg_model.specs.Wires.{driver_of, at_source, edges_into, period_into}
 use Rattle.hw_latency.specs.Weight.{is_free}
 use Rattle.hw_sched.specs.Laws.{JoinsPeriods, EdgesJoinPeriods, is_moving}
-use Rattle.fx_io.proofs.Places.{held, there_map}
+use Rattle.math_list.proofs.Places.{held, there_map}
 use Rattle.hw_sched.proofs.Lists.{Stands, stands_left, stands_right, stands_filtered}
 use Rattle.hw_sched.proofs.Edges.{control_edge, edge_cases, not_found, ends_at, drives}
 use Rattle.hw_sched.proofs.Periods.{readable_at, periods_are_above, moving_have_periods}

@@ -20,11 +20,11 @@ use Rattle.dg_model.specs.Library.{row_of}
 use Rattle.dg_model.specs.Loop.{LeadsNow}
 use Rattle.dg_model.specs.Rate.{joins_periods}
 use Rattle.dg_model.specs.Signals.{Attributes}
-use Rattle.dg_model.specs.Widths.{greatest}
+use Rattle.math_list.specs.Numbers.{greatest}
 use Rattle.hw_latency.specs.Cone.{is_marked}
 use Rattle.hw_latency.specs.Shared.{multiplies, multiplies_if, shares, is_shared}
 use Rattle.hw_latency.specs.Weight.{samples}
-use Rattle.hw_slots.proofs.Sums.{greatest_at}
+use Rattle.math_list.proofs.Sums.{greatest_at}
 use Rattle.hw_sched.specs.Level.{depth_at}
 use Rattle.hw_sched.specs.Slots.{Timing, Operation, base_slot, shorter_into, level_of}
 use Rattle.hw_sched.specs.Ready.{ready_of}

@@ -27,7 +27,7 @@ use Rattle.hw_latency.specs.Shared.{is_shared}
 use Rattle.hw_sched.specs.Laws.{IsEdge}
 use Rattle.hw_sched.specs.Level.{depth_at, is_same_period, IsDepth, AreDepths}
 use Rattle.hw_sched.specs.inner.Greatest.{IsGreatest, IsFirstInto, IsLineFrom, IsReadBy, own_depth, IsNextDepth, AreDepthsTo}
-use Rattle.fx_io.proofs.Places.{held}
+use Rattle.math_list.proofs.Places.{held}
 use Rattle.hw_sched.proofs.Standing.{IsBest, depth_is, period_is}
 use Rattle.hw_sched.proofs.Edges.{control_edge, edge_cases, controls_are_edges, line_is_edge}
 use Rattle.hw_sched.proofs.Paths.{leads_now}

@@ -12,7 +12,7 @@ use Rattle.dg_model.specs.declared.rule.Rule.{Rule}
 use Rattle.dg_model.specs.Attributes.{attributes_of}
 use Rattle.dg_model.specs.Signals.{Attributes}
 use Rattle.dg_model.specs.Faults.{fault_of}
-use Rattle.dg_model.specs.Widths.{greatest}
+use Rattle.math_list.specs.Numbers.{greatest}
 use Rattle.hw_latency.specs.declared.latencies.Latencies.{Latencies}
 use Rattle.hw_latency.specs.Weight.{samples}
 use Rattle.hw_slots.specs.declared.operation.Operation.{Operation as Cell}
@@ -35,7 +35,7 @@ use Rattle.hw_sched.specs.inner.Cells.{AreCells}
 use Rattle.hw_sched.specs.inner.Spans.{AreSpans, span_of}
 use Rattle.hw_sched.specs.inner.Served.{AreBases, IsServed}
 use Rattle.hw_sched.specs.declared.cells.Cells.{Cells}
-use Rattle.fx_io.proofs.Places.{there_map}
+use Rattle.math_list.proofs.Places.{there_map}
 use Rattle.hw_sched.proofs.Bases.{of_shared}
 use Rattle.hw_sched.proofs.Served.{have_periods}
 use Rattle.hw_sched.proofs.Units.{own_listed}

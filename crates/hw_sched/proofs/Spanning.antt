@@ -15,12 +15,12 @@ use Rattle.dg_model.specs.Rate.{joins_periods}
 use Rattle.dg_model.proofs.Propagation.{length_periods}
 use Rattle.hw_latency.specs.Weight.{samples}
 use Rattle.hw_slots.specs.declared.operation.Span.{Span}
-use Rattle.hw_slots.proofs.Sums.{greatest_next}
+use Rattle.math_list.proofs.Sums.{greatest_next}
 use Rattle.hw_sched.specs.Slots.{shorter_into, start_of}
 use Rattle.hw_sched.specs.inner.Spans.{AreCounted, AreLongestTo, AreLongest, AreSpansTo, AreSpans, longest_of, span_of}
 use Rattle.hw_sched.proofs.Lists.{greatest_within}
 use Rattle.hw_sched.proofs.Periods.{periods_are_short}
-use Rattle.fx_io.proofs.Places.{get_front, last_at}
+use Rattle.math_list.proofs.Places.{get_front, last_at}
 
 -- ---- periods
 

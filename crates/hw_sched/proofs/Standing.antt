@@ -17,7 +17,7 @@ use Rattle.hw_sched.specs.Laws.{IsEdge, DepthsAreOne}
 use Rattle.hw_sched.specs.Level.{is_same_period, EndsWith, IsDepth}
 use Rattle.hw_sched.proofs.Bases.{shared_period}
 use Rattle.hw_sched.proofs.Lists.{none_counted}
-use Rattle.fx_io.proofs.Places.{get_taken}
+use Rattle.math_list.proofs.Places.{get_taken}
 use Rattle.hw_sched.proofs.Paths.{ends_later, path_taken, take_length}
 use Rattle.hw_sched.proofs.Rates.{edges_join_periods}
 use Rattle.hw_sched.proofs.Readiness.{end_of, instant_longer}

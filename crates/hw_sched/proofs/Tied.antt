@@ -6,7 +6,7 @@ use Rattle.std.specs.Ordering.{nat_cmp, bool_cmp, int_cmp, int_eq, ordering_then
 use Rattle.std.specs.Cmp.{tied_then}
 use Rattle.fx_type.specs.declared.kind.FxType.{FxType}
 use Rattle.fx_type.specs.declared.kind.FxType.TheVariants.{Num, Logical}
-use Rattle.hw_slots.proofs.Sums.{tied_number}
+use Rattle.math_list.proofs.Sums.{tied_number}
 use Rattle.hw_sched.specs.Slots.{OperationKind, is_same_mark, is_same_type, is_same_kind}
 use Rattle.hw_sched.specs.inner.Keys.{word_of, key_of, compare_words, compare_keys}
 

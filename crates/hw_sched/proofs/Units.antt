@@ -11,8 +11,8 @@ use Rattle.dg_model.specs.declared.diagram.Diagram.{Diagram}
 use Rattle.dg_model.specs.declared.resolved.Resolved.{Resolved}
 use Rattle.dg_model.specs.Signals.{Attributes}
 use Rattle.hw_latency.specs.Weight.{samples}
-use Rattle.fx_io.proofs.Places.{count_cons, sum-cons}
-use Rattle.hw_slots.proofs.Sums.{greatest_at}
+use Rattle.math_list.proofs.Places.{count_cons, sum-cons}
+use Rattle.math_list.proofs.Sums.{greatest_at}
 use Rattle.hw_sched.specs.Slots.{Timing, Operation, OperationKind, shared_operations, kind_of, is_same_kind, level_of, count_at, base_slot, turn_of, slot_of, units_of_kind, new_kind, kinds_of, before_kind}
 use Rattle.hw_sched.specs.Laws.{IsOperation, SlotsDiffer, UnitsAreThere}
 use Rattle.hw_sched.proofs.Lists.{count_rises}

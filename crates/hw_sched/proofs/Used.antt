@@ -8,12 +8,12 @@ use Rattle.std.proofs.lemmas.Option.{none-some, same_Some}
 use Rattle.dg_model.specs.declared.diagram.Diagram.{Diagram}
 use Rattle.dg_model.specs.declared.resolved.Resolved.{Resolved}
 use Rattle.dg_model.specs.Signals.{Attributes}
-use Rattle.dg_model.specs.Widths.{greatest}
+use Rattle.math_list.specs.Numbers.{greatest}
 use Rattle.hw_sched.specs.Slots.{Timing, Operation, OperationKind, shared_operations, kind_of, is_same_kind, level_of, count_at, turn_of, units_of_kind, new_kind, kinds_of, before_kind}
 use Rattle.hw_sched.specs.Laws.{UnitsAreUsed}
 use Rattle.hw_sched.proofs.Lists.{Stands, stands_later}
 use Rattle.hw_sched.proofs.Bases.{same_kind, own_kind}
-use Rattle.fx_io.proofs.Places.{push_cases, there_within, count_cons, sum-cons}
+use Rattle.math_list.proofs.Places.{push_cases, there_within, count_cons, sum-cons}
 
 -- ---- lists
 

@@ -1,10 +1,10 @@
--- Each output port of a checked diagram has a width, and each block one of its own. Crates above may cite this file.
+-- Each output port of a checked diagram has a width, and each block one of its own.
 use Rattle.std.proofs.Common.{◌≡◌, ℕ, ◌-◌, ◌<◌, ◌≤◌, min, Bool, true, false, cond, List, length, map, sym, ap, subst, ◌∙◌, arith}
 use Rattle.std.specs.Prelude.{slice_get, slice_index_or, [], Option, Some}
 use Rattle.std.proofs.lemmas.List.{length-map}
 use Rattle.std.proofs.lemmas.Option.{slice_get_within}
-use Rattle.dg_waves.specs.Rounds.{numbers_from}
-use Rattle.dg_waves.proofs.Waved.{length_numbers}
+use Rattle.math_list.specs.Numbers.{numbers_from}
+use Rattle.math_list.proofs.Numbers.{length_numbers}
 use Rattle.dg_model.specs.declared.diagram.Diagram.{Diagram}
 use Rattle.dg_model.specs.declared.diagram.Block.{Block}
 use Rattle.dg_model.specs.declared.diagram.Edge.{Edge}
@@ -20,7 +20,7 @@ use Rattle.dg_sort.proofs.Lines.{matched, from_there, to_there, control_there}
 use Rattle.hw_sched.specs.inner.Counted.{IsThere}
 use Rattle.hw_sched.proofs.Edges.{found_there}
 use Rattle.hw_sched.proofs.Periods.{readable_at}
-use Rattle.fx_io.proofs.Places.{get_some}
+use Rattle.math_list.proofs.Places.{get_some}
 
 parts_length : (sizes : List ℕ) (width : ℕ) (are_even : Bool) → length (map (min most_width) (cond are_even (map (share width (length sizes)) (numbers_from 0 (length sizes))) sizes)) ≡ length sizes
 parts_length sizes width true =

@@ -1,7 +1,7 @@
 -- How much storage is counted of a module, and the rule of size (own).
 use Rattle.std.specs.Prelude.{◌≡◌, ℕ, ◌+◌, ◌-◌, ◌*◌, ◌/◌, ◌≤◌, ◌<◌, ◌⊎◌, Bool, true, false, if◌then◌else◌, [], length, map, Option, Some, None, slice_get}
 use Rattle.std.specs.List.{sum}
-use Rattle.dg_waves.specs.Rounds.{numbers_from}
+use Rattle.math_list.specs.Numbers.{numbers_from, greatest}
 use Rattle.dg_model.specs.declared.diagram.Diagram.{Diagram}
 use Rattle.dg_model.specs.declared.diagram.Block.{Block}
 use Rattle.dg_model.specs.declared.fault.RuleFault.{RuleFault}
@@ -15,7 +15,6 @@ use Rattle.dg_model.specs.LatencyEdges.{LatencyEdge, latency_edges}
 use Rattle.dg_model.specs.Library.{row_of}
 use Rattle.dg_model.specs.RootElements.{root_outputs}
 use Rattle.dg_model.specs.Signals.{Attributes}
-use Rattle.dg_model.specs.Widths.{greatest}
 use Rattle.dg_model.specs.Wires.{period_into}
 use Rattle.hw_arcs.specs.Latencies.{latency_at}
 use Rattle.hw_latency.specs.Weight.{samples, is_registered, arc_between}

@@ -4,14 +4,14 @@ use Rattle.std.specs.Ordering.{int_eq}
 use Rattle.std.proofs.lemmas.Option.{slice_get_within, same_Some}
 use Rattle.std.proofs.lemmas.Nat.{mul-lt}
 use Rattle.std.proofs.lemmas.List.Elements.{All-nil, All-cons}
-use Rattle.fx_num.specs.Word.{IsWord, InWord, IsWrapped}
+use Rattle.math_num.specs.Word.{IsWord, InWord, IsWrapped}
 use Rattle.hw_net.specs.declared.netlist.Frame.{Frame}
 use Rattle.hw_net.specs.declared.netlist.Net.{Net}
 use Rattle.hw_net.specs.declared.netlist.NetOp.TheVariants.{Const, Equal, Choose}
 use Rattle.hw_net.specs.declared.netlist.NetKind.{NetKind}
 use Rattle.hw_net.specs.declared.netlist.NetKind.TheVariants.{Comb}
 use Rattle.hw_net.specs.Circuit.{Circuit}
-use Rattle.hw_net.specs.Operation.{truth}
+use Rattle.math_num.specs.Bits.{truth}
 use Rattle.hw_net.specs.Closed.{CounterIsTelling}
 use Rattle.hw_net.specs.Frames.{counter_of, IsCounterAt}
 use Rattle.hw_net.specs.Registers.{IsCounter}
@@ -23,7 +23,7 @@ use Rattle.hw_lines.specs.Register.{IsThere}
 use Rattle.hw_share.specs.inner.Parts.{IsNamed, Grows, IsChoosing}
 use Rattle.hw_share.specs.inner.Choices.{Tests, Chooses, IsTestAt, IsChoiceAt, HaveOneWord}
 use Rattle.hw_share.proofs.Numbers.{bit-word, truth-is, chosen-on, chosen-off}
-use Rattle.hw_net.proofs.Numbers.{wrapped-is}
+use Rattle.math_num.proofs.Words.{wrapped-is}
 use Rattle.hw_share.proofs.Grown.{all-two, all-three, grows-then}
 use Rattle.hw_share.proofs.Put.{put-extends, put-there, comb-grows}
 use Rattle.hw_share.proofs.Counters.{counter-of-at, counter-shows, counter-grows, tests-of}

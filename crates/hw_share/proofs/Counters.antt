@@ -1,4 +1,4 @@
--- The Counter of a frame, and a test for a clock of the frame by it. Crates above may cite this file.
+-- The Counter of a frame, and a test for a clock of the frame by it.
 use Rattle.std.proofs.Common.{◌≡◌, ℕ, suc, ◌+◌, ◌-◌, ◌<◌, inl, inr, Bool, true, false, if◌then◌else◌, List, [], ◌∷◌, Option, None, Some, slice_get, pos, ap, sym, ◌∙◌, subst, arith, refl, true≢false}
 use Rattle.std.specs.Ordering.{int_eq}
 use Rattle.std.proofs.lemmas.Option.{slice_get_within, none-some, same_Some}
@@ -7,7 +7,7 @@ use Rattle.hw_net.specs.declared.netlist.Net.{Net}
 use Rattle.hw_net.specs.declared.netlist.NetKind.{NetKind}
 use Rattle.hw_net.specs.declared.netlist.NetKind.TheVariants.{Comb, Reg, EnReg, Bridge, Unit, Counter}
 use Rattle.hw_net.specs.Circuit.{Circuit}
-use Rattle.hw_net.specs.Operation.{truth}
+use Rattle.math_num.specs.Bits.{truth}
 use Rattle.hw_net.specs.Closed.{CounterTells}
 use Rattle.hw_net.specs.Frames.{is_frame, counted_frame, counter_from, counter_of, IsCounterAt}
 use Rattle.hw_net.specs.Registers.{Wave, Span, IsCounter}
@@ -18,7 +18,7 @@ use Rattle.hw_lines.proofs.Parts.{counter-part, counter-count}
 use Rattle.hw_net.proofs.Growing.{still-there, appends-counter}
 use Rattle.hw_share.specs.inner.Parts.{Grows}
 use Rattle.hw_share.specs.inner.Choices.{Tests}
-use Rattle.hw_net.proofs.Modular.{is-same, not-same}
+use Rattle.math_num.proofs.Residues.{is-same, not-same}
 
 -- the number that is found is that of a Counter of the frame
 pub counter-at : (nets : List Net) (start k : ℕ) (frame : Frame) → counter_from nets start frame ≡ Some k → (i : ℕ) × (k ≡ start + i) × IsCounterAt nets i frame

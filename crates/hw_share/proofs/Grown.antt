@@ -1,4 +1,4 @@
--- Netlists that grow by such parts, and what is kept of them. Crates above may cite this file.
+-- Netlists that grow by such parts, and what is kept of them.
 use Rattle.std.proofs.Common.{◌≡◌, ℕ, ◌+◌, inl, inr, List, [], ◌∷◌, length, All, Some, slice_get, ap, sym, ◌∙◌, arith, refl}
 use Rattle.std.proofs.lemmas.Bool.{cases_lt}
 use Rattle.std.proofs.lemmas.Option.{slice_get_within, same_Some}

@@ -6,7 +6,8 @@ use Rattle.hw_net.specs.Circuit.{Circuit}
 use Rattle.hw_net.specs.Registers.{IsReg}
 use Rattle.hw_net.specs.NetRows.{span_of}
 use Rattle.hw_net.specs.Growing.{Extends, InRows}
-use Rattle.hw_net.proofs.Growing.{split-last, longer, still-there, in-rows-first, in-rows-last}
+use Rattle.hw_net.proofs.Growing.{longer, still-there, in-rows-first, in-rows-last}
+use Rattle.math_list.proofs.Places.{split-last}
 use Rattle.hw_share.specs.declared.operation.Operation.{Operation}
 use Rattle.hw_share.specs.Shared.{IsFrameOf}
 use Rattle.hw_share.specs.inner.Parts.{IsNamed, Grows, IsKeeping}

@@ -5,7 +5,7 @@ use Rattle.std.specs.Cmp.{tied_then}
 use Rattle.std.specs.Ordering.{nat_cmp, is_eq}
 use Rattle.std.proofs.lemmas.Bool.{and_parts, eqb-true}
 use Rattle.std.proofs.lemmas.Option.{none-some, same_Some}
-use Rattle.fx_io.proofs.Tests.{tied}
+use Rattle.math_list.proofs.Tests.{tied}
 use Rattle.hw_net.specs.ByFrame.{compare_frames}
 use Rattle.hw_net.specs.declared.netlist.Frame.{Frame}
 use Rattle.hw_net.specs.Circuit.{Circuit}

@@ -3,13 +3,14 @@ use Rattle.std.proofs.Common.{◌≡◌, ℕ, zero, suc, ◌+◌, ◌<◌, ◌�
 use Rattle.std.proofs.lemmas.Bool.{cases_lt}
 use Rattle.std.proofs.lemmas.Option.{slice_get_within, none-some, same_Some}
 use Rattle.std.proofs.lemmas.List.Elements.{All-nil, All-cons}
-use Rattle.fx_num.specs.Word.{InWord}
+use Rattle.math_num.specs.Word.{InWord}
 use Rattle.hw_net.specs.declared.netlist.Net.{Net}
 use Rattle.hw_net.specs.declared.netlist.NetKind.TheVariants.{Unit}
 use Rattle.hw_net.specs.Circuit.{Circuit}
 use Rattle.hw_net.specs.Netlist.{HoldsProducts}
 use Rattle.hw_net.specs.Growing.{Extends, MayRead, MayReadNow, with_net}
-use Rattle.hw_net.proofs.Growing.{last-of, front-of, longer, one-longer, still-there, word-stays, in-rows-first, in-rows-last, in-rows-one}
+use Rattle.hw_net.proofs.Growing.{longer, one-longer, still-there, word-stays, in-rows-first, in-rows-last, in-rows-one}
+use Rattle.math_list.proofs.Places.{last_at, get_front}
 use Rattle.hw_share.specs.declared.joining.Ends.{Ends}
 use Rattle.hw_share.specs.inner.Parts.{IsNamed, Grows, IsMultiplying}
 use Rattle.hw_share.specs.inner.Steps.{CanMultiply, Multiplies, IsMultiplier, AreMultipliers, reads_of}
@@ -166,7 +167,7 @@ module _ (a b c : Circuit) (ends : List (Option Ends)) (numbers : List ℕ) (cou
       ]
 
       placed-of : (unit : ℕ) → unit < count + 1 → (unit < count) ⊎ (unit ≡ count) → slice_get (numbers ++ number ∷ []) unit ≡ Some (length a.nets + unit)
-      placed-of unit less (inl before) = front-of numbers (number ∷ []) unit (omega (arith, are.size)) ∙ are.placed unit before
+      placed-of unit less (inl before) = get_front numbers (number ∷ []) unit (omega (arith, are.size)) ∙ are.placed unit before
       placed-of unit less (inr e) =
           let at_end : unit ≡ length numbers = e ∙ sym are.size in
-          ap (slice_get (numbers ++ number ∷ [])) at_end ∙ last-of numbers number ∙ ap Some (same-place ∙ ap (λ (u : ℕ). length a.nets + u) (sym e))
+          ap (slice_get (numbers ++ number ∷ [])) at_end ∙ last_at numbers number ∙ ap Some (same-place ∙ ap (λ (u : ℕ). length a.nets + u) (sym e))

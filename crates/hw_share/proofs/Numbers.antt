@@ -1,11 +1,11 @@
--- Numbers cut to a word, and tests of them. Crates above may cite this file.
+-- Numbers cut to a word, and tests of them.
 use Rattle.std.proofs.Common.{◌≡◌, ◌≢◌, ℕ, ◌≤◌, Bool, true, false, not, if◌then◌else◌, ℤ, pos, arith}
 use Rattle.std.specs.Ordering.{int_eq}
 use Rattle.std.proofs.lemmas.Int.{ints}
-use Rattle.fx_num.specs.Word.{IsWord, InWord, IsWrapped}
-use Rattle.hw_net.specs.Operation.{truth}
-use Rattle.hw_net.proofs.Modular.{is-same, not-same}
-use Rattle.hw_net.proofs.Numbers.{wrapped-is}
+use Rattle.math_num.specs.Word.{IsWord, InWord, IsWrapped}
+use Rattle.math_num.specs.Bits.{truth}
+use Rattle.math_num.proofs.Residues.{is-same, not-same}
+use Rattle.math_num.proofs.Words.{wrapped-is}
 
 pub bit-word : IsWord 1 false
 bit-word = (omega arith, omega arith)

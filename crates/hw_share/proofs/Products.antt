@@ -1,9 +1,9 @@
 -- A word as wide as two words together has the products of their numbers.
 use Rattle.std.proofs.Common.{◌≡◌, ℕ, ◌+◌, ◌-◌, ◌*◌, ◌^◌, ◌<◌, ◌≤◌, Bool, true, false, true≢false, cond, ◌||◌, ℤ, pos, ◌*ℤ◌, ◌≤ℤ◌, mul_comm, arith, pow_pos, unsigned_abs, refl}
 use Rattle.std.proofs.lemmas.Int.{ints}
-use Rattle.fx_num.specs.Word.{IsWord, InWord}
-use Rattle.fx_num.proofs.Arithmetic.{abs-between, abs-below, below-power, below-power-strict}
-use Rattle.hw_net.proofs.Magnitudes.{signed-product, unsigned-product}
+use Rattle.math_num.specs.Word.{IsWord, InWord}
+use Rattle.math_num.proofs.Arithmetic.{abs-between, abs-below, below-power, below-power-strict}
+use Rattle.math_num.proofs.Words.{signed-product, unsigned-product}
 
 -- how many bits the absolute value of a word's numbers has at most
 abbrev exponent : ℕ → Bool → ℕ

@@ -1,7 +1,7 @@
--- One net put behind the others. Crates above may cite this file.
+-- One net put behind the others.
 use Rattle.std.proofs.Common.{◌≡◌, ℕ, ◌<◌, inl, inr, Bool, if◌then◌else◌, List, [], ◌∷◌, length, All, Some, None, slice_get, ap, sym, ◌∙◌, subst, arith, refl}
 use Rattle.std.proofs.lemmas.Option.{none-some}
-use Rattle.fx_num.specs.Word.{IsWord}
+use Rattle.math_num.specs.Word.{IsWord}
 use Rattle.hw_net.specs.declared.netlist.Net.{Net}
 use Rattle.hw_net.specs.declared.netlist.NetOp.{NetOp}
 use Rattle.hw_net.specs.declared.netlist.NetKind.{NetKind}
@@ -10,7 +10,8 @@ use Rattle.hw_net.specs.Circuit.{Circuit}
 use Rattle.hw_net.specs.Frames.{counted_frame, is_register, register_count}
 use Rattle.hw_net.specs.Netlist.{IsKind}
 use Rattle.hw_net.specs.Growing.{Extends, IsAppended, MayReadNow, with_net}
-use Rattle.hw_net.proofs.Growing.{last-of, split-last, extends-one, one-longer, appends-one, differ-other, count-append}
+use Rattle.hw_net.proofs.Growing.{extends-one, one-longer, appends-one, differ-other, count-append}
+use Rattle.math_list.proofs.Places.{last_at, split-last}
 use Rattle.hw_share.specs.inner.Parts.{Grows}
 
 module _ (a b : Circuit) (one : Net) (grown : b ≡ with_net a one) where
@@ -18,7 +19,7 @@ module _ (a b : Circuit) (one : Net) (grown : b ≡ with_net a one) where
   put-extends = extends-one a b one grown
 
   pub put-there : slice_get b.nets (length a.nets) ≡ Some one
-  put-there = ap (λ (x : Circuit). slice_get x.nets (length a.nets)) grown ∙ last-of a.nets one
+  put-there = ap (λ (x : Circuit). slice_get x.nets (length a.nets)) grown ∙ last_at a.nets one
 
   pub put-grows : (named : List ℕ) (part : NetKind → Type 0) (count : ℕ) → IsAppended a b named (length a.nets) one → counted_frame one.kind ≡ None → part one.kind
       → (if is_register one.kind then 1 else 0) ≡ count → Grows a b named part count

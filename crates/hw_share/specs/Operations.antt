@@ -1,7 +1,7 @@
 -- What is asked of operations that share multipliers (own; HDL Coder, resource sharing).
 use Rattle.std.specs.Prelude.{◌≡◌, ◌≢◌, ℕ, ◌+◌, ◌*◌, ◌<◌, ◌≤◌, ◌||◌, max, List, [], ◌∷◌, slice_get}
 use Rattle.std.specs.Prelude.{Some}
-use Rattle.fx_num.specs.Word.{IsWord}
+use Rattle.math_num.specs.Word.{IsWord}
 use Rattle.hw_net.specs.declared.netlist.Net.{Net}
 use Rattle.hw_net.specs.Circuit.{Circuit}
 use Rattle.hw_net.specs.Emittable.{most_period}

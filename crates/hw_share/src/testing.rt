@@ -1,6 +1,6 @@
 //! A test for a clock of a frame, by the frame's Counter.
 ghost use Rattle.std.specs.Prelude.{◌≡◌, ◌-◌, ◌<◌, ◌≤◌, ◌^◌, max, [], IfOk, OnOk, pos, false};
-ghost use Rattle.fx_num.specs.Word.{IsWord, InWord};
+ghost use Rattle.math_num.specs.Word.{IsWord, InWord};
 ghost use Rattle.hw_share.specs.inner.Parts.{Grows, IsChoosing};
 ghost use Rattle.hw_share.specs.inner.Choices.{IsSlotOf, IsTestAt};
 

@@ -27,14 +27,14 @@ use Rattle.hw_shows.specs.Timing.{Timing}
 use Rattle.hw_shows.specs.Timed.{lag_of, lag_into}
 use Rattle.hw_shows.specs.Series.{steady, AreSame}
 use Rattle.hw_shows.specs.Waves.{Waves, IsMadeAs, IsScaled, IsMultiplied, IsDelayed, IsPassedOut}
-use Rattle.fx_io.proofs.Places.{held}
+use Rattle.math_list.proofs.Places.{held}
 use Rattle.dg_tables.proofs.Sources.{IsRead, elements_read}
 use Rattle.hw_shows.proofs.Inputs.{Setting, BlockShows, AreOffered, driver_there, in_time, enabled_now}
 use Rattle.hw_shows.proofs.Elements.{carried_out, multiplied, scaled, joined, parted, tested}
 use Rattle.hw_shows.proofs.Delays.{period_is, delayed, slowed, still_delayed, enabled_delayed, truth, some_own}
 use Rattle.hw_shows.proofs.States.{IsTruth}
 use Rattle.hw_shows.proofs.Outputs.{held_out, reset_out}
-use Rattle.fx_io.proofs.Tests.{some_there}
+use Rattle.math_list.proofs.Tests.{some_there}
 
 module _ {diagram : Diagram} {attributes : Attributes} {rank : ℕ → ℕ} {stimulus : Stimulus} {timing : Timing} {clocks n : ℕ} {table : Table} {waves : Waves} (s : Setting diagram attributes rank stimulus timing clocks n table waves)
     (k : ℕ) (within : suc k ≤ clocks) (block : ℕ) (all : (other : ℕ) → BlockShows s k other) (lower : (driver : ℕ) → rank driver < rank block → BlockShows s (suc k) driver)

@@ -1,4 +1,4 @@
--- Blocks that show what their inputs were offered before: Delays, transitions from slow to fast, and output ports of enabled subsystems. Crates above may cite this file.
+-- Blocks that show what their inputs were offered before: Delays, transitions from slow to fast, and output ports of enabled subsystems.
 use Rattle.std.proofs.Common.{◌≡◌, ℕ, zero, suc, ◌+◌, ◌-◌, ◌*◌, ◌/◌, ◌%◌, ◌<◌, ◌≤◌, inl, inr, ℤ, Bool, true, false, true≢false, List, [], Option, Some, None, slice_get, ap, sym, ◌∙◌, subst, refl, arith, mul-le-mul_right}
 use Rattle.std.proofs.Math.Nat.{mul-mod_left}
 use Rattle.std.proofs.lemmas.Nat.{div-add-mod', mod_below}
@@ -22,7 +22,7 @@ use Rattle.dg_model.specs.Wired.{NamesControl}
 use Rattle.dg_model.specs.Operation.{stored_truth}
 use Rattle.dg_model.specs.Equation.{StoresEntry, IsInputAt, KindEquation}
 use Rattle.dg_model.specs.Solves.{IsShown, shown_ports}
-use Rattle.fx_io.proofs.Places.{held}
+use Rattle.math_list.proofs.Places.{held}
 use Rattle.dg_tables.proofs.Sources.{IsRead, is_control}
 use Rattle.hw_net.specs.Registers.{Span}
 use Rattle.hw_lines.specs.Line.{IsRegistered}

@@ -5,7 +5,7 @@ use Rattle.std.proofs.lemmas.Option.{none-some}
 use Rattle.fx_type.specs.declared.kind.FxType.{FxType}
 use Rattle.fx_type.specs.declared.decimal.Decimal.{Decimal}
 use Rattle.fx_type.specs.Conversion.{Converts}
-use Rattle.dg_waves.specs.Rounds.{numbers_from}
+use Rattle.math_list.specs.Numbers.{numbers_from}
 use Rattle.dg_model.specs.declared.diagram.Diagram.{Diagram}
 use Rattle.dg_model.specs.declared.diagram.Block.{Block}
 use Rattle.dg_model.specs.declared.kind.Kind.{Kind}
@@ -16,7 +16,9 @@ use Rattle.dg_model.specs.Operation.{OpGives, stored_truth, value_of, type_of}
 use Rattle.dg_model.specs.Wires.{width_into, type_into, types_into, value_into, values_into}
 use Rattle.dg_model.specs.Equation.{StoresEntry, IsOpOf, ElementEquation, MuxEquation, DemuxEquation, EnableEquation}
 use Rattle.dg_model.specs.Solves.{shown_ports}
-use Rattle.dg_tables.proofs.Lists.{map_same, any_same, get_number, length_numbers, sum_before, below_repeated}
+use Rattle.dg_tables.proofs.Lists.{below_repeated}
+use Rattle.math_list.proofs.Numbers.{map_same, any_same, get_number, length_mapped}
+use Rattle.math_list.proofs.Sums.{sum_before}
 use Rattle.dg_tables.proofs.Sources.{IsRead}
 use Rattle.hw_net.specs.Registers.{Wave}
 use Rattle.hw_net.specs.Closed.{frame_start}
@@ -127,7 +129,7 @@ module _ {diagram : Diagram} {attributes : Attributes} {rank : ℕ → ℕ} {sti
         (made.signal, made.place, made.part, made.same.at c (omega arith) ∙ (now (suc made.signal) made.place (omega arith) (omega (arith, signal_is)) (below_repeated (width_into diagram attributes block (suc made.signal)) made.place (inr inside))).at t c below early seen)
       where
         signal_is : made.signal < b.inputs
-        signal_is = subst (λ (m : ℕ). made.signal < m) (length_numbers (width_into diagram attributes block) 1 b.inputs) made.part.signal_is
+        signal_is = subst (λ (m : ℕ). made.signal < m) (length_mapped (width_into diagram attributes block) 1 b.inputs) made.part.signal_is
 
         inside : made.place < width_into diagram attributes block (suc made.signal)
         inside =

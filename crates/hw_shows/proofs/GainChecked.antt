@@ -9,7 +9,7 @@ use Rattle.dg_model.specs.declared.diagram.Block.{Block}
 use Rattle.dg_model.specs.declared.kind.Kind.TheVariants.{Gain, Delay, EnableTest}
 use Rattle.dg_model.specs.Readable.{IsReadable}
 use Rattle.dg_tables.specs.Laws.{IsOrdered}
-use Rattle.dg_model.proofs.Written.{all_of}
+use Rattle.math_list.proofs.ByRecursion.{all_of}
 use Rattle.hw_shows.proofs.Small.{int8, int8_valid, decimal_of, block_of, input_of, output, edge_of, input_readable, output_readable, widths_of_six, order_of_six}
 use Rattle.hw_shows.proofs.KeptRules.{one_number, two_numbers}
 use Rattle.hw_shows.proofs.TriedRules.{Columns, IsTried, ordered_by}

@@ -1,4 +1,4 @@
--- The rules that a diagram keeps which is worked out by hand: its edges by tests, and what holds of it over attributes that are written out. Crates above may cite this file.
+-- The rules that a diagram keeps which is worked out by hand: its edges by tests, and what holds of it over attributes that are written out.
 use Rattle.std.proofs.Common.{◌≡◌, ◌≢◌, ℕ, ◌≤◌, Bool, true, false, true≢false, ◌&&◌, cond, List, [], ◌∷◌, get_or, Option, Some, None, slice_get, All, inl, inr, sym, subst, refl, arith}
 use Rattle.std.specs.Prelude.{◌==◌, nat_le, nat_lt, AllPairs, MatchOption}
 use Rattle.std.specs.List.{AllByRecursion, list_all}
@@ -16,7 +16,7 @@ use Rattle.dg_model.specs.TypeRounds.{Types, types_of}
 use Rattle.dg_model.specs.TypeRule.{IsNotWide, HasTypes, HasAgreeing, KeepsTypes}
 use Rattle.dg_model.specs.Widths.{Widths, widths_of}
 use Rattle.dg_model.specs.Wired.{AreNumbered, Joins, StandsBefore}
-use Rattle.dg_model.proofs.Written.{PairsByRecursion, all_of, pairs_of}
+use Rattle.math_list.proofs.ByRecursion.{PairsByRecursion, all_of, pairs_of}
 
 -- ---- edges join ports, by a test
 abbrev has_port : Option Block → (Block → ℕ) → ℕ → Bool

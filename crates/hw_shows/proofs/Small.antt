@@ -1,4 +1,4 @@
--- Parts of small diagrams that are worked out by hand, and the order of those whose lines all lead to later blocks. Crates above may cite this file.
+-- Parts of small diagrams that are worked out by hand, and the order of those whose lines all lead to later blocks.
 use Rattle.std.proofs.Common.{◌≡◌, ℕ, zero, suc, ◌+◌, ◌-◌, ◌%◌, ◌^◌, ◌<◌, ◌≤◌, inl, ℤ, pos, Bool, true, false, ◌&&◌, List, [], ◌∷◌, length, get_or, Option, Some, None, slice_get, All, ap, sym, ◌∙◌, subst, refl, arith}
 use Rattle.std.specs.Prelude.{nat_lt, slice_index, IsSome, count_by}
 use Rattle.std.specs.List.{list_all}
@@ -21,7 +21,7 @@ use Rattle.fx_type.specs.FullType.{IsFullProduct}
 use Rattle.fx_type.specs.Conversion.{Converts}
 use Rattle.fx_type.specs.StoredOf.{is_in_range}
 use Rattle.fx_type.proofs.Stored.{Decides-in_range}
-use Rattle.dg_waves.specs.Rounds.{numbers_from}
+use Rattle.math_list.specs.Numbers.{numbers_from}
 use Rattle.dg_model.specs.declared.diagram.Diagram.{Diagram}
 use Rattle.dg_model.specs.declared.diagram.Block.{Block}
 use Rattle.dg_model.specs.declared.diagram.Edge.{Edge}
@@ -39,7 +39,7 @@ use Rattle.dg_model.specs.Wires.{enters}
 use Rattle.dg_model.specs.Widths.{Widths, width_at, widths_of}
 use Rattle.dg_model.specs.TypeRounds.{Types, types_of}
 use Rattle.dg_model.specs.Periods.{known_at, periods_of, period_at}
-use Rattle.dg_model.proofs.Written.{EachByRecursion, all_of, each_of}
+use Rattle.math_list.proofs.ByRecursion.{EachByRecursion, all_of, each_of}
 use Rattle.hw_shows.proofs.Trying.{each_below, each_holds}
 
 -- ---- types and numbers

@@ -1,4 +1,4 @@
--- The rules that a diagram keeps which is worked out by hand, tried by computation over widths, types and periods that are written out. Crates above may cite this file.
+-- The rules that a diagram keeps which is worked out by hand, tried by computation over widths, types and periods that are written out.
 use Rattle.std.proofs.Common.{◌≡◌, ℕ, zero, suc, ◌*◌, ◌≤◌, ◌⊎◌, inl, inr, Bool, true, false, true≢false, ◌&&◌, ◌||◌, ◌==◌, eqb, nat_le, List, [], ◌∷◌, length, get_or, All, Option, Some, None, is_some, is_none, slice_get, slice_index_or, MatchOption, count_by, filter_map, sym, subst, refl, arith}
 use Rattle.std.specs.Cmp.Lexicographic.{pointwise}
 use Rattle.std.specs.Prelude.{⊤}
@@ -35,7 +35,7 @@ use Rattle.dg_model.specs.Wired.{AreNumbered, MayStand, NamesControl, root_input
 use Rattle.dg_model.specs.Wires.{enters}
 use Rattle.dg_tables.specs.Laws.{IsOrdered}
 use Rattle.dg_tables.proofs.Sources.{is_control}
-use Rattle.dg_waves.specs.Rounds.{numbers_from}
+use Rattle.math_list.specs.Numbers.{numbers_from}
 use Rattle.hw_shows.proofs.KeptRules.{joins, all_join, are_ordered, in_order, dimensions_kept, types_kept, rates_kept}
 use Rattle.hw_shows.proofs.Small.{AreDrivenOnce, attributes_by, attributes_are, file_order, leads_up, no_loop}
 use Rattle.hw_shows.proofs.Trying.{each_below, each_holds, if_so, so}

@@ -1,4 +1,3 @@
-pub mod Sums
 mod Tallies
 mod Steps
 mod Totals

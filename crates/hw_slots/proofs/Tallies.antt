@@ -8,7 +8,7 @@ use Rattle.std.specs.Ordering.{nat_cmp, is_eq}
 use Rattle.std.specs.Cmp.{tied_then}
 use Rattle.std.proofs.lemmas.Bool.{false≢true}
 use Rattle.hw_slots.specs.inner.Tally.{compare_rungs, tally_at}
-use Rattle.hw_slots.proofs.Sums.{tied_number}
+use Rattle.math_list.proofs.Sums.{tied_number}
 
 pub same-rung : (owner level other later : ℕ) → is_eq (compare_rungs (owner, level) (other, later)) ≡ ((owner == other) && (level == later))
 same-rung owner level other later =

@@ -4,8 +4,7 @@ use Rattle.std.specs.Prelude.{slice_get, Some, ◌&&◌, ◌==◌}
 use Rattle.std.specs.List.{sum}
 use Rattle.std.proofs.lemmas.Bool.{cond-true, cond-false, cases_lt, eqb-true, eq-eqb, ne_eqb, and_parts, and_from, and_left, and_right}
 use Rattle.std.proofs.lemmas.Option.{same_Some, slice_get_within, slice_get-get_or}
-use Rattle.dg_waves.specs.Rounds.{numbers_from}
-use Rattle.dg_model.specs.Widths.{greatest}
+use Rattle.math_list.specs.Numbers.{numbers_from, greatest}
 use Rattle.hw_slots.specs.declared.bases.Bases.{Bases}
 use Rattle.hw_slots.specs.declared.operation.Operation.{Operation}
 use Rattle.hw_slots.specs.declared.operation.Span.{Span}
@@ -13,7 +12,7 @@ use Rattle.hw_slots.specs.Slots.{count_at, shared_out, needed, level_width, leve
 use Rattle.hw_slots.specs.Answer.{AreStarts, AreUnits, AreBaseSlots, HasSlots, IsShort}
 use Rattle.hw_slots.specs.inner.Tally.{tally_at}
 use Rattle.hw_slots.specs.inner.Made.{AreWidths, AreLevels, AreMost, AreTurns, AreBases, AreBasesBy, AreFirst, AreFirstBy, AreLaid, IsElsewhere, base_by, first_by}
-use Rattle.hw_slots.proofs.Sums.{greatest_at, sums_same, sum_below, sum_below_next}
+use Rattle.math_list.proofs.Sums.{greatest_at, sums_same, sum_below, sum_below_next}
 use Rattle.hw_slots.proofs.Steps.{grown, grown_size}
 
 sum_next : (f : ℕ → ℕ) (n : ℕ) → sum_below f (n + 1) ≡ sum_below f n + f n

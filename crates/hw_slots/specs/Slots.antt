@@ -3,8 +3,7 @@
 -- multiplier, and those of a level stand before those of the next.
 use Rattle.std.specs.Prelude.{ℕ, ◌+◌, ◌-◌, ◌/◌, ◌%◌, ◌&&◌, ◌==◌, min, if◌then◌else◌, List, map, take, count_by}
 use Rattle.std.specs.List.{sum}
-use Rattle.dg_waves.specs.Rounds.{numbers_from}
-use Rattle.dg_model.specs.Widths.{greatest}
+use Rattle.math_list.specs.Numbers.{numbers_from, greatest}
 use Rattle.hw_slots.specs.declared.operation.Operation.{Operation}
 
 -- how many operations have this kind and level

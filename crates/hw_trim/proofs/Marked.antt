@@ -11,8 +11,7 @@ use Rattle.hw_net.specs.declared.netlist.NetPort.{NetPort}
 use Rattle.hw_net.specs.Circuit.{Circuit}
 use Rattle.hw_net.specs.Emittable.{IsEmittable}
 use Rattle.hw_net.specs.Netlist.{IsNetlist, reads}
-use Rattle.hw_refine.proofs.Lists.{stands}
-use Rattle.hw_renumber.proofs.Sound.{all-at, all-from}
+use Rattle.math_list.proofs.Elements.{stands, all-at, all-from}
 use Rattle.hw_trim.specs.inner.Marking.{is_marked, unmarked, IsMarking, Marks, IsServed}
 
 unmarked-set : (marks : List Bool) (k : ℕ) → k < length marks → is_marked marks k ≡ false → unmarked (set marks k true) + 1 ≡ unmarked marks

@@ -10,10 +10,9 @@ use Rattle.hw_net.specs.Netlist.{IsNetlist, reads}
 use Rattle.hw_net.specs.NetRows.{RowsAreOne, RowsAreThere}
 use Rattle.hw_refine.specs.Drops.{DropsRefine}
 use Rattle.hw_refine.specs.Refines.{Refines}
-use Rattle.hw_refine.proofs.Lists.{stands}
+use Rattle.math_list.proofs.Elements.{stands, all-at, all-from}
 use Rattle.hw_renumber.specs.Renumbered.{CanMove, place_in, renumbered}
 use Rattle.hw_renumber.specs.Sound.{CanStay, RenumberedEmits, RenumberedRuns}
-use Rattle.hw_renumber.proofs.Sound.{all-at, all-from}
 use Rattle.hw_trim.specs.inner.Keeping.{ArePlaces, kept_of}
 use Rattle.hw_trim.specs.inner.Marking.{IsNeeded}
 use Rattle.hw_trim.proofs.Kept.{kept-is}

@@ -17,10 +17,13 @@ use Rattle.hw_net.specs.Products.{Product, net_at, no_net, places, products_of}
 use Rattle.hw_refine.specs.Drops.{Drops, IsKept}
 use Rattle.hw_refine.specs.Redirects.{redirected}
 use Rattle.hw_refine.specs.Refines.{IsReadBy, KeepsLabel, face, held, held_count}
-use Rattle.hw_refine.proofs.Lists.{by-place, combs-in, found, map-get, products-are, stands, units-in, zip-append}
+use Rattle.hw_refine.proofs.Lists.{by-place, combs-in, products-are, units-in}
+use Rattle.math_list.proofs.Elements.{found, stands, all-at, all-in, from-map}
+use Rattle.math_list.proofs.Places.{map_there, there_map}
+use Rattle.math_list.proofs.Zips.{zip-append}
 use Rattle.hw_renumber.specs.Renumbered.{moved_label, moved_net, moved_nets, moved_port, renumbered}
 use Rattle.hw_renumber.specs.Sound.{CanStay, IsCounted, IsStanding}
-use Rattle.hw_renumber.proofs.Sound.{all-at, all-in, image, map-has, reads-moved}
+use Rattle.hw_renumber.proofs.Sound.{reads-moved}
 use Rattle.hw_renumber.proofs.Products.{comb-zip, counter-at, further, held-append, held-moved, now-read, ones, unit-zip, zip-map}
 use Rattle.hw_trim.specs.inner.Keeping.{kept_of}
 use Rattle.hw_trim.specs.inner.Marking.{IsNeeded, is_marked, multiplies}
@@ -132,11 +135,11 @@ module _ (old : Circuit) (runs : IsNetlist old) (emits : IsEmittable old) (marks
   -- ---- what stays
 
   at-place : (k : ℕ) → On k → net_at new.nets (place k) ≡ moved k
-  at-place k on = get_or_from_slice_get new.nets (place k) (moved k) no_net (map-has moved kept (place k) k (placed k on))
+  at-place k on = get_or_from_slice_get new.nets (place k) (moved k) no_net (there_map moved kept (place k) k (placed k on))
 
   kept-on : (k : ℕ) → On k → IsKept new place back k (place k)
   kept-on k on = record {
-    there = slice_get_within new.nets (place k) (moved k) (map-has moved kept (place k) k (placed k on));
+    there = slice_get_within new.nets (place k) (moved k) (there_map moved kept (place k) k (placed k on));
     placed = refl;
     back_again = back-again k on;
   }
@@ -237,22 +240,22 @@ module _ (old : Circuit) (runs : IsNetlist old) (emits : IsEmittable old) (marks
       alone-still : IsReadBy old from label.net → IsReadBy new (place from) (place label.net)
       alone-still b = record {
         alone = λ k below read-here.
-            let f = map-get moved kept k (net_at new.nets k) (slice_get-get_or new.nets k no_net below) in
+            let f = map_there moved kept k (net_at new.nets k) (slice_get-get_or new.nets k no_net below) in
             let s = stays k f.0 f.1 in
             let here = subst (λ (xs : List ℕ). Contains xs (place from)) (reads-moved place (net_at old.nets f.0).kind) (subst (λ (n : Net). Contains (reads n.kind) (place from)) (sym f.2) read-here) in
-            let m = image place (reads (net_at old.nets f.0).kind) (place from) here in
+            let m = from-map place (reads (net_at old.nets f.0).kind) (place from) here in
             let same : m.0 ≡ from = same-place m.0 from (reads-on f.0 m.0 s.0 m.1) from-on m.2 in
             let e : f.0 ≡ label.net = b.alone f.0 s.0.0 (subst (Contains (reads (net_at old.nets f.0).kind)) same m.1) in
             sym s.1 ∙ ap place e;
         unshown = λ port shown e.
-            let m = image (moved_port place) old.outputs port shown in
+            let m = from-map (moved_port place) old.outputs port shown in
             let same : m.0.net ≡ from = same-place m.0.net from (outputs-on m.0 m.1) from-on (ap (λ (p : NetPort). p.net) m.2 ∙ e) in
             b.unshown m.0 m.1 same;
       }
 
     label-kept : KeepsLabel old new place label
     label-kept = record {
-      there = stands new.labels c.0 (moved_label place label) (map-has (moved_label place) old.labels c.0 label (found old.labels label c));
+      there = stands new.labels c.0 (moved_label place label) (there_map (moved_label place) old.labels c.0 label (found old.labels label c));
       wide = ap (λ (n : Net). n.width) (at-place label.net on);
       sign = ap (λ (n : Net). n.signed) (at-place label.net on);
       multiplies = λ m. record { args = map place m.args; is = kind-at label.net on ∙ ap (redirected place) m.is };
@@ -275,7 +278,7 @@ module _ (old : Circuit) (runs : IsNetlist old) (emits : IsEmittable old) (marks
     outputs = faces-same old.outputs outputs-on;
     few = few;
     nets = λ k is at.
-        let f = map-get moved kept k is at in
+        let f = map_there moved kept k is at in
         let s = stays k f.0 f.1 in
         record {
           was = net_at old.nets f.0;

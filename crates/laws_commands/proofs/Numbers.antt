@@ -20,12 +20,12 @@ use Rattle.dg_model.specs.Signals.{Attributes, Stimulus, Table}
 use Rattle.dg_model.specs.Solves.{IsShown, IsStimulus, Solves}
 use Rattle.dg_tables.specs.Laws.{IsOrdered, SolvedIsInRange, TypesAreValid}
 use Rattle.dg_response.specs.Response.{input_columns, number_in, shown, stimulus_of}
-use Rattle.dg_response.proofs.Lists.{by-places}
+use Rattle.math_list.proofs.Indices.{by-places}
 use Rattle.dg_response.proofs.Single.{is-shown}
 use Rattle.dg_response.proofs.Stimulated.{are-columns}
 use Rattle.laws_commands.proofs.Ready.{Schedules, ready-in, some-step}
 use Rattle.cmd_generate.proofs.Ported.{cycles-told, input-at, output-numbers, output-of, outputs-are, outputs-many, stalls}
-use Rattle.fx_io.proofs.Places.{there_map, there_within}
+use Rattle.math_list.proofs.Places.{there_map, there_within}
 use Rattle.hw_arcs.specs.Latencies.{latency_at}
 use Rattle.hw_module.specs.Carries.{Carries, IsDrivenRun}
 use Rattle.hw_module.specs.Interface.{NamedElement, output_data, output_elements, step_of}

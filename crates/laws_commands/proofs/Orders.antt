@@ -16,7 +16,7 @@ use Rattle.dg_model.specs.Signals.{Attributes}
 use Rattle.dg_sort.proofs.Lines.{control_there, from_there}
 use Rattle.dg_tables.specs.Laws.{IsOrdered}
 use Rattle.laws_commands.proofs.Walks.{AreOnce, IsIn, back, different, in-or, no-longer, once-before, once-behind}
-use Rattle.fx_io.proofs.Places.{get_cases, get_left, get_some, map_there, push_cases, there_within}
+use Rattle.math_list.proofs.Places.{get_cases, get_left, get_some, map_there, push_cases, there_within}
 
 -- ---- edges begin at blocks
 

@@ -11,7 +11,7 @@ use Rattle.dg_model.specs.Instant.{IsInstant, takes_now_at}
 use Rattle.dg_model.specs.LatencyEdges.{LatencyEdge, latency_edges}
 use Rattle.dg_model.specs.Loop.{IsInstantPath, LeadsNow}
 use Rattle.dg_model.specs.Signals.{Attributes}
-use Rattle.fx_io.proofs.Places.{get_some, there_within}
+use Rattle.math_list.proofs.Places.{get_some, there_within}
 use Rattle.hw_latency.specs.Cone.{is_marked}
 use Rattle.hw_latency.specs.Shared.{is_shared, multiplies, shares}
 use Rattle.hw_sched.specs.Laws.{EdgesJoinPeriods, PeriodsAreAbove, ReadyFits, UnfedAreReady}

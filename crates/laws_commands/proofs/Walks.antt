@@ -12,7 +12,7 @@ use Rattle.std.proofs.lemmas.Option.{none-some, same_Some, slice_get_within, sli
 use Rattle.dg_model.specs.declared.diagram.Diagram.{Diagram}
 use Rattle.dg_model.specs.Loop.{IsInstantPath, KeepsLoop, LeadsNow}
 use Rattle.dg_model.specs.Signals.{Attributes}
-use Rattle.fx_io.proofs.Places.{get_take, push_cases}
+use Rattle.math_list.proofs.Places.{get_take, push_cases}
 
 -- ---- none stands twice
 

@@ -13,8 +13,8 @@ use Rattle.fx_type.specs.FullType.{IsFullProduct}
 use Rattle.fx_type.specs.FxType.{IsType, InRange, frac_of}
 use Rattle.fx_type.specs.Laws.{FullProductIsOne}
 use Rattle.fx_round.specs.Laws.{SameTypeIsIdentity, StoringGivesOne}
-use Rattle.fx_io.proofs.Places.{held, get_some}
-use Rattle.dg_waves.specs.Rounds.{numbers_from}
+use Rattle.math_list.proofs.Places.{held, get_some}
+use Rattle.math_list.specs.Numbers.{numbers_from}
 use Rattle.dg_model.specs.declared.diagram.Block.{Block}
 use Rattle.dg_model.specs.declared.diagram.Diagram.{Diagram}
 use Rattle.dg_model.specs.declared.diagram.Edge.{Edge}

@@ -4,7 +4,7 @@ use Rattle.std.proofs.lemmas.List.{length-replicate}
 use Rattle.std.proofs.lemmas.Bool.{not-false}
 use Rattle.std.proofs.lemmas.Option.{same_Some}
 use Rattle.fx_type.specs.declared.spec.TypeSpec.TheVariants.{Internal}
-use Rattle.fx_io.proofs.Places.{held, get_some, get_left, there_map}
+use Rattle.math_list.proofs.Places.{held, get_some, get_left, there_map}
 use Rattle.dg_model.specs.declared.diagram.Block.{Block}
 use Rattle.dg_model.specs.declared.diagram.Diagram.{Diagram}
 use Rattle.dg_model.specs.declared.diagram.Edge.{Edge}

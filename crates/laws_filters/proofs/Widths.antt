@@ -4,7 +4,7 @@ use Rattle.std.specs.Prelude.{slice_index_or}
 use Rattle.std.proofs.lemmas.List.{length-map, length-replicate}
 use Rattle.std.proofs.lemmas.Option.{none-some, same_Some, slice_get_within, get_or_from_slice_get}
 use Rattle.fx_type.specs.declared.spec.TypeSpec.TheVariants.{Internal}
-use Rattle.fx_io.proofs.Places.{held, get_some, there_map, map_there}
+use Rattle.math_list.proofs.Places.{held, get_some, there_map, map_there}
 use Rattle.dg_waves.proofs.Waved.{round_at, length_after}
 use Rattle.dg_model.specs.declared.diagram.Block.{Block}
 use Rattle.dg_model.specs.declared.diagram.Diagram.{Diagram}
@@ -16,7 +16,8 @@ use Rattle.dg_model.specs.Checked.{IsChecked}
 use Rattle.dg_model.specs.Convolution.{Taps, IsFilter, IsKindAt, tap, product, sum_of}
 use Rattle.dg_model.specs.Library.{row_of}
 use Rattle.dg_model.specs.Readable.{IsReadable, HasPorts}
-use Rattle.dg_model.specs.Widths.{Widths, width_at, input_widths, greatest, list_length, taken, most_width, next_of, next_widths, first_of, first_widths, widths_after, widths_of}
+use Rattle.dg_model.specs.Widths.{Widths, width_at, input_widths, list_length, taken, most_width, next_of, next_widths, first_of, first_widths, widths_after, widths_of}
+use Rattle.math_list.specs.Numbers.{greatest}
 use Rattle.dg_model.specs.Wires.{driver_of, edges_into}
 use Rattle.dg_tables.proofs.Edges.{edges_length, edge_at}
 

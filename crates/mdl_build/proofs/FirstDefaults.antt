@@ -9,7 +9,7 @@ use Rattle.mdl_build.specs.Library.{type_name}
 use Rattle.mdl_build.specs.Lookup.{first_defaults, is_in, has_defaults, defaults_of}
 use Rattle.mdl_build.specs.Roles.{role_of, roles_of, says}
 use Rattle.mdl_build.proofs.Places.{known_at}
-use Rattle.fx_io.proofs.Places.{search_step}
+use Rattle.math_list.proofs.Places.{search_step}
 
 pub find_here : (P : ℕ → Bool) (from count : ℕ) (found : Option ℕ) → from < count → found ≡ find P (range_with_len from (count - from)) → P from ≡ true → Some from ≡ found
 find_here P from count found below same passes = sym (same ∙ search_step P from count below ∙ ap (λ (b : Bool). cond b (Some from) (find P (range_with_len (from + 1) (count - (from + 1))))) passes)

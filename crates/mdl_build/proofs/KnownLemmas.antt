@@ -20,7 +20,7 @@ use Rattle.mdl_build.specs.Extents.{AreExtents, total}
 use Rattle.mdl_build.specs.inner.Known.{keeps_sizes, AreLarge, IsFound}
 use Rattle.mdl_build.specs.inner.Lines.{are_joined_before}
 use Rattle.mdl_build.specs.inner.Names.{AreBlocks}
-use Rattle.fx_io.proofs.Tests.{right_true}
+use Rattle.math_list.proofs.Tests.{right_true}
 use Rattle.mdl_build.proofs.BlockPlaces.{IsBlockOf, block_of}
 use Rattle.mdl_build.proofs.ExtentLemmas.{blocks_within}
 use Rattle.std.proofs.lemmas.Bool.{leb-true}

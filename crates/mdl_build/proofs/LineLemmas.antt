@@ -16,7 +16,7 @@ use Rattle.mdl_build.specs.Lines.{branch_of, source_of, keeps_line, line_at}
 use Rattle.mdl_build.specs.Roles.{role_of}
 use Rattle.mdl_build.specs.inner.Lines.{source_if, sources_before, are_joined_before, lines_before, line_list}
 use Rattle.mdl_build.proofs.Ranges.{range_next}
-use Rattle.fx_io.proofs.Tests.{and_false}
+use Rattle.math_list.proofs.Tests.{and_false}
 
 -- ---- what an item is a branch of
 

@@ -21,7 +21,7 @@ use Rattle.mdl_build.specs.inner.Makers.{AreMade}
 use Rattle.mdl_build.proofs.BlockPlaces.{block_of}
 use Rattle.mdl_build.proofs.ReadingLemmas.{read_each}
 use Rattle.mdl_build.proofs.RoleLemmas.{holder_before}
-use Rattle.fx_io.proofs.Places.{last_at}
+use Rattle.math_list.proofs.Places.{last_at}
 
 -- ---- numbers by place
 

@@ -32,7 +32,7 @@ use Rattle.mdl_build.proofs.Sound.{drawn_model, sound}
 use Rattle.mdl_build.proofs.KnownLemmas.{structure_kept, name_kept, type_kept}
 use Rattle.mdl_build.proofs.OneFault.{readable}
 use Rattle.std.proofs.lemmas.Option.{same_Some}
-use Rattle.fx_io.proofs.Tests.{some_of}
+use Rattle.math_list.proofs.Tests.{some_of}
 
 type_of : (found : Option BlockType) → (found ≡ None → ⊥) → (x : BlockType) × (found ≡ Some x)
 type_of None not = absurd (not refl)

@@ -24,7 +24,7 @@ use Rattle.mdl_build.proofs.RoleLemmas.{system_above}
 use Rattle.mdl_build.proofs.SoundParts.{says_type, type_says, sub_system_type}
 use Rattle.mdl_build.proofs.SoundSearch.{one_counted}
 use Rattle.mdl_build.proofs.SoundTree.{IsKept, Stand, stand, same_Some}
-use Rattle.fx_io.proofs.Tests.{left_true, right_true}
+use Rattle.math_list.proofs.Tests.{left_true, right_true}
 
 -- ---- the block of a number, and the number of a place
 

@@ -22,7 +22,7 @@ use Rattle.mdl_build.specs.Lines.{is_port, port_of, to_port, target_of, named_by
 use Rattle.mdl_build.specs.Nested.{IsBlockAt}
 use Rattle.mdl_build.specs.Roles.{role_of, blocks_of, says}
 use Rattle.mdl_build.specs.Sections.{places_of, holder_of, value_of}
-use Rattle.fx_io.proofs.Tests.{left_true, right_true}
+use Rattle.math_list.proofs.Tests.{left_true, right_true}
 
 -- ---- what a line is made of
 

@@ -18,7 +18,7 @@ use Rattle.mdl_build.proofs.SoundBlocks.{block_here}
 use Rattle.mdl_build.proofs.SoundSearch.{first_from}
 use Rattle.mdl_build.proofs.SoundTree.{IsKept, same_system}
 use Rattle.std.proofs.lemmas.Bool.{and_from}
-use Rattle.fx_io.proofs.Tests.{left_true, right_true}
+use Rattle.math_list.proofs.Tests.{left_true, right_true}
 
 -- ---- names
 

@@ -22,7 +22,7 @@ use Rattle.mdl_build.proofs.SoundParts.{says_type, type_says, enable_type}
 use Rattle.std.proofs.lemmas.Map.Keys.{any_passes_from_place}
 use Rattle.mdl_build.proofs.SoundSearch.{any_found}
 use Rattle.mdl_build.proofs.SoundTree.{IsKept, Stand, same_system}
-use Rattle.fx_io.proofs.Tests.{left_true, right_true}
+use Rattle.math_list.proofs.Tests.{left_true, right_true}
 
 -- ---- by the type of a block
 

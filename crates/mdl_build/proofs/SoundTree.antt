@@ -1,4 +1,4 @@
--- What a tree that keeps the rule of structure has. Crates above may cite this file.
+-- What a tree that keeps the rule of structure has.
 use Rattle.std.proofs.Common.{◌≡◌, ℕ, zero, suc, ◌+◌, ◌<◌, ◌≤◌, Bool, true, false, cond, not, List, [], ◌∷◌, length, map, Option, Some, None, refl, sym, ◌∙◌, ap, inl, inr, arith}
 use Rattle.std.specs.Prelude.{◌==◌, ◌&&◌, ◌⊎◌, nat_le, nat_lt, count_by, slice_get, option_map, is_some, codes}
 use Rattle.std.specs.List.{range_with_len, list_all}
@@ -17,7 +17,7 @@ use Rattle.mdl_build.proofs.BlockNumbers.{count_cons, only_one, none_passes, blo
 use Rattle.mdl_build.proofs.ExtentLemmas.{blocks_within}
 use Rattle.mdl_build.proofs.RoleLemmas.{BlockAbove, SystemAbove, block_above, system_above, holder_before}
 use Rattle.std.proofs.lemmas.Bool.{not-false}
-use Rattle.fx_io.proofs.Tests.{left_true, right_true}
+use Rattle.math_list.proofs.Tests.{left_true, right_true}
 
 -- ---- tests
 

@@ -1,4 +1,4 @@
--- Facts about single bytes, and cases on tests. Crates above may cite this file.
+-- Facts about single bytes, and cases on tests.
 use Rattle.std.proofs.Common.{◌≡◌, ◌≢◌, ◌<◌, ℕ, Bool, true, false, cond, not, ◌⊎◌, inl, inr, List, map, nat_eq, slice_index_or, refl, sym, ◌∙◌, ap, subst, ⊎_elim, eqb-true, arith}
 use Rattle.std.specs.List.{range_with_len}
 use Rattle.std.proofs.lemmas.List.FromFn.{get_or-map-range_with_len}

@@ -1,4 +1,4 @@
--- Blanks at the end of a value. Crates above may cite this file.
+-- Blanks at the end of a value.
 use Rattle.std.proofs.Common.{◌≡◌, ℕ, ◌+◌, ◌<◌, ◌-◌, ◌≤◌, length, get_or, take, drop, Bool, true, false, cond, List, [], ◌∷◌, ◌++◌, refl, sym, ◌∙◌, ap, arith, one-add, append-nil, true≢false}
 use Rattle.std.specs.Prelude.{◌&&◌}
 use Rattle.std.specs.List.{list_all, prefix_len}
@@ -7,7 +7,7 @@ use Rattle.std.proofs.lemmas.List.Folds.{list_all-append}
 use Rattle.std.proofs.lemmas.List.{at_drop_more, take_more}
 use Rattle.mdl_text.specs.Bytes.{is_blank, is_name_byte, AreBlanks}
 use Rattle.mdl_text.specs.inner.Plain.{trimmed, unblanked}
-use Rattle.fx_io.proofs.Tests.{and_false}
+use Rattle.math_list.proofs.Tests.{and_false}
 
 and_true : (b : Bool) → (b && true) ≡ b
 and_true true = refl

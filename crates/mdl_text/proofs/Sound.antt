@@ -1,4 +1,4 @@
--- What is read is what the text stands for. Crates above may cite this file.
+-- What is read is what the text stands for.
 use Rattle.std.proofs.Common.{◌≡◌, ◌≢◌, ℕ, false, cond, List, [], ◌∷◌, ◌++◌, length, take, drop, Option, Some, None, inl, inr, refl, sym, ◌∙◌, ap, subst, ⊎_elim, append_assoc, append-nil, eqb-true, flat_map, take-append-drop, option_and_then}
 use Rattle.std.specs.Prelude.{◌==◌}
 use Rattle.std.specs.List.{list_all, prefix_len, AllByRecursion}
@@ -18,7 +18,7 @@ use Rattle.mdl_text.specs.Stands.{Part, Builds, Stands}
 use Rattle.mdl_text.specs.Stands.Says.{Entry}
 use Rattle.mdl_text.specs.inner.Plain.{unblanked, trimmed, strings_from, list_from, added, free, reader_strings, opened, closed, listed, valued, after_name, named, fresh_text, fresh, begins_with_quote, step_in, step, if_closed, finish_in, finish, run, start}
 use Rattle.std.proofs.lemmas.Option.{cond_some}
-use Rattle.fx_io.proofs.Tests.{cond_cases}
+use Rattle.math_list.proofs.Tests.{cond_cases}
 use Rattle.mdl_text.proofs.Classes.{two_tests}
 use Rattle.mdl_text.proofs.Scans.{FirstIs, unblanked_split, unblanked_first, name_bytes, trim_split, trim_end, trimmed_first}
 use Rattle.mdl_text.proofs.LineLaws.{first_line, lines_each, lines_front}

@@ -1,4 +1,4 @@
--- A text is at most one number, one decimal and one list of them. Crates above may cite this file.
+-- A text is at most one number, one decimal and one list of them.
 use Rattle.std.proofs.Common.{◌≡◌, ℕ, ◌<◌, ◌^◌, inl, inr, Bool, true, false, cond, List, [], ◌∷◌, Option, None, Some, refl, sym, ◌∙◌, ap, ap₂, subst, arith, true≢false, ℤ, eqb-true}
 use Rattle.std.specs.Prelude.{◌==◌, ◌-ℤ◌, ◌≤ℤ◌, pos, negsuc}
 use Rattle.std.specs.List.{AllZip, list_all}

@@ -1,4 +1,4 @@
--- A text is at most one type. Crates above may cite this file.
+-- A text is at most one type.
 use Rattle.std.proofs.Common.{◌≡◌, ℕ, inl, inr, Bool, true, false, cond, List, Option, None, Some, refl, sym, ◌∙◌, ap, subst, ℤ}
 use Rattle.std.specs.Prelude.{bytes_eq, codes, pos, neg_ℤ, if◌then◌else◌}
 use Rattle.std.proofs.lemmas.Slice.Eq.{bytes_eq-Decides}

@@ -10,9 +10,9 @@ use Rattle.vl_ast.specs.declared.modules.Module.{Module}
 use Rattle.vl_ast.specs.Nets.{Declared, Mention, Declares, Drives, Reads, Clocks, declared_by, declaration_of, mentions}
 use Rattle.vl_ast.specs.Conditions.{doubly, first_fault, is_declaration_of, is_double, is_driver_of, may_drive_it, mentioned, undriven}
 use Rattle.vl_ast.proofs.Facts.{fault-free, no-earlier-declaration}
-use Rattle.vl_ast.proofs.Places.{Cut, cons-cases, cut-at, flat-in, from-flat, from-map, head-in, map-in, none-in, tail-in}
-use Rattle.fx_io.proofs.Places.{seen}
-use Rattle.fx_io.proofs.Tests.{same_bytes, unequal}
+use Rattle.math_list.proofs.Elements.{Cut, cons-cases, cut-at, flat-in, from-flat, from-map, head-in, map-in, none-in, tail-in}
+use Rattle.math_list.proofs.Places.{seen}
+use Rattle.math_list.proofs.Tests.{same_bytes, unequal}
 
 -- nothing stands twice
 abbrev pub Apart : {A : Type 0} → List A → Type 0

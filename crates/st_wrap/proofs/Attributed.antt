@@ -13,7 +13,7 @@ use Rattle.vl_ast.specs.Conditions.{BreaksNone, is_clk_at_fault, is_read_of, is_
 use Rattle.vl_ast.specs.Control.{is_stallable}
 use Rattle.vl_ast.specs.Header.{bit_input, input_port, output_port}
 use Rattle.vl_ast.specs.Nets.{Mention, Declares, Drives, Reads, Clocks, item_mentions, mentions, place_of, port_declared}
-use Rattle.vl_ast.proofs.Places.{head-in, tail-in}
+use Rattle.math_list.proofs.Elements.{head-in, tail-in}
 use Rattle.st_wrap.specs.declared.columns.Column.{Column}
 use Rattle.st_wrap.specs.declared.pace.Counters.{Counters}
 use Rattle.st_wrap.specs.Header.{flag, row_port}
@@ -26,7 +26,7 @@ use Rattle.st_wrap.proofs.Lettered.{inner-letter, inner-same, letter}
 use Rattle.st_wrap.proofs.Named.{input-name}
 use Rattle.st_wrap.proofs.Placed.{DeclareAlone, core_part, declared-alone, declared_part, helds, late_mentions, lates, mentions-are, output-of, ports_part}
 use Rattle.st_wrap.proofs.Reading.{control_mentions, held_mentions, renamed_mention, stage_mentions}
-use Rattle.fx_io.proofs.Tests.{and_false, unequal}
+use Rattle.math_list.proofs.Tests.{and_false, unequal}
 
 abbrev clk : List ℕ
 clk = codes "clk"

@@ -15,7 +15,7 @@ use Rattle.vl_ast.specs.Value.{truth}
 use Rattle.vl_ast.specs.Windows.{IsClock, Window, clocks_in, counted, counts_at, row_at}
 use Rattle.vl_ast.proofs.Alone.{reset-port}
 use Rattle.vl_ast.proofs.Facts.{in-port, is-declared}
-use Rattle.vl_ast.proofs.Places.{map-in}
+use Rattle.math_list.proofs.Elements.{map-in}
 use Rattle.vl_ast.proofs.Thin.{counted-above}
 use Rattle.vl_ast.specs.Attributes.{clocks_of}
 use Rattle.st_wrap.specs.declared.columns.Column.{Column}

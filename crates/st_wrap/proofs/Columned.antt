@@ -1,4 +1,4 @@
--- What the wrapper has of each column, and which ports of the core are columns. Crates above may cite this file.
+-- What the wrapper has of each column, and which ports of the core are columns.
 use Rattle.std.proofs.Common.{◌≡◌, ℕ, zero, suc, ◌+◌, ◌-◌, drop, ◌<◌, ◌≤◌, max, fold, ⊎_elim, Bool, true, false, not, ◌&&◌, ◌||◌, if◌then◌else◌, List, [], ◌∷◌, map, filter, length, Contains, bytes_eq, codes, Some, refl, sym, ap, subst, ◌∙◌, arith}
 use Rattle.std.specs.Prelude.{slice_get}
 use Rattle.std.specs.List.{range_with_len, zip}
@@ -10,7 +10,7 @@ use Rattle.vl_ast.specs.declared.modules.ModItem.TheVariants.{Assign, Wire}
 use Rattle.vl_ast.specs.declared.modules.Port.{Port}
 use Rattle.vl_ast.specs.declared.modules.Module.{Module}
 use Rattle.vl_ast.specs.Control.{is_clock_or_reset, is_control_input, is_control_output, is_number_input, is_number_output, is_stallable}
-use Rattle.vl_ast.proofs.Places.{cons-cases, head-in, map-in, none-in, tail-in}
+use Rattle.math_list.proofs.Elements.{cons-cases, head-in, map-in, none-in, tail-in}
 use Rattle.st_wrap.specs.declared.columns.Column.{Column}
 use Rattle.st_wrap.specs.declared.pace.Counters.{Counters}
 use Rattle.st_wrap.specs.Pace.{samples_late}
@@ -21,7 +21,7 @@ use Rattle.st_wrap.specs.inner.Wrapped.{made_of}
 use Rattle.st_wrap.proofs.Held.{HasInput}
 use Rattle.st_wrap.proofs.Late.{HasOutput}
 use Rattle.st_wrap.proofs.Structure.{declared-there, driven-there, input-port, output-port, wire-there}
-use Rattle.fx_io.proofs.Places.{fold-start}
+use Rattle.math_list.proofs.Places.{fold-start}
 
 -- ---- lists
 

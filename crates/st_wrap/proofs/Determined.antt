@@ -24,7 +24,7 @@ use Rattle.vl_ast.proofs.Facts.{ByAlways, Driver, always-drives, assign-drives, 
 use Rattle.vl_ast.proofs.GatedSound.{neither}
 use Rattle.vl_ast.proofs.Layers.{value_by_layer}
 use Rattle.vl_ast.proofs.Thinned.{bit-port}
-use Rattle.fx_io.proofs.Tests.{unequal}
+use Rattle.math_list.proofs.Tests.{unequal}
 
 -- the law of a lower crate that a module has one list of rows
 abbrev pub OneRun : Type 0

@@ -15,7 +15,7 @@ use Rattle.vl_ast.specs.Driven.{stimulus_ports}
 use Rattle.vl_ast.specs.Nets.{InputPort, OutputPort, Declares, Drives, item_mentions, mentions, port_declared}
 use Rattle.vl_ast.proofs.Alone.{reset-port}
 use Rattle.vl_ast.proofs.Facts.{in-port, is-declared, may-drive}
-use Rattle.vl_ast.proofs.Places.{cons-cases, from-flat, from-map, head-in, map-in, none-in, tail-in}
+use Rattle.math_list.proofs.Elements.{cons-cases, from-flat, from-map, head-in, map-in, none-in, tail-in}
 use Rattle.vl_ast.proofs.Thinned.{bit-port}
 use Rattle.st_wrap.specs.declared.columns.Column.{Column}
 use Rattle.st_wrap.specs.declared.pace.Counters.{Counters}

@@ -11,7 +11,7 @@ use Rattle.vl_ast.specs.Control.{is_stallable}
 use Rattle.vl_ast.specs.Header.{output_port}
 use Rattle.vl_ast.specs.Nets.{Declared, InputPort, OutputPort, PlainWire, Mention, Declares, Drives, Reads, declaration_of, item_mentions, mentions, port_declared}
 use Rattle.vl_ast.proofs.Facts.{Declaration, OfPort, OfReg, OfWire, declaration-by, driven-declared, is-declared, may-drive}
-use Rattle.vl_ast.proofs.Places.{flat-in, head-in, map-in}
+use Rattle.math_list.proofs.Elements.{flat-in, head-in, map-in}
 use Rattle.vl_ast.proofs.Thinned.{bit-port}
 use Rattle.st_wrap.specs.declared.columns.Column.{Column}
 use Rattle.st_wrap.specs.declared.pace.Counters.{Counters}

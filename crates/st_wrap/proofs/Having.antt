@@ -2,7 +2,7 @@
 use Rattle.std.proofs.Common.{⊎_elim, List, [], ◌∷◌, ◌++◌, map, flat_map, Contains, subst}
 use Rattle.vl_ast.specs.declared.modules.ModItem.{ModItem}
 use Rattle.vl_ast.specs.declared.modules.Module.{Module}
-use Rattle.vl_ast.proofs.Places.{cons-cases, head-in, none-in, tail-in}
+use Rattle.math_list.proofs.Elements.{cons-cases, head-in, none-in, tail-in}
 use Rattle.st_wrap.specs.declared.columns.Column.{Column}
 use Rattle.st_wrap.specs.declared.pace.Counters.{Counters}
 use Rattle.st_wrap.specs.inner.Columns.{held_declared, held_driven, late_declared, late_driven}

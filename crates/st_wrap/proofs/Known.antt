@@ -7,7 +7,7 @@ use Rattle.std.proofs.lemmas.List.Folds.{list_any-append}
 use Rattle.vl_ast.specs.declared.modules.Module.{Module}
 use Rattle.vl_ast.specs.Nets.{Declared, Mention, Declares, Drives, Reads, Clocks, mentions}
 use Rattle.vl_ast.specs.Conditions.{first_fault, is_declaration_of, is_driver_of, is_undriven, mentioned, needs_driver, undriven}
-use Rattle.vl_ast.proofs.Places.{head-in, tail-in}
+use Rattle.math_list.proofs.Elements.{head-in, tail-in}
 use Rattle.st_wrap.specs.inner.Names.{inner_name}
 use Rattle.st_wrap.proofs.Reading.{renamed_mention}
 use Rattle.vl_ast.proofs.Opened.{or-true}

@@ -13,7 +13,7 @@ use Rattle.vl_ast.specs.declared.modules.Port.{Port}
 use Rattle.vl_ast.specs.declared.modules.Module.{Module}
 use Rattle.vl_ast.specs.Attributes.{clocks_of, lateness_of}
 use Rattle.vl_ast.specs.Driven.{output_ports}
-use Rattle.vl_ast.proofs.Places.{from-map, head-in, tail-in}
+use Rattle.math_list.proofs.Elements.{from-map, head-in, tail-in}
 use Rattle.vl_ast.proofs.Ranges.{clocks-some, late-few}
 use Rattle.st_wrap.specs.Names.{IsColumnName}
 use Rattle.st_wrap.specs.Pace.{latest_in, samples_late}

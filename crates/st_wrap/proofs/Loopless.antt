@@ -17,7 +17,7 @@ use Rattle.vl_ast.specs.Header.{input_port}
 use Rattle.vl_ast.specs.Nets.{InputPort, OutputPort, Drives, mentions, names_read, port_declared}
 use Rattle.vl_ast.proofs.Chains.{owed-of-none}
 use Rattle.vl_ast.proofs.Facts.{ByAlways, ByAssign, Driver, assign-drives, driver-of, in-port, is-declared, may-drive, not-both, one-assign}
-use Rattle.vl_ast.proofs.Places.{cons-cases, flat-in, from-flat, from-map, head-in, map-in, none-in}
+use Rattle.math_list.proofs.Elements.{cons-cases, flat-in, from-flat, from-map, head-in, map-in, none-in}
 use Rattle.st_wrap.specs.declared.columns.Column.{Column}
 use Rattle.st_wrap.specs.declared.pace.Counters.{Counters}
 use Rattle.st_wrap.specs.Names.{AreColumnNames, own_names}

@@ -10,7 +10,7 @@ use Rattle.vl_ast.specs.declared.modules.ModItem.{ModItem}
 use Rattle.vl_ast.specs.declared.modules.Module.{Module}
 use Rattle.vl_ast.specs.Driven.{output_ports, stimulus_ports}
 use Rattle.vl_ast.specs.Nets.{Mention, Declares, Drives, Reads, Clocks, item_mentions}
-use Rattle.vl_ast.proofs.Places.{cons-cases, from-map, map-in, none-in}
+use Rattle.math_list.proofs.Elements.{cons-cases, from-map, map-in, none-in}
 use Rattle.vl_ast.specs.Attributes.{clocks_of}
 use Rattle.st_wrap.specs.declared.columns.Column.{Column}
 use Rattle.st_wrap.specs.Header.{named_inputs, named_outputs}

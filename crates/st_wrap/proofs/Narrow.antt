@@ -18,7 +18,7 @@ use Rattle.vl_ast.specs.Driven.{output_ports, stimulus_ports}
 use Rattle.vl_ast.specs.Header.{bit_input, input_port, output_port}
 use Rattle.vl_ast.specs.Nets.{Declared, Declares, Reads, mentions, net_or_none, nets_of}
 use Rattle.vl_ast.proofs.Facts.{in-port, is-declared, reads-of-always, reads-of-assign, reg-declared, wire-declared}
-use Rattle.vl_ast.proofs.Places.{cons-cases, from-map, head-in, map-in, none-in, tail-in}
+use Rattle.math_list.proofs.Elements.{cons-cases, from-map, head-in, map-in, none-in, tail-in}
 use Rattle.vl_ast.specs.Attributes.{clocks_of}
 use Rattle.st_wrap.specs.declared.columns.Column.{Column}
 use Rattle.st_wrap.specs.declared.pace.Counters.{Counters}

@@ -15,7 +15,7 @@ use Rattle.vl_ast.specs.Driven.{stimulus_ports}
 use Rattle.vl_ast.specs.Header.{bit_input, input_port}
 use Rattle.vl_ast.specs.Nets.{Declared, InputPort, OutputPort, PlainWire, Register, Mention, Declares, Drives, Reads, Clocks, condition_names, names_read, declaration_of, item_mentions, mentions, port_declared}
 use Rattle.vl_ast.proofs.Facts.{has-driver, in-port}
-use Rattle.vl_ast.proofs.Places.{cons-cases, flat-in, from-flat, from-map, head-in, map-in, none-in, tail-in}
+use Rattle.math_list.proofs.Elements.{cons-cases, flat-in, from-flat, from-map, head-in, map-in, none-in, tail-in}
 use Rattle.st_wrap.specs.declared.columns.Column.{Column}
 use Rattle.st_wrap.specs.declared.pace.Counters.{Counters}
 use Rattle.st_wrap.specs.Header.{named_inputs}
@@ -24,7 +24,7 @@ use Rattle.st_wrap.specs.inner.Columns.{column_port, input_column, stage_driven}
 use Rattle.st_wrap.specs.inner.Control.{control_driven}
 use Rattle.st_wrap.specs.inner.Names.{begin_name, end_name, due_name, fed_name, open_name, enable_name, held_name, inner_name, is_shared, late_name, phase_name, wait_name}
 use Rattle.st_wrap.specs.inner.Wrapped.{inputs_of, outputs_of, ports_of, wrapped}
-use Rattle.fx_io.proofs.Places.{seen}
+use Rattle.math_list.proofs.Places.{seen}
 use Rattle.st_wrap.proofs.Apart.{declared_names}
 use Rattle.st_wrap.proofs.Columned.{got-in, paired, to-filter}
 use Rattle.st_wrap.proofs.Controlled.{in_flag, out_flag}

@@ -14,7 +14,7 @@ use Rattle.vl_ast.specs.Control.{is_stallable}
 use Rattle.vl_ast.specs.Header.{input_port, output_port}
 use Rattle.vl_ast.specs.Nets.{Declares, item_mentions, mentions, port_declared}
 use Rattle.vl_ast.proofs.Alone.{reset-port}
-use Rattle.vl_ast.proofs.Places.{cons-cases, from-flat, from-map, map-in, none-in}
+use Rattle.math_list.proofs.Elements.{cons-cases, from-flat, from-map, map-in, none-in}
 use Rattle.st_wrap.specs.declared.columns.Column.{Column}
 use Rattle.st_wrap.specs.declared.pace.Counters.{Counters}
 use Rattle.st_wrap.specs.Header.{flag}

@@ -19,7 +19,7 @@ use Rattle.vl_ast.specs.Header.{bit_input, input_port, output_port}
 use Rattle.vl_ast.specs.Nets.{Declared, InputPort, OutputPort, Mention, Declares, Drives, Reads, Clocks, declaration_of, item_mentions, mentions, port_declared}
 use Rattle.vl_ast.proofs.Alone.{reset-port}
 use Rattle.vl_ast.proofs.Facts.{in-port, is-declared}
-use Rattle.vl_ast.proofs.Places.{cons-cases, flat-in, from-map, head-in, map-in, none-in, tail-in}
+use Rattle.math_list.proofs.Elements.{cons-cases, flat-in, from-map, head-in, map-in, none-in, tail-in}
 use Rattle.vl_ast.proofs.Thinned.{bit-port}
 use Rattle.vl_ast.specs.Attributes.{clocks_of}
 use Rattle.st_wrap.specs.declared.columns.Column.{Column}
@@ -32,7 +32,7 @@ use Rattle.st_wrap.specs.inner.Control.{control_declared, control_driven}
 use Rattle.st_wrap.specs.inner.Names.{begin_name, end_name, due_name, fed_name, open_name, enable_name, held_name, inner_name, is_shared, late_name, phase_name, wait_name}
 use Rattle.st_wrap.specs.inner.Renamed.{core_items, wires_for, wires_of}
 use Rattle.st_wrap.specs.inner.Wrapped.{declared_items, driven_items, inputs_of, outputs_of, ports_of, wrapped}
-use Rattle.fx_io.proofs.Places.{seen}
+use Rattle.math_list.proofs.Places.{seen}
 use Rattle.st_wrap.proofs.Columned.{from-filter, number-output, range-in, zip-left}
 use Rattle.st_wrap.proofs.Controlled.{in_flag, out_flag}
 use Rattle.st_wrap.proofs.Determined.{clk-port}

@@ -9,7 +9,7 @@ use Rattle.vl_ast.specs.Grammar.{Spells}
 use Rattle.vl_ast.specs.Header.{attribute_of, input_port, output_port}
 use Rattle.vl_ast.specs.Spellable.{IsShortAttr, IsSpellable}
 use Rattle.vl_ast.specs.Spelling.{spelling}
-use Rattle.vl_ast.proofs.Places.{cons-cases, none-in}
+use Rattle.math_list.proofs.Elements.{cons-cases, none-in}
 use Rattle.st_wrap.specs.declared.columns.Column.{Column}
 use Rattle.st_wrap.specs.declared.pace.Counters.{Counters}
 use Rattle.st_wrap.specs.Header.{flag}

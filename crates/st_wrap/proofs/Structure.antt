@@ -15,7 +15,7 @@ use Rattle.vl_ast.specs.Header.{bit_input, input_port, output_port}
 use Rattle.vl_ast.specs.Nets.{Declared, Declares, Kind, PlainWire, Register, declaration_of, mentions, place_of, port_declared}
 use Rattle.vl_ast.proofs.Facts.{Declaration, OfPort, OfReg, OfWire, declaration-by, in-port, is-declared, listed-mention, mention-listed, reg-declared, wire-declared}
 use Rattle.vl_ast.proofs.GatedSound.{neither}
-use Rattle.vl_ast.proofs.Places.{flat-in, head-in, map-in}
+use Rattle.math_list.proofs.Elements.{flat-in, head-in, map-in}
 use Rattle.vl_ast.proofs.Thinned.{bit-port}
 use Rattle.st_wrap.specs.declared.columns.Column.{Column}
 use Rattle.st_wrap.specs.declared.pace.Counters.{Counters}

@@ -13,7 +13,7 @@ use Rattle.vl_ast.specs.Spellable.{HasExprs}
 use Rattle.vl_ast.specs.Spelling.{joined}
 use Rattle.vl_ast.specs.Tokens.{Identifier, IsWritten, Key, Lays, Sign, Token, is_word}
 use Rattle.vl_ast.proofs.Facts.{Declaration, OfPort, OfReg, OfWire, declaration-by, listed-mention}
-use Rattle.vl_ast.proofs.Places.{cons-cases, flat-in, head-in, none-in, tail-in}
+use Rattle.math_list.proofs.Elements.{cons-cases, flat-in, head-in, none-in, tail-in}
 use Rattle.vl_names.specs.Identifiers.{is_identifier}
 
 -- the other element of a pair of lists

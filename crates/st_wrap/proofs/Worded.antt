@@ -9,7 +9,7 @@ use Rattle.vl_ast.specs.declared.modules.Module.{Module}
 use Rattle.vl_ast.specs.Conditions.{BreaksNone}
 use Rattle.vl_ast.specs.Control.{is_stallable}
 use Rattle.vl_ast.specs.Nets.{Declared, Mention, Declares, Drives, Reads, Clocks, declarations, declared_by, item_mentions, mentions, port_declared}
-use Rattle.vl_ast.proofs.Places.{cons-cases, flat-in, from-flat, from-map, head-in, map-in, none-in}
+use Rattle.math_list.proofs.Elements.{cons-cases, flat-in, from-flat, from-map, head-in, map-in, none-in}
 use Rattle.vl_names.specs.Identifiers.{begins_name, continues_name, is_identifier}
 use Rattle.vl_names.specs.Reserved.{reserved}
 use Rattle.vl_names.proofs.Digits.{number_plain}

@@ -3,7 +3,7 @@ use Rattle.std.proofs.Common.{◌≡◌, ◌≤◌, ◌++◌, All, length, arith
 use Rattle.std.proofs.lemmas.List.{length-append}
 use Rattle.hw_net.specs.declared.netlist.Net.{Net}
 use Rattle.hw_net.specs.Circuit.{Circuit}
-use Rattle.fx_io.proofs.Places.{held as at-place}
+use Rattle.math_list.proofs.Places.{held as at-place}
 use Rattle.hw_net.specs.Emittable.{IsEmittable}
 use Rattle.tests_hardware.specs.inner.Emitted.{IsCounted}
 

@@ -1,6 +1,6 @@
 //! Words of bits.
 ghost use Rattle.std.specs.Prelude.{◌≤◌, IfOk};
-ghost use Rattle.fx_num.specs.Word.{IsWord};
+ghost use Rattle.math_num.specs.Word.{IsWord};
 
 use anyhow::{Error, Result};
 use fx_num::{fits, from_bits, is_word, shift_up, to_bits, wrap};

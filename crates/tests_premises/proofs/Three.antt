@@ -1,4 +1,4 @@
--- A model of three blocks in a row, `u`, another and `y`: its lines as text and the rules of wiring. Crates above may cite this file.
+-- A model of three blocks in a row, `u`, another and `y`: its lines as text and the rules of wiring.
 use Rattle.std.proofs.Common.{◌≡◌, ◌<◌, ◌≤◌, ◌^◌, ℕ, zero, suc, pos, false, List, [], ◌∷◌, ◌++◌, All, None, Some, length, slice_get, append-nil, inl, inr, codes, refl, sym, ap, subst, arith}
 use Rattle.std.specs.Str.Parse.{digits_value}
 use Rattle.std.proofs.Math.Dec.{lit≤}
@@ -17,7 +17,7 @@ use Rattle.mdl_text.specs.declared.tree.Value.TheVariants.{Section, Bare, Quoted
 use Rattle.mdl_build.specs.declared.expanding.DrawnBlock.{DrawnBlock}
 use Rattle.dg_flat.specs.Parts.{in_number, out_number}
 use Rattle.dg_flat.specs.Rules.{AllNestedKeep, KeepsWiring, IsNumbered, HasEnd, drivers, is_port}
-use Rattle.dg_model.proofs.Written.{all_of, each_of}
+use Rattle.math_list.proofs.ByRecursion.{all_of, each_of}
 
 -- ---- items of the text
 

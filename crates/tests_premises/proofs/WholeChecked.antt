@@ -10,7 +10,7 @@ use Rattle.dg_model.specs.KindRow.{IsSpec}
 use Rattle.dg_model.specs.Readable.{IsReadable}
 use Rattle.dg_model.specs.Signals.{Attributes}
 use Rattle.dg_model.specs.Solves.{IsShown}
-use Rattle.dg_model.proofs.Written.{all_of}
+use Rattle.math_list.proofs.ByRecursion.{all_of}
 use Rattle.hw_shows.proofs.Small.{int8_valid, no_loop}
 use Rattle.hw_shows.proofs.KeptRules.{one_number}
 use Rattle.hw_shows.proofs.TriedRules.{Columns, IsTried, attributes_in, attributes_tried, checked_by}

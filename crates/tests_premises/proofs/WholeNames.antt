@@ -4,7 +4,7 @@ use Rattle.std.specs.Prelude.{slice_index}
 use Rattle.std.specs.Fmt.{digits}
 use Rattle.std.specs.List.{AllByRecursion}
 use Rattle.hw_names.specs.Names.{AreNames, Given, IsGiven, own_names, wanted_names}
-use Rattle.dg_model.proofs.Written.{all_of}
+use Rattle.math_list.proofs.ByRecursion.{all_of}
 use Rattle.tests_premises.specs.Whole.{diagram}
 
 abbrev pub whole_names : List (List ℕ)

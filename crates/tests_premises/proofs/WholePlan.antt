@@ -18,7 +18,7 @@ use Rattle.hw_sched.specs.Level.{AreDepths}
 use Rattle.hw_sched.specs.Scheduled.{IsScheduled, IsTimingOf}
 use Rattle.hw_sched.specs.Slots.{have_of, need_of}
 use Rattle.hw_sched.specs.Storage.{KeepsSize, greatest_latency, storage}
-use Rattle.dg_model.proofs.Written.{all_of}
+use Rattle.math_list.proofs.ByRecursion.{all_of}
 use Rattle.hw_shows.proofs.Small.{each_by}
 use Rattle.tests_premises.specs.Sharing.{AreSharedByOne}
 use Rattle.tests_premises.specs.Whole.{diagram, pipeline, plan, resolved, timing}

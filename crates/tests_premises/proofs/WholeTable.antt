@@ -4,7 +4,7 @@ use Rattle.std.proofs.Math.Dec.{lit<}
 use Rattle.std.proofs.lemmas.Int.{ints}
 use Rattle.std.proofs.lemmas.Option.{none-some, same_Some}
 use lib.Signed.{le_z_yes}
-use Rattle.fx_num.specs.Word.{InWord}
+use Rattle.math_num.specs.Word.{InWord}
 use Rattle.fx_type.specs.declared.rounding.Rounding.TheVariants.{Floor}
 use Rattle.fx_type.specs.Conversion.{Converts}
 use Rattle.fx_type.specs.FxType.{InRange}

@@ -22,7 +22,7 @@ use Rattle.mdl_build.specs.Settings.{unset, unsaid, zero_decimal}
 use Rattle.dg_flat.specs.Flat.{IsFlatOf}
 use Rattle.dg_flat.specs.Rules.{AllNestedKeep, KeepsEnable}
 use Rattle.cmd_model.specs.Model.{IsModelOf}
-use Rattle.dg_model.proofs.Written.{pairs_of}
+use Rattle.math_list.proofs.ByRecursion.{pairs_of}
 use Rattle.hw_shows.proofs.Small.{each_by}
 use Rattle.tests_premises.specs.Whole.{model_text, diagram, input, gain, output, int8, int16, three, five, coefficients}
 use Rattle.tests_premises.proofs.Three.{section, bare, quoted, line_items, as_drawn, three_nested, three_wired, whole_number}

@@ -24,7 +24,7 @@ use Rattle.mdl_build.specs.Nested.{IsNestedOf}
 use Rattle.mdl_build.specs.Settings.{unset, unsaid, zero_decimal}
 use Rattle.dg_flat.specs.Flat.{IsFlatOf}
 use Rattle.dg_flat.specs.Rules.{AllNestedKeep, KeepsWiring, KeepsEnable}
-use Rattle.dg_model.proofs.Written.{each_of, pairs_of}
+use Rattle.math_list.proofs.ByRecursion.{each_of, pairs_of}
 use Rattle.tests_premises.specs.Whole.{block_of, edge_of, int8}
 use Rattle.tests_premises.proofs.Three.{section, bare, quoted, line_items, as_drawn, three_nested, three_wired, whole_number}
 

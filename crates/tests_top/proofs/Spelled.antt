@@ -14,7 +14,7 @@ use Rattle.vl_names.specs.Identifiers.{is_identifier}
 use Rattle.tests_top.proofs.DelayModule.{OneDelay, delay_module}
 use Rattle.tests_top.proofs.Names.{register}
 use Rattle.tests_top.proofs.Bits.{bits-fit}
-use Rattle.fx_io.proofs.Tests.{left_true, right_true}
+use Rattle.math_list.proofs.Tests.{left_true, right_true}
 
 tokens-name : (x : List ℕ) → expr_tokens (Name x) ≡ Identifier x ∷ []
 tokens-name x = ap expr_tokens (sym (rolls-Name x)) ∙ fold-roll-Expr (List Token) tokens_step (Expr-F.Name x)

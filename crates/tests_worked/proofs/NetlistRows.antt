@@ -5,7 +5,7 @@ use Rattle.std.proofs.Math.Dec.{T, lit<, lit≤}
 use Rattle.std.proofs.lemmas.Bool.{and_parts}
 use Rattle.std.proofs.lemmas.Int.{ints}
 use lib.Signed.{le_z, le_z_yes}
-use Rattle.fx_num.specs.Word.{InWord, IsWrapped, word_lowest, word_highest}
+use Rattle.math_num.specs.Word.{InWord, IsWrapped, word_lowest, word_highest}
 use Rattle.hw_net.specs.declared.netlist.Net.{Net}
 use Rattle.hw_net.specs.declared.netlist.NetKind.TheVariants.{Reg}
 use Rattle.hw_net.specs.declared.netlist.NetOp.TheVariants.{Add, Choose, Equal, Input, Less, Not, ShiftDown, Slice}

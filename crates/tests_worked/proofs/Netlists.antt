@@ -4,7 +4,7 @@ use Rattle.std.proofs.Math.Dec.{lit<, lit≤}
 use Rattle.std.proofs.lemmas.Int.{ints}
 use Rattle.std.proofs.lemmas.Option.{same_Some}
 use lib.Signed.{le_z_yes}
-use Rattle.fx_num.specs.Word.{InWord, IsWord}
+use Rattle.math_num.specs.Word.{InWord, IsWord}
 use Rattle.hw_net.specs.declared.netlist.Frame.{Frame}
 use Rattle.hw_net.specs.declared.netlist.Net.{Net}
 use Rattle.hw_net.specs.declared.netlist.NetKind.{NetKind}
@@ -13,7 +13,7 @@ use Rattle.hw_net.specs.declared.netlist.NetOp.TheVariants.{Input, Add, Choose, 
 use Rattle.hw_net.specs.declared.netlist.NetPort.{NetPort}
 use Rattle.hw_net.specs.Circuit.{Circuit}
 use Rattle.hw_net.specs.Netlist.{IsInput, IsKind, IsNetlist, IsRanked, HoldsProducts, reads, reads_now}
-use Rattle.dg_model.proofs.Written.{all_of}
+use Rattle.math_list.proofs.ByRecursion.{all_of}
 use Rattle.hw_shows.proofs.Small.{each_by}
 
 -- ---- the nets

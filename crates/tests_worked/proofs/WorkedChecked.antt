@@ -6,7 +6,7 @@ use Rattle.dg_model.specs.Checked.{IsChecked}
 use Rattle.dg_model.specs.Readable.{IsReadable}
 use Rattle.dg_model.specs.Loop.{KeepsLoop}
 use Rattle.dg_model.specs.Signals.{Attributes}
-use Rattle.dg_model.proofs.Written.{all_of}
+use Rattle.math_list.proofs.ByRecursion.{all_of}
 use Rattle.hw_shows.proofs.Small.{int8_valid}
 use Rattle.hw_shows.proofs.KeptRules.{two_numbers}
 use Rattle.hw_shows.proofs.TriedRules.{checked_by}

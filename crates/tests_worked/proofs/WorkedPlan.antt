@@ -22,7 +22,7 @@ use Rattle.hw_sched.specs.Ready.{declared_latency, owed, ready_of}
 use Rattle.hw_sched.specs.Scheduled.{IsScheduled}
 use Rattle.hw_sched.specs.Slots.{Timing, have_of, need_of, operation, slot_of, unit_of}
 use Rattle.hw_sched.specs.Storage.{greatest_latency, storage}
-use Rattle.dg_model.proofs.Written.{all_of, pairs_of}
+use Rattle.math_list.proofs.ByRecursion.{all_of, pairs_of}
 use Rattle.hw_shows.proofs.Small.{each_by}
 use Rattle.tests_worked.proofs.Worked.{attributes, diagram, fed, known, plan_in, plan_of, product, timing}
 use Rattle.tests_worked.proofs.WorkedChecked.{checked}

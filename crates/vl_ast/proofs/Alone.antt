@@ -1,4 +1,4 @@
--- Two lists of rows that run from one start over one list of inputs give each declared name the same bits. Crates above may cite this file.
+-- Two lists of rows that run from one start over one list of inputs give each declared name the same bits.
 use Rattle.std.proofs.Common.{◌≡◌, ◌≢◌, ◌<◌, ◌+◌, ⊎_elim, ℕ, zero, suc, Bool, true, false, not, ◌&&◌, if◌then◌else◌, nat_le, ◌==◌, List, ◌++◌, Contains, bytes_eq, codes, Option, Some, None, refl, sym, ap, subst, ◌∙◌, arith}
 use Rattle.std.specs.List.{list_any}
 use Rattle.std.proofs.lemmas.List.Folds.{Any-from_list_any}

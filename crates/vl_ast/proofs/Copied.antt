@@ -1,4 +1,4 @@
--- A name that is assigned another of its width takes its bits, without a multiplication. Crates above may cite this file.
+-- A name that is assigned another of its width takes its bits, without a multiplication.
 use Rattle.std.proofs.Common.{◌≡◌, ◌<◌, ◌^◌, ◌%◌, ℕ, max, Bool, true, false, List, [], ◌∷◌, refl, sym, ap, ◌∙◌, arith}
 use Rattle.std.proofs.Math.Nat.{mod-eq_of_lt}
 use Rattle.vl_ast.specs.declared.expressions.Expr.TheOpen.{Expr-F}

@@ -10,7 +10,7 @@ use Rattle.vl_ast.specs.Conditions.{doubly, undriven, item_name, needs_driver}
 use Rattle.vl_ast.specs.Drivers.{DrivesAt, IsDrivenOnce, declares}
 use Rattle.vl_ast.specs.Nets.{Declared, Declares, Drives, Reads, Clocks, condition_names, item_mentions, mentions, names_read}
 use Rattle.vl_ast.proofs.Facts.{ByAlways, ByAssign, Driver, driver-of, has-driver, later-item}
-use Rattle.vl_ast.proofs.Places.{Cut, cons-cases, head-in, in-cut, none-in, tail-in}
+use Rattle.math_list.proofs.Elements.{Cut, cons-cases, head-in, in-cut, none-in, tail-in}
 
 -- ---- places of elements
 

@@ -1,5 +1,5 @@
 -- What the first two conditions give: each name has one declaration and one driver of its kind, and
--- what is read is declared. Crates above may cite this file.
+-- what is read is declared.
 use Rattle.std.proofs.Common.{◌≡◌, ◌<◌, length, slice_index_or, ⊎_elim, ℕ, Bool, true, false, not, ◌&&◌, if◌then◌else◌, List, [], ◌∷◌, ◌++◌, map, flat_map, find, Contains, bytes_eq, Option, Some, None, refl, sym, ap, subst, ◌∙◌}
 use Rattle.std.specs.List.{list_any}
 use Rattle.std.proofs.lemmas.List.{append_assoc, append-nil}
@@ -16,8 +16,8 @@ use Rattle.vl_ast.specs.declared.modules.ModItem.TheVariants.{Wire, Reg, Assign,
 use Rattle.vl_ast.specs.declared.modules.Module.{Module}
 use Rattle.vl_ast.specs.Nets.{PlainWire, Register, Declared, port_declared, Mention, Declares, Drives, Reads, Clocks, mentions, item_mentions, declared_by, declarations, declaration_of, names_read, condition_names}
 use Rattle.vl_ast.specs.Conditions.{first_fault, mentioned, is_declaration_of, is_driver_of, is_undriven, undriven, is_double, doubly, needs_driver, may_drive_it}
-use Rattle.vl_ast.proofs.Places.{cons-cases, head-in, tail-in, none-in, Cut, cut-at, map-in, from-map, flat-in, from-flat, Order, AreOne, Before, After, order-of}
-use Rattle.fx_io.proofs.Tests.{same_bytes}
+use Rattle.math_list.proofs.Elements.{cons-cases, head-in, tail-in, none-in, Cut, cut-at, map-in, from-map, flat-in, from-flat, Order, AreOne, Before, After, order-of}
+use Rattle.math_list.proofs.Tests.{same_bytes}
 
 -- where no place is at fault, the test is false at each
 no-fault : (test : List Mention → Mention → Bool) (before passed : List Mention) (here : Mention) (after : List Mention)

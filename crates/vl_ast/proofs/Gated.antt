@@ -1,5 +1,5 @@
 -- Of a module whose registers are gated by `clk_enable`: they keep their bits without it, a run with it in
--- every row is a run of the module that isn't gated, and no condition is broken by it. Crates above may cite this file.
+-- every row is a run of the module that isn't gated, and no condition is broken by it.
 use Rattle.std.proofs.Common.{◌≡◌, ◌<◌, ℕ, Bool, true, false, not, ◌&&◌, if◌then◌else◌, ◌==◌, List, [], ◌∷◌, ◌++◌, map, flat_map, find, Contains, bytes_eq, codes, Option, Some, None, refl, sym, ap, subst, ◌∙◌, arith}
 use Rattle.std.proofs.lemmas.List.Concat.{flat_map-append}
 use Rattle.vl_ast.specs.declared.expressions.BinOp.TheVariants.{Both}
@@ -19,7 +19,7 @@ use Rattle.vl_ast.specs.Runs.{Row, Rows, Runs, next_bits, takes_value}
 use Rattle.vl_ast.specs.Value.{extended, truth, is_true, assigned, assigned_number}
 use Rattle.vl_ast.proofs.Layers.{value_by_layer}
 use Rattle.vl_ast.proofs.Values.{is_signed-roll}
-use Rattle.vl_ast.proofs.Places.{map-in, from-map}
+use Rattle.math_list.proofs.Elements.{map-in, from-map}
 
 -- ---- conditions
 

@@ -1,4 +1,4 @@
--- A gated module breaks no condition that the module itself doesn't break. Crates above may cite this file.
+-- A gated module breaks no condition that the module itself doesn't break.
 use Rattle.std.proofs.Common.{◌≡◌, ◌<◌, ◌+◌, ◌%◌, ◌⊎◌, inl, inr, ℕ, suc, nat_le, Bool, true, false, not, ◌&&◌, ◌||◌, if◌then◌else◌, List, [], ◌∷◌, ◌++◌, map, flat_map, find, length, slice_index_or, Contains, bytes_eq, codes, Option, Some, None, option_map, refl, sym, ap, subst, ◌∙◌, arith}
 use Rattle.std.specs.List.{list_any}
 use Rattle.std.proofs.lemmas.List.{append_assoc, append-nil}
@@ -23,7 +23,7 @@ use Rattle.vl_ast.proofs.Agree.{ByLayer}
 use Rattle.vl_ast.proofs.Chains.{owed-of-none}
 use Rattle.vl_ast.proofs.Facts.{in-port}
 use Rattle.vl_ast.proofs.Gated.{enable, gated-declares, gated-nets}
-use Rattle.vl_ast.proofs.Places.{map-in, from-map}
+use Rattle.math_list.proofs.Elements.{map-in, from-map}
 use Rattle.vl_ast.proofs.Settled.{net-is}
 use Rattle.vl_ast.proofs.Thinned.{bit-port}
 use Rattle.vl_ast.proofs.Values.{own_length-roll}

@@ -3,7 +3,7 @@ use Rattle.std.proofs.Common.{◌≡◌, ◌≢◌, ℕ, Bool, true, false, ◌&
 use Rattle.std.proofs.lemmas.List.Concat.{flat_map-append}
 use Rattle.std.proofs.lemmas.List.Elements.{All-cons, All-append}
 use Rattle.vl_ast.specs.Tokens.{Token, Sign, is_word, IsWritten, IsLongest, is_longest, Blank, IsFiller, filler_text, IsGap, is_blank, Lays, AreWritable}
-use Rattle.fx_io.proofs.Tests.{left_true}
+use Rattle.math_list.proofs.Tests.{left_true}
 
 pub right_false : (a : Bool) → (a && false) ≡ true → ⊥
 right_false true e = cc

@@ -1,4 +1,4 @@
--- The one text of a module spells it, where some text does. Crates above may cite this file.
+-- The one text of a module spells it, where some text does.
 use Rattle.std.proofs.Common.{◌≡◌, ◌≢◌, ℕ, Bool, true, false, List, [], ◌∷◌, ◌++◌, map, flat_map, codes, refl, sym, ap, subst, append_assoc, if◌then◌else◌, inl}
 use Rattle.std.specs.List.{AllZip}
 use Rattle.vl_ast.specs.declared.modules.Port.{Port}

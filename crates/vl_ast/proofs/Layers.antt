@@ -1,4 +1,4 @@
--- The value of an expression from the values of its operands. Crates above may cite these lemmas.
+-- The value of an expression from the values of its operands.
 use Rattle.std.proofs.Common.{◌≡◌, ℕ, Bool, List, sym, ap, subst, ◌∙◌}
 use Rattle.vl_ast.specs.declared.expressions.Expr.{Expr}
 use Rattle.vl_ast.specs.declared.expressions.Expr.TheOpen.{Expr-F}

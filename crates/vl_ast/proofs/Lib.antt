@@ -23,7 +23,6 @@ pub mod Opened
 pub mod OpenedClocked
 pub mod OpenedSound
 pub mod Parts
-pub mod Places
 pub mod PortLists
 pub mod Ranges
 mod Rows

@@ -1,4 +1,4 @@
--- An expression whose names are exchanged for others means the same where the same is declared of the names that it reads. Crates above may cite this file.
+-- An expression whose names are exchanged for others means the same where the same is declared of the names that it reads.
 use Rattle.std.proofs.Common.{◌≡◌, ℕ, max, Bool, ◌&&◌, List, [], ◌∷◌, ◌++◌, map, map-id, replicate, Contains, flat_map, refl, sym, ap, subst, ◌∙◌, arith}
 use Rattle.std.specs.Prelude.{fold, sum, ◌*◌, ◌%◌, ◌^◌, if◌then◌else◌, ◌==◌, not}
 use Rattle.std.proofs.lemmas.List.Elements.{Contains-append_left, Contains-append_right}

@@ -1,4 +1,4 @@
--- A module to which `clk_enable` and `ce_out` are added keeps the first three conditions. Crates above may cite this file.
+-- A module to which `clk_enable` and `ce_out` are added keeps the first three conditions.
 use Rattle.std.proofs.Common.{◌≡◌, ◌≢◌, ◌<◌, ◌+◌, ◌%◌, ◌⊎◌, inl, inr, ⊎_elim, ℕ, suc, Bool, true, false, not, ◌&&◌, ◌||◌, if◌then◌else◌, List, [], ◌∷◌, ◌++◌, map, flat_map, find, length, slice_index_or, Contains, bytes_eq, codes, Some, None, refl, sym, ap, subst, ◌∙◌, arith}
 use Rattle.std.specs.List.{list_any}
 use Rattle.std.proofs.lemmas.List.{append_assoc, append-nil, map-append}
@@ -20,8 +20,8 @@ use Rattle.vl_ast.proofs.Chains.{owed-of-none}
 use Rattle.vl_ast.proofs.Facts.{mention-listed, read-declared, driven-declared, assign-drives}
 use Rattle.vl_ast.proofs.Gated.{enable}
 use Rattle.vl_ast.proofs.GatedSound.{enable-reads}
-use Rattle.vl_ast.proofs.Places.{cons-cases, none-in, head-in}
-use Rattle.fx_io.proofs.Tests.{unequal, differ}
+use Rattle.math_list.proofs.Elements.{cons-cases, none-in, head-in}
+use Rattle.math_list.proofs.Tests.{unequal, differ}
 
 abbrev pub out : List ℕ
 out = codes "ce_out"

@@ -1,5 +1,5 @@
 -- A module to which `clk_enable` and `ce_out` are added is clocked and can be stalled, and the counted rows of
--- its gated form are rows of the module itself. Crates above may cite this file.
+-- its gated form are rows of the module itself.
 use Rattle.std.proofs.Common.{◌≡◌, ℕ, nat_le, Bool, true, false, not, ◌&&◌, ◌||◌, if◌then◌else◌, List, [], ◌∷◌, ◌++◌, codes, Some, None, refl, sym, ap, ◌∙◌}
 use Rattle.std.specs.List.{list_any}
 use Rattle.vl_ast.specs.declared.modules.Port.{Port}

@@ -1,4 +1,4 @@
--- A module to which `clk_enable` and `ce_out` are added keeps the fourth and the sixth condition. Crates above may cite this file.
+-- A module to which `clk_enable` and `ce_out` are added keeps the fourth and the sixth condition.
 use Rattle.std.proofs.Common.{◌≡◌, ℕ, Bool, true, false, not, ◌&&◌, ◌||◌, if◌then◌else◌, ◌==◌, List, [], ◌∷◌, ◌++◌, map, find, Contains, codes, Option, Some, None, option_map, is_none, refl, sym, ap, subst, ◌∙◌}
 use Rattle.std.proofs.lemmas.List.{append_assoc, append-nil, map-append}
 use Rattle.std.proofs.lemmas.List.Elements.{Contains-append_left, Contains-append_right}
@@ -19,11 +19,11 @@ use Rattle.vl_ast.proofs.Agree.{ByLayer}
 use Rattle.vl_ast.proofs.Facts.{in-port, mention-listed, reads-of-assign, reads-of-always}
 use Rattle.vl_ast.proofs.Gated.{enable}
 use Rattle.vl_ast.proofs.GatedSound.{enable-net, sound-enable, soundness_by}
-use Rattle.fx_io.proofs.Tests.{unequal}
+use Rattle.math_list.proofs.Tests.{unequal}
 use Rattle.vl_ast.proofs.Opened.{opened-acyclic, opened-has, out}
 use Rattle.vl_ast.proofs.OpenedClocked.{opened-clocked, opened-stallable}
 use Rattle.vl_ast.proofs.Parts.{read-net}
-use Rattle.vl_ast.proofs.Places.{head-in, tail-in}
+use Rattle.math_list.proofs.Elements.{head-in, tail-in}
 use Rattle.vl_ast.proofs.SoundAgree.{sound-same}
 
 -- ---- nothing is found in parts

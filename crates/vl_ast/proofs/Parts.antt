@@ -1,4 +1,4 @@
--- The rows of a module are rows of one that has some of its ports and items. Crates above may cite this file.
+-- The rows of a module are rows of one that has some of its ports and items.
 use Rattle.std.proofs.Common.{◌≡◌, ⊎_elim, ℕ, Bool, true, false, if◌then◌else◌, ◌==◌, List, ◌++◌, map, flat_map, Contains, codes, Option, Some, None, refl, sym, ap, subst, ◌∙◌}
 use Rattle.std.proofs.lemmas.List.Elements.{Contains-append_left, Contains-append_right, Contains-append_cases}
 use Rattle.vl_ast.specs.declared.expressions.Sized.{Sized}
@@ -15,7 +15,7 @@ use Rattle.vl_ast.specs.Value.{assigned, assigned_number}
 use Rattle.vl_ast.proofs.Agree.{ByLayer}
 use Rattle.vl_ast.proofs.Facts.{in-item, listed-mention, mention-listed, read-declared, driven-declared, assign-drives, always-drives, reads-of-assign, reads-of-always}
 use Rattle.vl_ast.proofs.NetsAgree.{assigned-same, true-same}
-use Rattle.vl_ast.proofs.Places.{map-in, from-map, from-flat}
+use Rattle.math_list.proofs.Elements.{map-in, from-map, from-flat}
 use Rattle.vl_ast.proofs.Settled.{net-is}
 
 abbrev next-by : Row → List ℕ → ℕ → Sized → Bool → ℕ → ℕ

@@ -1,4 +1,4 @@
--- The ports of a module have different names, and so have those of them that pass a test. Crates above may cite this file.
+-- The ports of a module have different names, and so have those of them that pass a test.
 use Rattle.std.proofs.Common.{◌≡◌, ◌≢◌, ◌<◌, ⊎_elim, ℕ, zero, suc, Bool, true, false, List, [], ◌∷◌, ◌++◌, map, flat_map, filter, slice_get, Contains, Some, None, refl, sym, ap, subst, ◌∙◌, arith}
 use Rattle.std.proofs.lemmas.List.{append_assoc, map-append}
 use Rattle.std.proofs.lemmas.Bool.{cond-true, cond-false}
@@ -6,7 +6,7 @@ use Rattle.vl_ast.specs.declared.modules.Port.{Port}
 use Rattle.vl_ast.specs.declared.modules.Module.{Module}
 use Rattle.vl_ast.specs.Nets.{port_declared, Mention, Declares, mentions, item_mentions}
 use Rattle.vl_ast.specs.Conditions.{undriven, doubly}
-use Rattle.vl_ast.proofs.Places.{cons-cases, head-in, tail-in, none-in, cut-at, in-cut}
+use Rattle.math_list.proofs.Elements.{cons-cases, head-in, tail-in, none-in, cut-at, in-cut}
 use Rattle.vl_ast.proofs.Facts.{no-earlier-declaration}
 
 -- no two ports have one name

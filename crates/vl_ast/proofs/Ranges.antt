@@ -1,4 +1,4 @@
--- The ranges of what ports and modules say, or of what holds where they don't. Crates above may cite this file.
+-- The ranges of what ports and modules say, or of what holds where they don't.
 use Rattle.std.proofs.Common.{◌≡◌, ◌≤◌, ℕ, Bool, true, false, ◌&&◌, if◌then◌else◌, nat_le, Option, None, Some, unwrap_or, refl, arith, find, codes, bytes_eq}
 use Rattle.std.proofs.lemmas.Bool.{and_parts, leb-true}
 use Rattle.vl_ast.specs.declared.modules.Attr.{Attr}

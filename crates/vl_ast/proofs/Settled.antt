@@ -1,4 +1,4 @@
--- A module with no loops has rows, and no two lists of them. Crates above may cite this file.
+-- A module with no loops has rows, and no two lists of them.
 use Rattle.std.proofs.Common.{◌≡◌, ◌≢◌, ◌<◌, ◌+◌, ◌%◌, ◌^◌, ◌⊎◌, inl, inr, ⊎_elim, ℕ, zero, suc, max, Bool, true, false, ◌&&◌, if◌then◌else◌, ◌==◌, List, [], ◌∷◌, length, Contains, bytes_eq, codes, Option, Some, None, refl, sym, ap, subst, ◌∙◌, arith}
 use Rattle.std.specs.List.{list_any}
 use Rattle.std.proofs.lemmas.List.Folds.{Any-from_list_any, list_any-from_Any}
@@ -20,7 +20,7 @@ use Rattle.vl_ast.specs.Conditions.{undriven, doubly, may_drive, may_drive_it, A
 use Rattle.vl_ast.specs.Room.{HasRoom, HasRows}
 use Rattle.vl_ast.proofs.Agree.{ByLayer, values-agree}
 use Rattle.vl_ast.proofs.Chains.{owed-of-none}
-use Rattle.vl_ast.proofs.Places.{cons-cases, head-in, tail-in, none-in}
+use Rattle.math_list.proofs.Elements.{cons-cases, head-in, tail-in, none-in}
 use Rattle.vl_ast.proofs.Facts.{may-drive, is-declared, in-port, assign-drives, always-drives, one-assign, one-always, Clocked, taken, not-both, listed-mention, reg-declared}
 
 -- the first assignment of a name

@@ -1,4 +1,4 @@
--- An expression whose names are exchanged for others is as sound where the same is declared of the names that it reads. Crates above may cite this file.
+-- An expression whose names are exchanged for others is as sound where the same is declared of the names that it reads.
 use Rattle.std.proofs.Common.{◌≡◌, ℕ, nat_le, nat_lt, Bool, ◌&&◌, List, [], ◌∷◌, ◌++◌, map, Contains, flat_map, refl, sym, ap, subst, ◌∙◌}
 use Rattle.std.specs.List.{list_all}
 use Rattle.vl_ast.specs.declared.expressions.Expr.{Expr}

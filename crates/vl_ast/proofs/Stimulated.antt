@@ -1,4 +1,4 @@
--- For every stimulus and every count of rows there are inputs that it drives. Crates above may cite this file.
+-- For every stimulus and every count of rows there are inputs that it drives.
 use Rattle.std.proofs.Common.{◌≡◌, ◌<◌, ◌≤◌, ◌+◌, ◌-◌, ◌*◌, ◌/◌, ◌%◌, ◌^◌, ⊎_elim, ℕ, zero, suc, Bool, true, false, not, ◌&&◌, ◌||◌, ◌==◌, if◌then◌else◌, nat_le, List, [], ◌∷◌, filter, slice_get, Contains, bytes_eq, codes, Option, Some, None, ℤ, pos, negsuc, refl, sym, ap, subst, ◌∙◌, arith}
 use Rattle.std.proofs.lemmas.Bool.{cond-true, cond-false, eq-eqb, cases_Bool, or_parts, and_parts, not-true, le-leb, lt-leb}
 use Rattle.std.proofs.lemmas.Nat.{mod_below, pow_pos, mod-mul-add, div-add-mod'}

@@ -1,4 +1,4 @@
--- A list of rows thinned by a test: those that pass, behind a first. Crates above may cite this file.
+-- A list of rows thinned by a test: those that pass, behind a first.
 use Rattle.std.proofs.Common.{◌≡◌, ◌<◌, ◌≤◌, ⊎_elim, ℕ, zero, suc, Bool, true, false, ◌&&◌, if◌then◌else◌, ◌==◌, refl, sym, ap, subst, ◌∙◌, arith}
 use Rattle.std.proofs.lemmas.Bool.{cond-true, cond-false, cases_eq, eq-eqb, eqb-true, cases_Bool}
 use Rattle.vl_ast.specs.Runs.{Row, Rows}

@@ -1,4 +1,4 @@
--- Rows that all count: of a module without `clk_enable`, and where it is 1 in every row. Crates above may cite this file.
+-- Rows that all count: of a module without `clk_enable`, and where it is 1 in every row.
 use Rattle.std.proofs.Common.{◌≡◌, ◌<◌, ◌≤◌, ◌+◌, ◌-◌, ℕ, zero, suc, Bool, true, false, not, ◌||◌, ◌==◌, List, codes, ℤ, refl, sym, ap, subst, ◌∙◌, arith}
 use Rattle.std.proofs.lemmas.Bool.{eq-eqb}
 use Rattle.vl_ast.specs.declared.modules.Module.{Module}

@@ -1,4 +1,4 @@
--- Each token that can be written is written by the one text's form of it. Crates above may cite this file.
+-- Each token that can be written is written by the one text's form of it.
 use Rattle.std.proofs.Common.{◌≡◌, ◌≢◌, ℕ, ◌^◌, ◌<◌, ◌≤◌, Bool, true, false, List, [], ◌∷◌, ◌++◌, length, codes, decimal, refl, subst, append_assoc, arith, inl, if◌then◌else◌}
 use Rattle.std.specs.Prelude.{nat_eq}
 use Rattle.std.specs.Str.Parse.{IsNumeral, AllDigits, digits_value}

@@ -19,10 +19,10 @@ use Rattle.vl_ast.specs.Spelling.{joined}
 use Rattle.vl_ast.specs.Tokens.{Token, Key, Sign, Identifier, Based, IsWritable, AreWritable}
 use Rattle.vl_names.specs.Identifiers.{is_identifier}
 use Rattle.vl_ast.proofs.Laid.{AllWritable-append}
-use Rattle.vl_ast.proofs.Places.{head-in}
+use Rattle.math_list.proofs.Elements.{head-in}
 use Rattle.vl_ast.proofs.Values.{own_length-roll}
 use Rattle.vl_ast.proofs.Written.{number-writable, based-writable}
-use Rattle.fx_io.proofs.Tests.{right_true, left_true}
+use Rattle.math_list.proofs.Tests.{right_true, left_true}
 
 pub name-writable : (name : List ℕ) → is_identifier name ≡ true → IsWritable (Identifier name)
 name-writable name e = (name, (refl, e))

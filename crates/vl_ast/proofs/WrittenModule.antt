@@ -1,4 +1,4 @@
--- The tokens of a module that breaks no condition can be written, where its names are identifiers. Crates above may cite this file.
+-- The tokens of a module that breaks no condition can be written, where its names are identifiers.
 use Rattle.std.proofs.Common.{◌≡◌, ◌≤◌, ◌-◌, ⊎_elim, inl, inr, ℕ, nat_le, Bool, true, false, not, ◌&&◌, ◌==◌, if◌then◌else◌, List, [], ◌∷◌, ◌++◌, map, find, flat_map, Contains, codes, Option, Some, None, option_map, refl, sym, ap, subst, ◌∙◌, arith}
 use Rattle.std.specs.List.{AllZip}
 use Rattle.std.proofs.lemmas.Bool.{leb-true, eqb-true, and_parts}
@@ -23,7 +23,7 @@ use Rattle.vl_ast.proofs.Laid.{AllWritable-append}
 use Rattle.vl_ast.proofs.LaidItems.{net_item}
 use Rattle.vl_ast.proofs.LaidModule.{item_tokens, port_tokens, port_words, module_lays, module_tokens, module_tail}
 use Rattle.vl_ast.proofs.LaidNets.{bounds, range_tokens}
-use Rattle.vl_ast.proofs.Places.{cons-cases, none-in, head-in, tail-in, map-in}
+use Rattle.math_list.proofs.Elements.{cons-cases, none-in, head-in, tail-in, map-in}
 use Rattle.vl_ast.proofs.Settled.{net-is}
 use Rattle.vl_ast.proofs.Written.{number-writable}
 use Rattle.vl_ast.proofs.WrittenExpr.{IsKnown, EachWritable, expr-writable, joined-writable, key-writable, literal-of, name-writable, sign-writable}

@@ -13,7 +13,7 @@ use Rattle.std.proofs.lemmas.List.Elements.{Contains-push, Contains-append_left}
 use Rattle.vl_ast.specs.declared.modules.Module.{Module}
 use Rattle.vl_ast.specs.Conditions.{mentioned}
 use Rattle.vl_ast.specs.Nets.{Mention, Declares, Drives, Reads, Clocks, is_mention_of, mentions, place_of}
-use Rattle.vl_ast.proofs.Places.{cons-cases, none-in}
+use Rattle.math_list.proofs.Elements.{cons-cases, none-in}
 use Rattle.vl_check.specs.declared.scope.Scope.{Scope}
 use Rattle.vl_check.specs.Scope.{IsScopeOf, names_in, number_in}
 use Rattle.vl_check.specs.declared.mentions.Mention.{Mention as MentionHere}
@@ -21,7 +21,7 @@ use Rattle.vl_check.specs.inner.Mentioned.{mention_of, shown}
 use Rattle.vl_check.specs.inner.Looped.{name_of, AreMarked, if_marked, marked_number, marked_at, first_some, AreNamed, IsBeginning}
 use Rattle.vl_check.proofs.Scoped.{at-number, number-at}
 use Rattle.vl_ast.proofs.Opened.{or-true}
-use Rattle.fx_io.proofs.Tests.{bytes_same}
+use Rattle.math_list.proofs.Tests.{bytes_same}
 
 -- a mention of a name
 pub mentions-it : (name : List ℕ) (x : Mention) → mentioned x ≡ name → is_mention_of name x ≡ true

@@ -13,7 +13,7 @@ use Rattle.vl_ast.specs.declared.modules.ModItem.TheVariants.{Assign}
 use Rattle.vl_ast.specs.declared.modules.Module.{Module}
 use Rattle.vl_ast.specs.Conditions.{AssignmentReads, IsLoop, IsLoopList, mentioned, undriven, doubly}
 use Rattle.vl_ast.specs.Nets.{Mention, Drives, Reads, item_mentions, mentions, names_read, place_of}
-use Rattle.vl_ast.proofs.Places.{map-in, from-map, head-in, tail-in}
+use Rattle.math_list.proofs.Elements.{map-in, from-map, head-in, tail-in}
 use Rattle.vl_ast.proofs.Facts.{in-item, one-driver}
 use Rattle.vl_check.specs.declared.scope.Scope.{Scope}
 use Rattle.vl_check.specs.Scope.{IsScopeOf, names_in, number_at, number_in}

@@ -17,7 +17,7 @@ use Rattle.vl_check.specs.declared.mentions.Mention.TheVariants.{Declares as Dec
 use Rattle.vl_check.specs.inner.Mentioned.{declared_of, mention_of, shown}
 use Rattle.vl_check.specs.inner.Marks.{AreNumbered, AreNumbers, Marks, AreFirst, declares, drives, undriven_where, double_where, first_after}
 use Rattle.vl_ast.proofs.Opened.{or-true}
-use Rattle.fx_io.proofs.Tests.{same_bytes, unequal}
+use Rattle.math_list.proofs.Tests.{same_bytes, unequal}
 
 -- both tests hold at a place of their kind, of the name that stands there
 pub driver-test : (name : List ℕ) (x : Mention) → is_driver_of name x ≡ (drives x && bytes_eq (mentioned x) name)

@@ -16,7 +16,7 @@ use Rattle.vl_check.specs.declared.mentions.Mention.{Mention as MentionHere}
 use Rattle.vl_check.specs.inner.Mentioned.{mention_of, shown}
 use Rattle.fx_io.specs.Rows.{row_at}
 use Rattle.vl_check.specs.inner.Assigned.{IsNoted, IsNotedAt, places_after, reads_after}
-use Rattle.fx_io.proofs.Places.{get_left}
+use Rattle.math_list.proofs.Places.{get_left}
 use Rattle.vl_check.proofs.Scoped.{at-number}
 
 -- the last element, or one before it

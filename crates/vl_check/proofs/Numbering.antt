@@ -14,7 +14,7 @@ use Rattle.vl_check.specs.inner.Mentioned.{mention_of, shown, texts}
 use Rattle.vl_check.specs.inner.Marks.{AreNumbers}
 use Rattle.vl_check.specs.Names.{with_name}
 use Rattle.vl_check.specs.inner.Names.{Numbered}
-use Rattle.fx_io.proofs.Places.{get_left}
+use Rattle.math_list.proofs.Places.{get_left}
 
 -- keys after one is put in
 abbrev pub IsGrown : List (List ℕ) → List (List ℕ) → List ℕ → Type 0

@@ -1,4 +1,4 @@
--- The names that each form of expression reads, and lists that are gone through. Crates above may cite this file.
+-- The names that each form of expression reads, and lists that are gone through.
 use Rattle.std.proofs.Common.{◌≡◌, ◌<◌, ◌≤◌, ◌+◌, ◌++◌, [], ◌∷◌, refl, true, false, ℕ, List, Vec, Global, length, map, slice_index_or, take, sym, ap, subst, ◌∙◌, true≢false}
 use Rattle.std.specs.List.{flat_map}
 use Rattle.std.proofs.lemmas.List.{append-nil, append_assoc, flat_map_more, map-append, map_more, take_all, take_more}

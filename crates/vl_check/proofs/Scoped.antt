@@ -1,4 +1,4 @@
--- The numbers and the declarations of names are those of the text. Crates above may cite this file.
+-- The numbers and the declarations of names are those of the text.
 use Rattle.std.proofs.Common.{◌≡◌, ◌<◌, ℕ, Bool, true, false, cond, ltb, if◌then◌else◌, List, [], ◌∷◌, length, map, flat_map, find, slice_index, slice_index_or, slice_get, Contains, Option, None, Some, Bor, bytes_eq, refl, sym, ap, subst, ◌∙◌, arith}
 use Rattle.std.specs.Option.{option_map, option_and_then}
 use Rattle.std.specs.List.{IsDistinct, position}
@@ -12,7 +12,7 @@ use Rattle.std.proofs.lemmas.List.Sums.{position_or_len_is}
 use Rattle.vl_ast.specs.declared.modules.Module.{Module}
 use Rattle.vl_ast.specs.Conditions.{mentioned}
 use Rattle.vl_ast.specs.Nets.{Declared, Declares, mentions, declared_by, declarations, declaration_of}
-use Rattle.vl_ast.proofs.Places.{map-in, from-flat, head-in, tail-in}
+use Rattle.math_list.proofs.Elements.{map-in, from-flat, head-in, tail-in}
 use Rattle.vl_ast.proofs.Facts.{declares-it}
 use Rattle.vl_check.specs.declared.mentions.Mention.{Mention as MentionHere}
 use Rattle.vl_check.specs.declared.scope.Scope.{Scope}
@@ -22,7 +22,7 @@ use Rattle.vl_check.specs.inner.Marks.{AreFirst}
 use Rattle.std.specs.Prelude.{fold}
 use Rattle.vl_check.specs.Names.{with_name}
 use Rattle.vl_check.specs.Scope.{IsScopeOf, declaration_in, names_in, number_in}
-use Rattle.fx_io.proofs.Tests.{bytes_same, unequal}
+use Rattle.math_list.proofs.Tests.{bytes_same, unequal}
 
 head-in' : {X : Type 0} (y x : X) (ys : List X) → y ≡ x → Contains (y ∷ ys) x
 head-in' y x ys same = subst (λ z. Contains (y ∷ ys) z) same (head-in y ys)

@@ -5,8 +5,8 @@ use Rattle.std.proofs.lemmas.Nat.{pow-add, shr_high, shr-shr, field_of}
 use Rattle.std.proofs.Math.Nat.{mod-eq_of_lt, div-eq_of_lt, add-mul, mul-sub, pow-succ', le-mul_of_pos_right}
 use Rattle.std.proofs.lemmas.Bool.{cond_both, eqb-true, leb-true, leb-false}
 use Rattle.std.specs.Int.{bit_at}
-use Rattle.fx_num.specs.Word.{InWord, IsWord, IsCongruent}
-use Rattle.fx_num.proofs.Arithmetic.{double, IsCongruent-part}
+use Rattle.math_num.specs.Word.{InWord, IsWord, IsCongruent}
+use Rattle.math_num.proofs.Arithmetic.{double, IsCongruent-part}
 use Rattle.vl_ast.specs.declared.expressions.Expr.{Expr}
 use Rattle.vl_ast.specs.declared.expressions.Expr.TheVariants.{Name, Bit, Part, Concat, Repeat}
 use Rattle.vl_ast.specs.Context.{Net, own_length, is_signed}
@@ -15,11 +15,11 @@ use Rattle.vl_ast.specs.Value.{bits_of}
 use Rattle.vl_emit.specs.Names.{Wire}
 use Rattle.vl_emit.specs.inner.Spelled.{zeros, fill, inside, piece, at_width}
 use Rattle.vl_emit.specs.inner.Written.{IsWritten, Shows}
-use Rattle.hw_net.specs.Operation.{shifted_down}
+use Rattle.math_num.specs.Bits.{shifted_down}
 use Rattle.vl_ast.proofs.Forms.{sign-Name, sign-Part, sign-Concat, sign-Literal, length-Name, length-Bit, length-Part, length-Literal, length-Concat, length-Repeat, value-Name, value-Bit, value-Part, value-Literal, value-Concat, value-Repeat}
 use Rattle.vl_ast.proofs.Stimulated.{bits-fit}
 use Rattle.vl_emit.proofs.Twos.{bits-congruent, bits-unique, bits-mod}
-use Rattle.fx_num.proofs.Words.{size-below, size-half, sign_of, size_of}
+use Rattle.math_num.proofs.Words.{size-below, size-half, sign_of, size_of}
 use Rattle.hw_net.proofs.Words.{only-sign, split-low}
 
 -- no extension at the same width

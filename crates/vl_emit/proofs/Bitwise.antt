@@ -9,7 +9,7 @@ use Rattle.vl_ast.specs.declared.expressions.Expr.TheVariants.{Unary, Binary}
 use Rattle.vl_ast.specs.Context.{Net, own_length}
 use Rattle.vl_ast.specs.Value.{bits_of}
 use Rattle.vl_emit.specs.inner.Written.{IsWritten}
-use Rattle.hw_net.specs.Operation.{low_bits}
+use Rattle.math_num.specs.Bits.{low_bits}
 use Rattle.vl_ast.proofs.Forms.{length-Unary, length-Binary, value-Unary, value-Binary}
 use Rattle.vl_emit.proofs.AtWidth.{cut-bits}
 use Rattle.vl_ast.proofs.Stimulated.{bits-fit}

@@ -26,7 +26,7 @@ use Rattle.hw_net.specs.Products.{net_at}
 use Rattle.vl_emit.specs.Reads.{item_reads}
 use Rattle.vl_emit.specs.inner.Emitted.{naming_of, plain_module}
 use Rattle.vl_emit.proofs.Cleaned.{name-clean}
-use Rattle.fx_io.proofs.Tests.{unequal}
+use Rattle.math_list.proofs.Tests.{unequal}
 use Rattle.vl_emit.proofs.Doubly.{emitted-once}
 use Rattle.vl_emit.proofs.Found.{no-element, first-or-later, of-one, of-mapped}
 use Rattle.vl_emit.proofs.Interfaces.{Origin as PortOrigin, OfClock, OfReset, OfInput, OfOutput, port-where, input-name, ports-differ, emitted, only, name-begins, input-there}

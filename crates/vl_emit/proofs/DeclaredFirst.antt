@@ -16,7 +16,7 @@ use Rattle.vl_emit.specs.Reads.{item_reads}
 use Rattle.vl_emit.proofs.Found.{DeclaredBy, no-element, first-or-later, here, later, in-one, of-one, of-mapped}
 use Rattle.vl_emit.proofs.Ordered.{in-parts, none-at-fault}
 use Rattle.vl_emit.specs.inner.Emitted.{drivers, declarers}
-use Rattle.fx_io.proofs.Places.{seen}
+use Rattle.math_list.proofs.Places.{seen}
 
 and-false : (t : Bool) → (t && not true) ≡ false
 and-false true = refl

@@ -3,9 +3,9 @@ use Rattle.std.proofs.Common.{◌≡◌, ◌⊎◌, inl, inr, ℕ, ◌+◌, ◌-
 use Rattle.std.proofs.lemmas.Int.{ints}
 use Rattle.std.proofs.lemmas.Bool.{and_cases, and_parts, and_right, cond_both, cond-true, eq-eqb, le-leb, leb-false, leb-true, lt-leb, ltb-false, or_parts}
 use Rattle.std.proofs.Math.Nat.{mod-eq_of_lt}
-use Rattle.fx_num.specs.Word.{InWord, IsWord}
-use Rattle.fx_num.proofs.Arithmetic.{double}
-use Rattle.fx_num.proofs.Words.{size-below, size-half, size_of}
+use Rattle.math_num.specs.Word.{InWord, IsWord}
+use Rattle.math_num.proofs.Arithmetic.{double}
+use Rattle.math_num.proofs.Words.{size-below, size-half, size_of}
 use Rattle.vl_ast.specs.declared.expressions.BinOp.TheVariants.{Multiply}
 use Rattle.vl_ast.specs.declared.expressions.Expr.{Expr}
 use Rattle.vl_ast.specs.declared.expressions.Expr.TheVariants.{Name, Part, AsSigned}

@@ -1,6 +1,6 @@
 -- What a run of a netlist's module gives of a net: its bits after assignments, after `reset` and after edges.
 use Rattle.std.proofs.Common.{◌≡◌, ℕ, suc, ◌+◌, ◌^◌, ◌<◌, Bool, List, length, Contains, ℤ, Option, codes, ap, sym, ◌∙◌, subst, arith}
-use Rattle.fx_num.specs.Word.{InWord, IsWord, IsWrapped}
+use Rattle.math_num.specs.Word.{InWord, IsWord, IsWrapped}
 use Rattle.vl_ast.specs.declared.expressions.Sized.{Sized}
 use Rattle.vl_ast.specs.declared.expressions.Expr.{Expr}
 use Rattle.vl_ast.specs.declared.modules.ModItem.{ModItem}

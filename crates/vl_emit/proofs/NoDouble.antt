@@ -15,7 +15,7 @@ use Rattle.vl_emit.proofs.Found.{here, later, in-one, of-one, found, found-is, D
 use Rattle.vl_emit.proofs.Lists.{apart-pairs, same-element, none-of, empty-list}
 use Rattle.vl_emit.proofs.Ordered.{fault-free}
 use Rattle.vl_emit.proofs.DeclaredFirst.{item_drives}
-use Rattle.fx_io.proofs.Tests.{unequal}
+use Rattle.math_list.proofs.Tests.{unequal}
 
 abbrev pub driven_by : Mention → List (List ℕ)
 driven_by (Declares declared) = []

@@ -1,17 +1,17 @@
--- The number that bits of a word show, and the bits of the number. Crates above may cite this file.
+-- The number that bits of a word show, and the bits of the number.
 use Rattle.std.proofs.Common.{◌≡◌, ℕ, ◌-◌, ◌%◌, ◌^◌, ◌<◌, ◌≤◌, nat_le, Bool, true, false, List, Contains, find, bytes_eq, Option, None, Some, ℤ, pos, negsuc, ◌-ℤ◌, ap, sym, ◌∙◌, subst, refl, arith, pow_pos}
 use Rattle.std.proofs.lemmas.Int.{ints}
 use Rattle.std.proofs.lemmas.Bool.{cond_both, leb-true, leb-false}
 use Rattle.std.proofs.lemmas.Slice.Eq.{bytes_eq-Decides}
 use Rattle.std.proofs.Math.Nat.{mod-eq_of_lt}
-use Rattle.fx_num.specs.Word.{IsWord, InWord, IsCongruent, IsWrapped}
-use Rattle.fx_num.proofs.Arithmetic.{double, IsCongruent-sym, IsCongruent-trans}
+use Rattle.math_num.specs.Word.{IsWord, InWord, IsCongruent, IsWrapped}
+use Rattle.math_num.proofs.Arithmetic.{double, IsCongruent-sym, IsCongruent-trans}
 use Rattle.vl_ast.specs.declared.modules.Module.{Module}
 use Rattle.vl_ast.specs.Context.{Net as DeclaredNet}
 use Rattle.vl_ast.specs.Value.{number_of}
 use Rattle.vl_ast.specs.Nets.{Declared, declarations, nets_of, net_or_none}
 use Rattle.vl_ast.specs.Value.{bits_of}
-use Rattle.fx_num.proofs.Words.{size-half}
+use Rattle.math_num.proofs.Words.{size-half}
 use Rattle.vl_emit.proofs.Found.{found-is}
 use Rattle.vl_emit.proofs.OfOperations.{plain-back, width-at-least}
 use Rattle.vl_emit.proofs.Operations.{number-back}

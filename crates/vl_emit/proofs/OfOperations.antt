@@ -7,8 +7,8 @@ use Rattle.std.proofs.lemmas.Nat.{pow-add, shr_high}
 use Rattle.std.proofs.Math.Nat.{mod-eq_of_lt, div-eq_of_lt, mul-mod_left}
 use Rattle.vl_ast.specs.declared.expressions.ShiftOp.TheVariants.{Left}
 use Rattle.std.specs.Ordering.{int_eq}
-use Rattle.fx_num.specs.Word.{InWord, IsWord}
-use Rattle.fx_num.proofs.Arithmetic.{double}
+use Rattle.math_num.specs.Word.{InWord, IsWord}
+use Rattle.math_num.proofs.Arithmetic.{double}
 use Rattle.vl_ast.specs.declared.expressions.BinOp.TheVariants as binary
 use Rattle.vl_ast.specs.declared.expressions.Expr.{Expr}
 use Rattle.vl_ast.specs.declared.expressions.Expr.TheVariants as expression
@@ -17,7 +17,8 @@ use Rattle.vl_ast.specs.Value.{number_of, truth}
 use Rattle.vl_ast.specs.Value.{bits_of}
 use Rattle.hw_net.specs.declared.netlist.NetOp.{NetOp}
 use Rattle.hw_net.specs.declared.netlist.NetOp.TheVariants.{Input, Const, Resize, ShiftUp, ShiftDown, Add, Subtract, Negate, Multiply, And, Or, Xor, Not, Less, Equal, Choose, Slice}
-use Rattle.hw_net.specs.Operation.{Operands, shifted_down, low_bits, truth as truth_number, arity, given_by}
+use Rattle.hw_net.specs.Operation.{Operands, arity, given_by}
+use Rattle.math_num.specs.Bits.{shifted_down, low_bits, truth as truth_number}
 use Rattle.vl_emit.specs.inner.Spoken.{IsWithin}
 use Rattle.vl_emit.specs.Names.{Wire}
 use Rattle.vl_emit.specs.inner.Spelled.{zeros, piece, at_width}
@@ -25,7 +26,7 @@ use Rattle.vl_emit.specs.inner.Operators.{widened, signed_width, by_sign, compar
 use Rattle.vl_emit.specs.inner.Written.{IsWritten, Shows}
 use Rattle.vl_emit.proofs.Bitwise.{low-bits, and-written, or-written, xor-written, invert-written}
 use Rattle.vl_ast.proofs.Forms.{by_itself}
-use Rattle.fx_num.proofs.Words.{size-below, size-half, size_of}
+use Rattle.math_num.proofs.Words.{size-below, size-half, size_of}
 use Rattle.vl_emit.proofs.AtWidth.{piece-plain, as-name, split-bits, zeros-written, beside-written, piece-written, operand-written, alone-written, cut-bits}
 use Rattle.vl_emit.proofs.Operations.{shift-bits, number-back, less_plain-written, add-written, subtract-written, negate-written, shift-written, literal-written, choose-written, equal-written, not_equal-written, less-written, same-bits}
 use Rattle.vl_ast.proofs.Stimulated.{bits-fit}

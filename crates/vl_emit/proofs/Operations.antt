@@ -5,8 +5,8 @@ use Rattle.std.proofs.lemmas.Bool.{eqb-true, eqb-false, lt-leb, le-leb}
 use Rattle.std.proofs.lemmas.Bool.Decides.{Decides-int_eq}
 use Rattle.std.specs.Ordering.{int_eq}
 use Rattle.std.proofs.Math.Nat.{mod-eq_of_lt}
-use Rattle.fx_num.specs.Word.{IsCongruent}
-use Rattle.fx_num.proofs.Arithmetic.{double, IsCongruent-times, IsCongruent-trans}
+use Rattle.math_num.specs.Word.{IsCongruent}
+use Rattle.math_num.proofs.Arithmetic.{double, IsCongruent-times, IsCongruent-trans}
 use Rattle.vl_ast.specs.declared.expressions.UnOp.TheVariants.{Negate}
 use Rattle.vl_ast.specs.declared.expressions.BinOp.TheVariants.{Add, Subtract, Equal, NotEqual, Less}
 use Rattle.vl_ast.specs.declared.expressions.ShiftOp.TheVariants.{Left}
@@ -19,10 +19,10 @@ use Rattle.vl_ast.specs.Value.{bits_of}
 use Rattle.vl_emit.specs.inner.Written.{IsWritten}
 use Rattle.vl_ast.proofs.Forms.{length-Unary, length-Binary, length-Shift, length-Choose, length-AsSigned, length-Literal, sign-AsSigned, value-Unary, value-Binary, value-Shift, value-Choose, value-AsSigned, value-Literal, by_itself}
 use Rattle.vl_emit.proofs.AtWidth.{alone-written, extended-same}
-use Rattle.hw_net.proofs.Modular.{congruent-neg}
+use Rattle.math_num.proofs.Residues.{congruent-neg}
 use Rattle.vl_ast.proofs.Stimulated.{bits-fit}
 use Rattle.vl_emit.proofs.Twos.{bits-congruent, bits-unique, IsCongruent-add, IsCongruent-mul}
-use Rattle.fx_num.proofs.Words.{size_of}
+use Rattle.math_num.proofs.Words.{size_of}
 
 add-bits : (w : ℕ) (a b : ℤ) → (bits_of w a + bits_of w b) % 2 ^ w ≡ bits_of w (a +ℤ b)
 add-bits w a b = bits-unique w (bits_of w a + bits_of w b) (a +ℤ b) (IsCongruent-add (2 ^ w) (bits-congruent w a) (bits-congruent w b))

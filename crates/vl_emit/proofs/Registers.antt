@@ -2,8 +2,8 @@
 use Rattle.std.proofs.Common.{◌≡◌, ℕ, zero, suc, ◌*◌, ◌%◌, ◌^◌, ◌<◌, ◌==◌, nat_lt, max, Bool, true, false, not, ◌&&◌, if◌then◌else◌, List, ℤ, pos, int_lt, Option, codes, ap, sym, ◌∙◌, subst, refl, arith}
 use Rattle.std.proofs.lemmas.Bool.{and_right}
 use Rattle.std.proofs.Math.Nat.{mod-eq_of_lt}
-use Rattle.fx_num.specs.Word.{IsCongruent}
-use Rattle.fx_num.proofs.Arithmetic.{IsCongruent-trans}
+use Rattle.math_num.specs.Word.{IsCongruent}
+use Rattle.math_num.proofs.Arithmetic.{IsCongruent-trans}
 use Rattle.vl_ast.specs.declared.expressions.BinOp.TheVariants as binary
 use Rattle.vl_ast.specs.declared.expressions.Sized.{Sized}
 use Rattle.vl_ast.specs.declared.expressions.Expr.{Expr}

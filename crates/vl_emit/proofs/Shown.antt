@@ -1,7 +1,7 @@
 -- In every run with `reset` and then none, the nets' names show the rows of the netlist.
 use Rattle.std.proofs.Common.{◌≡◌, ℕ, zero, suc, ◌+◌, ◌-◌, ◌*◌, ◌<◌, true, false, List, [], get_or, slice_get, ℤ, pos, ◌*ℤ◌, Option, Some, ap, sym, ◌∙◌, subst, refl, arith, add-one}
 use Rattle.std.proofs.lemmas.Option.{slice_get-get_or, get_or_from_slice_get, slice_get_within}
-use Rattle.fx_num.specs.Word.{IsWrapped}
+use Rattle.math_num.specs.Word.{IsWrapped}
 use Rattle.vl_ast.specs.declared.expressions.Expr.{Expr}
 use Rattle.vl_ast.specs.declared.modules.ModItem.TheVariants as item
 use Rattle.vl_ast.specs.declared.modules.Module.{Module}
@@ -29,7 +29,7 @@ use Rattle.vl_emit.proofs.Factors.{op-assigned, product-assigned}
 use Rattle.vl_emit.proofs.InRun.{Running, known, value-wrapped, assigned-bits, item-of, names-of}
 use Rattle.vl_emit.proofs.Counters.{counter-value}
 use Rattle.vl_emit.proofs.Stepped.{begun, reg-goes, en-goes, bridge-begins, bridge-goes, counter-goes}
-use Rattle.fx_num.proofs.Words.{word-width}
+use Rattle.math_num.proofs.Words.{word-width}
 
 module _ {netlist : Circuit} {rank : ℕ → ℕ} {m : Module} {total last : ℕ} {start : List ℕ → ℕ} {inputs rows : ℕ → List ℕ → ℕ}
     (run : Running netlist rank m total last start inputs rows) where

@@ -1,10 +1,10 @@
--- A netlist that can be run and has its Counters is sound, net by net. Crates above may cite this file.
+-- A netlist that can be run and has its Counters is sound, net by net.
 use Rattle.std.proofs.Common.{◌≡◌, ℕ, suc, ◌+◌, ◌-◌, ◌*◌, ◌<◌, Bool, true, false, if◌then◌else◌, List, [], ◌∷◌, length, get_or, slice_get, Contains, Option, Some, pos, refl, ap, sym, ◌∙◌, subst, arith}
 use Rattle.std.specs.Prelude.{All, IsSome, unwrap_or}
 use Rattle.std.proofs.lemmas.Option.{slice_get-get_or, get_or_from_slice_get, slice_get_within}
 use Rattle.std.proofs.lemmas.List.Elements.{All-contains}
 use Rattle.std.proofs.Math.Nat.{mul-pos}
-use Rattle.fx_num.specs.Word.{InWord, IsWord}
+use Rattle.math_num.specs.Word.{InWord, IsWord}
 use Rattle.hw_net.specs.declared.netlist.Frame.{Frame}
 use Rattle.hw_net.specs.declared.netlist.Net.{Net}
 use Rattle.hw_net.specs.declared.netlist.NetPort.{NetPort}
@@ -22,8 +22,8 @@ use Rattle.vl_emit.specs.inner.Emitted.{naming_of}
 use Rattle.vl_emit.specs.inner.Ready.{IsTimed, IsReady, AreReady}
 use Rattle.vl_emit.specs.inner.Sound.{IsCounted, HasWordOf, IsSoundKind, IsSound}
 use Rattle.vl_emit.specs.inner.Spoken.{IsWithin}
-use Rattle.fx_num.proofs.Words.{size-below}
-use Rattle.fx_io.proofs.Tests.{some_there}
+use Rattle.math_num.proofs.Words.{size-below}
+use Rattle.math_list.proofs.Tests.{some_there}
 use Rattle.vl_emit.proofs.Sections.{Parts, parts_of}
 use Rattle.vl_emit.proofs.Lists.{at-contains}
 use Rattle.hw_net.proofs.Index.{same-is}

@@ -1,5 +1,5 @@
 ghost use Rattle.std.specs.Prelude.{◌≡◌, ◌+◌, ◌-◌, ◌≤◌, ◌<◌, true, false, IfOk};
-ghost use Rattle.fx_num.specs.Word.{IsWord};
+ghost use Rattle.math_num.specs.Word.{IsWord};
 ghost use Rattle.vl_ast.specs.declared.expressions.Expr.{Expr};
 ghost use Rattle.vl_ast.specs.declared.expressions.Expr.TheVariants.{Unary};
 ghost use Rattle.hw_net.specs.declared.netlist.NetOp.TheVariants.{Less, Equal};

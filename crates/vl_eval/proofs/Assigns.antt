@@ -9,7 +9,7 @@ use Rattle.vl_ast.specs.Conditions.{is_sound}
 use Rattle.vl_ast.specs.Nets.{condition_names, names_read}
 use Rattle.vl_ast.specs.Value.{assigned, assigned_number, value_in}
 use Rattle.vl_ast.proofs.Agree.{ByLayer}
-use Rattle.vl_ast.proofs.Places.{head-in, tail-in}
+use Rattle.math_list.proofs.Elements.{head-in, tail-in}
 use Rattle.vl_check.specs.declared.scope.Scope.{Scope}
 use Rattle.vl_check.specs.declared.shapes.Shape.{Shape}
 use Rattle.vl_check.specs.Scope.{nets_in}

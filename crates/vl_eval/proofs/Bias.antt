@@ -5,7 +5,7 @@ use Rattle.std.proofs.lemmas.Int.{ints}
 use Rattle.std.proofs.lemmas.Bool.{cases_lt, lt-ltb, le-ltb, le-leb, lt-leb}
 use Rattle.std.proofs.lemmas.Nat.{pow_pos, xor_block}
 use Rattle.vl_ast.specs.Value.{Bits, number_of}
-use Rattle.fx_io.proofs.Tests.{lt-yes}
+use Rattle.math_list.proofs.Tests.{lt-yes}
 
 is-true : (t : Bool) → T t → t ≡ true
 is-true true h = refl

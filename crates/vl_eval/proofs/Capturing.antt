@@ -1,4 +1,4 @@
--- What the registers take, one item after another. Crates above may cite this file.
+-- What the registers take, one item after another.
 use Rattle.std.proofs.Common.{◌≡◌, ◌<◌, ◌≤◌, ◌+◌, ◌^◌, ⊎_elim, ℕ, true, List, [], ◌∷◌, ◌++◌, length, take, slice_index, slice_index_or, codes, Contains, Option, None, Some, sym, ap, subst, ◌∙◌, arith}
 use Rattle.std.proofs.lemmas.Nat.{mod_below, pow_pos}
 use Rattle.std.proofs.lemmas.Option.{slice_get_within}
@@ -13,7 +13,7 @@ use Rattle.vl_ast.specs.Conditions.{mentioned, no_reset, undriven, doubly}
 use Rattle.vl_ast.specs.Nets.{Declared, port_declared, Declares, declarations, mentions, condition_names, names_read}
 use Rattle.vl_ast.proofs.Agree.{ByLayer}
 use Rattle.vl_ast.proofs.Alone.{reset-port}
-use Rattle.vl_ast.proofs.Places.{cons-cases, none-in, map-in}
+use Rattle.math_list.proofs.Elements.{cons-cases, none-in, map-in}
 use Rattle.vl_ast.proofs.Facts.{always-drives, driven-declared, in-port, listed-mention, mention-listed, read-declared, reads-of-always}
 use Rattle.vl_check.proofs.Scoped.{at-number}
 use Rattle.vl_check.specs.declared.scope.Scope.{Scope}

@@ -1,15 +1,15 @@
--- The bits that an edge is given, by the places of its ports. Crates above may cite this file.
+-- The bits that an edge is given, by the places of its ports.
 use Rattle.std.proofs.Common.{◌≡◌, ◌<◌, ◌≤◌, ◌+◌, ◌^◌, inl, inr, ◌⊎◌, ℕ, zero, suc, Bool, true, false, List, [], ◌∷◌, ◌++◌, length, filter, slice_get, slice_index, Contains, bytes_eq, Some, refl, sym, ap, subst, ◌∙◌, arith}
 use Rattle.std.proofs.lemmas.Bool.{cond-true, cond-false, cases_lt}
 use Rattle.std.proofs.lemmas.List.{get_or_append_left, get_or_at, length-append}
 use Rattle.std.proofs.lemmas.Option.{slice_get_within, slice_get-get_or}
 use Rattle.std.proofs.lemmas.Slice.Eq.{bytes_eq-Decides}
 use Rattle.vl_ast.specs.declared.modules.Port.{Port}
-use Rattle.vl_ast.proofs.Places.{cons-cases, head-in, none-in, tail-in}
+use Rattle.math_list.proofs.Elements.{cons-cases, head-in, none-in, tail-in}
 use Rattle.vl_ast.proofs.PortLists.{ApartAt}
 use Rattle.vl_eval.specs.Given.{given}
 use Rattle.vl_eval.specs.Machine.{AreFit}
-use Rattle.fx_io.proofs.Tests.{unequal}
+use Rattle.math_list.proofs.Tests.{unequal}
 
 apart-later : (first : Port) (ports : List Port) → ApartAt (first ∷ ports) → ApartAt ports
 apart-later first ports apart = record { at = λ i j one other less ei ej. apart.at (suc i) (suc j) one other (omega (arith, less)) ei ej }

@@ -8,7 +8,7 @@ use Rattle.vl_ast.specs.declared.expressions.Expr.{Expr}
 use Rattle.vl_ast.specs.declared.modules.Module.{Module}
 use Rattle.vl_ast.specs.Value.{assigned}
 use Rattle.vl_ast.proofs.Agree.{ByLayer}
-use Rattle.vl_ast.proofs.Places.{from-map, map-in}
+use Rattle.math_list.proofs.Elements.{from-map, map-in}
 use Rattle.vl_check.proofs.Scoped.{at-number}
 use Rattle.vl_check.specs.declared.scope.Scope.{Scope}
 use Rattle.vl_check.specs.Scope.{names_in, nets_in, number_in}

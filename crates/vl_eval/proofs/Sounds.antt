@@ -1,4 +1,4 @@
--- What the fourth condition says of each item and each name of a module. Crates above may cite this file.
+-- What the fourth condition says of each item and each name of a module.
 use Rattle.std.proofs.Common.{◌≡◌, ◌≤◌, ℕ, Bool, true, false, not, ◌&&◌, if◌then◌else◌, nat_le, ◌⊎◌, inl, inr, bytes_eq, List, [], ◌∷◌, map, find, Contains, Option, None, Some, refl, sym, subst, ◌∙◌, arith}
 use Rattle.std.proofs.lemmas.Bool.{and_parts, leb-true, not-false}
 use Rattle.std.proofs.lemmas.List.Elements.{Contains-append_left, Contains-append_right}
@@ -13,7 +13,7 @@ use Rattle.vl_ast.specs.Conditions.{is_number, is_sound, is_sound_condition, is_
 use Rattle.vl_ast.specs.Nets.{Declared, Declares, mentions, declarations, declaration_of, nets_of, net_or_none}
 use Rattle.vl_check.specs.declared.scope.Scope.{Scope}
 use Rattle.vl_check.specs.Scope.{IsScopeOf, nets_in}
-use Rattle.vl_ast.proofs.Places.{cons-cases, head-in, none-in, map-in, tail-in}
+use Rattle.math_list.proofs.Elements.{cons-cases, head-in, none-in, map-in, tail-in}
 use Rattle.vl_ast.proofs.Facts.{Declaration, OfPort, OfWire, OfReg, declaration-by, is-declared, listed-mention, reg-declared, wire-declared}
 use Rattle.vl_ast.proofs.WrittenModule.{unnamed}
 

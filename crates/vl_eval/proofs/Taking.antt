@@ -3,7 +3,7 @@ use Rattle.std.proofs.Common.{◌≡◌, ◌≢◌, ◌<◌, ◌≤◌, ◌+◌,
 use Rattle.std.proofs.lemmas.Bool.{cases_eq, cases_lt}
 use Rattle.std.proofs.lemmas.List.{get_or-set_same, get_or-set_other, get_or_append_left, get_or_at, get_or_default, length-append, length-set}
 use Rattle.std.proofs.lemmas.List.Elements.{Contains-append_cases, Contains-append_left, Contains-push}
-use Rattle.vl_ast.proofs.Places.{cons-cases, none-in}
+use Rattle.math_list.proofs.Elements.{cons-cases, none-in}
 use Rattle.vl_eval.specs.declared.plan.Capture.{Capture}
 use Rattle.vl_eval.specs.inner.Edges.{IsFree, IsPut, IsTaken}
 

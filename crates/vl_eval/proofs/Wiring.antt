@@ -14,7 +14,7 @@ use Rattle.vl_ast.specs.Context.{own_length, is_signed}
 use Rattle.vl_ast.specs.Nets.{Reads, Declared, Declares, declarations, mentions, names_read}
 use Rattle.vl_ast.specs.Value.{assigned}
 use Rattle.vl_ast.proofs.Agree.{ByLayer, values-agree}
-use Rattle.vl_ast.proofs.Places.{map-in}
+use Rattle.math_list.proofs.Elements.{map-in}
 use Rattle.vl_ast.proofs.Facts.{listed-mention, mention-listed, read-declared, reads-of-assign}
 use Rattle.vl_check.proofs.Scoped.{at-number}
 use Rattle.vl_check.specs.declared.scope.Scope.{Scope}

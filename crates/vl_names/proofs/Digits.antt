@@ -1,4 +1,4 @@
--- The digits of a number may stand within a name. Crates above may cite this file.
+-- The digits of a number may stand within a name.
 use Rattle.std.proofs.Common.{◌≡◌, ℕ, ◌^◌, ◌<◌, ◌≤◌, ◌==◌, nat_le, true, ◌&&◌, ◌||◌, List, [], ◌∷◌, decimal, refl}
 use Prim.Native.Char.{code}
 use Rattle.std.specs.List.{list_all}

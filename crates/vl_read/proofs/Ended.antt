@@ -25,7 +25,7 @@ use Rattle.vl_read.specs.inner.Going.{parser_at, goes}
 use Rattle.vl_read.proofs.LexemeKinds.{name_kind}
 use Rattle.vl_read.proofs.Scanned.{silent}
 use Rattle.vl_read.proofs.Lexed.{identifier_text}
-use Rattle.fx_io.proofs.Tests.{same_bytes}
+use Rattle.math_list.proofs.Tests.{same_bytes}
 use Rattle.vl_read.proofs.ReadItems.{head_step}
 use Rattle.vl_read.proofs.Expressions.{at}
 use Rattle.vl_read.proofs.Live.{IsName, IsLiveGoal, IsLive, reached_live}

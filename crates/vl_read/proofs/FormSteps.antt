@@ -22,7 +22,7 @@ use Rattle.vl_read.specs.inner.Places.{Goal, bracket_byte}
 use Rattle.vl_read.specs.declared.places.Draft.{Draft}
 use Rattle.vl_read.specs.inner.Lexemes.{kind_of, dec_of, sized_of}
 use Rattle.vl_read.specs.inner.Plain.{spot_at, step, indexed, name_of, left_by, attr_step, declared, net_step, compound_step, operand_step, unary_or_left, opened_step, braced_step, left_step, frame_step, goal_step, spot_step, item_step, step_at}
-use Rattle.fx_io.proofs.Tests.{same_bytes}
+use Rattle.math_list.proofs.Tests.{same_bytes}
 use Rattle.vl_read.proofs.Expressions.{at, in_frame}
 
 -- names, bits and parts

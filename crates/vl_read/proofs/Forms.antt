@@ -26,7 +26,7 @@ use Rattle.vl_read.proofs.Expressions.{at, in_frame, IsRead, opened_read, braced
 use Rattle.vl_read.proofs.Written.{Writes, Reads, writes_as, next, sign, key, name, number, based}
 use Rattle.vl_read.proofs.FormTokens.{layer_tokens, unary_tokens, binary_tokens, shift_tokens, choose_tokens, as_signed_tokens, as_unsigned_tokens, repeat_tokens, more_tokens, concat_tokens}
 use Rattle.vl_read.proofs.FormSteps.{index_step, high_step, bit_step, colon_step, low_step, ends_step, operand_name, open_step, brace_step, signed_step, unsigned_step, begins_step, count_step, unary_step, binary_step, shift_step, question_step, amount_step}
-use Rattle.fx_io.proofs.Places.{fold-start}
+use Rattle.math_list.proofs.Places.{fold-start}
 
 -- the depth, the filling and the tokens of a layer
 layer_depth : (x : Expr-F Expr) (n : ℕ) → depth (roll-Expr x) + n ≤ 256 → depth_step (map-Expr Expr ℕ depth x) + n ≤ 256

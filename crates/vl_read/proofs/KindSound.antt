@@ -11,7 +11,7 @@ use Rattle.vl_read.specs.declared.scan.Kind.{Kind}
 use Rattle.vl_read.specs.declared.scan.Kind.TheVariants.{Name, Count, Constant, Fixed}
 use Rattle.vl_read.specs.inner.Lexemes.{kind_of, kind_by, dec_of, sized_of, sized_in, sized_after, sized_by, sized_as, number_after, around_quote, is_digit, is_nonempty}
 use Rattle.vl_read.proofs.Digits.{number_gives, around_mark}
-use Rattle.fx_io.proofs.Tests.{cond_some}
+use Rattle.math_list.proofs.Tests.{cond_some}
 
 pub then_some : {A B : Type 0} (o : Option A) (f : A → Option B) (b : B) → option_and_then f o ≡ Some b → (a : A) × (o ≡ Some a) × (f a ≡ Some b)
 then_some None f b e = let no : ⊥ = cc in absurd no

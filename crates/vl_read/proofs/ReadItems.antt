@@ -24,7 +24,7 @@ use Rattle.vl_read.specs.inner.Plain.{head_word, after_head, step, parse, name_o
 use Rattle.vl_read.specs.inner.Going.{parser_at, goes}
 use Rattle.vl_read.proofs.Expressions.{at, no_index}
 use Rattle.vl_read.proofs.Forms.{expression_read}
-use Rattle.fx_io.proofs.Tests.{same_bytes}
+use Rattle.math_list.proofs.Tests.{same_bytes}
 use Rattle.vl_read.proofs.Written.{Writes, Reads, writes_as, next, sign, key, name, based}
 use Rattle.vl_read.proofs.ModuleTokens.{item_word, declaration_is, assign_is, always_tail, always_is, condition_is}
 use Rattle.vl_read.proofs.ReadPorts.{net_read}

@@ -11,7 +11,7 @@ use Rattle.vl_ast.specs.Conditions.{is_width}
 use Rattle.vl_ast.specs.Control.{is_number_input}
 use Rattle.vl_ast.specs.Windows.{PortNumbers}
 use Rattle.vl_ast.specs.Value.{bits_of}
-use Rattle.vl_ast.proofs.Places.{cons-cases, head-in, none-in, tail-in}
+use Rattle.math_list.proofs.Elements.{cons-cases, head-in, none-in, tail-in}
 use Rattle.vl_ast.specs.Attributes.{step_of}
 use Rattle.vl_eval.specs.Given.{given}
 use Rattle.vl_eval.specs.Machine.{AreFit}

@@ -15,7 +15,7 @@ use Rattle.vl_replay.specs.inner.Played.{HaveCells}
 use Rattle.vl_ast.proofs.Ranges.{clocks-some, step-some}
 use Rattle.vl_ast.specs.Attributes.{clocks_of, lateness_of, step_of}
 use Rattle.vl_replay.proofs.Times.{apart, below-of, hit-before, hit-below, next-times, same-told}
-use Rattle.fx_io.proofs.Places.{there_within, there_map}
+use Rattle.math_list.proofs.Places.{there_within, there_map}
 
 pub port-at : (xs : List Port) (i : ℕ) → i < length xs → (port : Port) × (slice_get xs i ≡ Some port)
 port-at [] i below = absurd (omega (arith, below))

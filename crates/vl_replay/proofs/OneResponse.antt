@@ -18,7 +18,7 @@ use Rattle.vl_ast.specs.Nets.{Declares, declarations, declared_by, item_mentions
 use Rattle.vl_ast.specs.Room.{AreSame}
 use Rattle.vl_ast.specs.Runs.{Rows, Runs}
 use Rattle.vl_ast.proofs.Unstalled.{place-clock}
-use Rattle.vl_ast.proofs.Places.{cons-cases, flat-in, head-in, map-in, none-in}
+use Rattle.math_list.proofs.Elements.{cons-cases, flat-in, head-in, map-in, none-in}
 use Rattle.vl_eval.proofs.Given.{filter-has}
 use Rattle.vl_replay.specs.Sampled.{AreReplayed, Sampled, hit_at, window_of}
 use Rattle.vl_replay.proofs.Cells.{port-at}

@@ -11,7 +11,7 @@ use Rattle.vl_ast.specs.Runs.{Row}
 use Rattle.vl_replay.specs.declared.samplers.Sampler.{Sampler}
 use Rattle.vl_replay.specs.Sampled.{hit_at}
 use Rattle.vl_replay.specs.inner.Sampling.{ArePut, cell_of, number_at, number_or_zero}
-use Rattle.fx_io.proofs.Places.{there_within}
+use Rattle.math_list.proofs.Places.{there_within}
 use Rattle.vl_replay.proofs.Cells.{eqb-refl, port-at}
 use Rattle.vl_replay.proofs.Times.{row-room, same-told}
 

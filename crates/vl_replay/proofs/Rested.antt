@@ -23,7 +23,7 @@ use Rattle.vl_replay.specs.inner.Driving.{AreBits, IsWithin, driver_bits, inputs
 use Rattle.vl_replay.specs.inner.Sampling.{sampler_of}
 use Rattle.vl_replay.specs.inner.Played.{HaveCells, IsPlayed, IsScoreOf}
 use Rattle.vl_replay.specs.inner.Resting.{IsPast, IsQuiet, Leads}
-use Rattle.fx_io.proofs.Places.{there_map}
+use Rattle.math_list.proofs.Places.{there_map}
 use Rattle.vl_replay.proofs.Cells.{clock-of}
 use Rattle.vl_replay.proofs.Rounds.{joined, joined-from, joined-until}
 use Rattle.vl_replay.proofs.Rows.{zeros}

@@ -8,7 +8,7 @@ use Rattle.vl_ast.specs.declared.modules.Module.{Module}
 use Rattle.vl_ast.specs.Conditions.{is_width}
 use Rattle.vl_ast.specs.Control.{is_number_input, is_stallable}
 use Rattle.vl_ast.specs.Driven.{output_ports}
-use Rattle.vl_ast.proofs.Places.{head-in, tail-in}
+use Rattle.math_list.proofs.Elements.{head-in, tail-in}
 use Rattle.vl_eval.specs.Given.{driven_ports}
 use Rattle.vl_eval.specs.Machine.{AreFit}
 use Rattle.vl_eval.proofs.Sounds.{port-narrow}

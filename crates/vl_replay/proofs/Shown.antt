@@ -18,7 +18,7 @@ use Rattle.vl_replay.specs.Sampled.{Sampled, hit_at, numbers_of, window_of}
 use Rattle.vl_replay.specs.inner.Driving.{inputs_of}
 use Rattle.vl_replay.specs.inner.Sampling.{sampler_of}
 use Rattle.vl_replay.specs.inner.Played.{HaveCells, IsDelay, IsScoreOf, IsWindow}
-use Rattle.fx_io.proofs.Places.{there_within, there_map}
+use Rattle.math_list.proofs.Places.{there_within, there_map}
 use Rattle.vl_ast.proofs.Ranges.{clocks-some}
 use Rattle.vl_ast.specs.Attributes.{clocks_of, lateness_of, step_of}
 use Rattle.vl_replay.proofs.OneResponse.{ShowRow, one-row}

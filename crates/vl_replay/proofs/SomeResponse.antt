@@ -24,7 +24,7 @@ use Rattle.vl_replay.specs.declared.drivers.Driver.{Driver}
 use Rattle.vl_replay.specs.Sampled.{HasTable, hit_at, window_of}
 use Rattle.vl_replay.specs.inner.Driving.{driver_bits, driver_of, drivers_from, inputs_of, reset_bits}
 use Rattle.vl_replay.proofs.Bits.{driver-fits, fit-from, is_driven, reset-fits}
-use Rattle.fx_io.proofs.Places.{there_within, there_map}
+use Rattle.math_list.proofs.Places.{there_within, there_map}
 use Rattle.vl_replay.proofs.OneResponse.{place-of}
 use Rattle.vl_replay.proofs.Rows.{zeros}
 use Rattle.vl_replay.proofs.Stimulated.{replayed}

@@ -22,7 +22,7 @@ use Rattle.vl_replay.specs.declared.drivers.Driver.TheVariants.{Column}
 use Rattle.vl_replay.specs.Sampled.{AreReplayed, hit_at, window_of}
 use Rattle.vl_replay.specs.inner.Driving.{driver_bits, drivers_from, inputs_of}
 use Rattle.vl_replay.proofs.Bits.{drivers-long, enabled, is_driven, released, reset-one, reset-others, stimulus-driver}
-use Rattle.fx_io.proofs.Places.{there_within, there_map}
+use Rattle.math_list.proofs.Places.{there_within, there_map}
 
 indexed : (xs : List ℕ) (k x : ℕ) → slice_get xs k ≡ Some x → slice_index xs k ≡ x
 indexed [] k x e = absurd (cc e)

@@ -1,6 +1,6 @@
 -- How many elements the first ports of a block have (own).
 use Rattle.std.specs.Prelude.{◌≡◌, map, sum}
-use Rattle.dg_waves.specs.Rounds.{numbers_from}
+use Rattle.math_list.specs.Numbers.{numbers_from}
 use Rattle.dg_model.specs.declared.diagram.Diagram.{Diagram}
 use Rattle.dg_model.specs.Signals.{Attributes}
 use Rattle.dg_model.specs.Wires.{width_into}

@@ -6,7 +6,8 @@ use Rattle.dg_types.specs.declared.linked.Share.TheVariants.{Whole, Even, Fixed}
 use Rattle.dg_types.specs.declared.linked.Source.{Source}
 use Rattle.dg_types.specs.declared.linked.Form.{Form}
 use Rattle.dg_types.specs.declared.linked.Form.TheVariants.{Elementwise, Joined, Divided, Single}
-use Rattle.dg_model.specs.Widths.{share, greatest, most_width}
+use Rattle.dg_model.specs.Widths.{share, most_width}
+use Rattle.math_list.specs.Numbers.{greatest}
 use Rattle.dg_waves.specs.inner.Waves.{is_in}
 
 -- the width at an output port of a block that holds this: its width, or, where it divides its

@@ -4,8 +4,8 @@ use Rattle.std.specs.Prelude.{slice_get, unwrap_or, Option, None, ◌&&◌, ◌|
 use Rattle.std.proofs.lemmas.Bool.{and_parts, leb-true, cases_lt}
 use Rattle.std.proofs.lemmas.Int.{ints}
 use Rattle.std.proofs.lemmas.List.{get_or_past}
-use Rattle.fx_num.specs.Word.{IsWord}
-use Rattle.fx_type.proofs.Found.{Decides-int_le}
+use Rattle.math_num.specs.Word.{IsWord}
+use Rattle.math_list.proofs.Searches.{Decides-int_le}
 use Rattle.fx_type.specs.declared.kind.FxType.TheVariants.{Num, Logical}
 use Rattle.fx_type.specs.declared.spec.TypeSpec.{TypeSpec}
 use Rattle.fx_type.specs.declared.spec.TypeSpec.TheVariants.{Fixed, Internal, SameFirst, Auto}

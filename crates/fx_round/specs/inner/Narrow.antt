@@ -1,6 +1,6 @@
 -- The last bit of a number, the ends of a word, and shifts down into one.
 use Rattle.std.specs.Prelude.{◌≡◌, ℕ, ◌≤◌, Bool, true, false, ℤ, pos, negsuc, ◌+ℤ◌, ◌-ℤ◌, ◌≤ℤ◌}
-use Rattle.fx_num.specs.Word.{IsWord}
+use Rattle.math_num.specs.Word.{IsWord}
 use Rattle.fx_type.specs.Conversion.{IsEven}
 
 -- one where the number is odd, and else 0

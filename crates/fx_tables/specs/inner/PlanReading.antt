@@ -1,5 +1,4 @@
--- The plain reading of a plan, line by line, which private contracts cite. Crates above may cite
--- this file.
+-- The plain reading of a plan, line by line, which private contracts cite.
 use Prim.Native.Char.{code}
 use Rattle.std.specs.Prelude.{◌≡◌, ℕ, Bool, true, List, [], ◌∷◌, ◌++◌, Option, None, Some, ◌+◌, ◌==◌, ◌&&◌, nat_le, drop, if◌then◌else◌, codes, slice_index, slice_index_or}
 use Rattle.std.specs.List.{filter_map}

@@ -1,7 +1,7 @@
 -- Operations as nets, on what a block is offered and on products of shared multipliers (own).
 use Rattle.std.specs.Prelude.{ℕ, ◌<◌, false, List, [], ◌∷◌, map}
 use Rattle.fx_type.specs.declared.kind.FxType.{FxType}
-use Rattle.dg_waves.specs.Rounds.{numbers_from}
+use Rattle.math_list.specs.Numbers.{numbers_from}
 use Rattle.dg_model.specs.declared.diagram.Diagram.{Diagram}
 use Rattle.dg_model.specs.declared.diagram.Block.{Block}
 use Rattle.dg_model.specs.declared.op.Op.{Op}

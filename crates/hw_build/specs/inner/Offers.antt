@@ -1,6 +1,6 @@
 -- What the ends of a block offer to an element, for all places that fit what is known (own).
 use Rattle.std.specs.Prelude.{◌≡◌, ◌<◌, ◌+◌, ◌∷◌, [], ℕ, Bool, false, List, Some, length, map, sum, slice_get, slice_index_or}
-use Rattle.dg_waves.specs.Rounds.{numbers_from}
+use Rattle.math_list.specs.Numbers.{numbers_from}
 use Rattle.dg_model.specs.Attributes.{attributes_of}
 use Rattle.dg_model.specs.LatencyEdges.{asks_ever}
 use Rattle.dg_model.specs.Library.{row_of}

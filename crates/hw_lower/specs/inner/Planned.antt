@@ -2,7 +2,7 @@
 use Rattle.std.specs.Prelude.{◌≡◌, ℕ, ◌<◌, ◌≤◌, ◌^◌, ℤ, List, [], ◌∷◌, ◌++◌, take, length, All}
 use Rattle.std.specs.Prelude.{slice_get, Some, ⊤, false}
 use Rattle.std.specs.Prelude.{◌≢◌, ◌≤ℤ◌, ◌<ℤ◌, Bool, true, pos, ◌*ℤ◌}
-use Rattle.fx_num.specs.Word.{InWord, IsWord, IsWrapped, word_lowest, word_highest}
+use Rattle.math_num.specs.Word.{InWord, IsWord, IsWrapped, word_lowest, word_highest}
 use Rattle.fx_type.specs.declared.kind.FxType.{FxType}
 use Rattle.fx_type.specs.declared.rounding.Rounding.{Rounding}
 use Rattle.fx_type.specs.FxType.{is_signed, width_of}
@@ -12,7 +12,8 @@ use Rattle.hw_net.specs.declared.netlist.NetOp.TheVariants.{Input, Const, Resize
 use Rattle.hw_net.specs.declared.netlist.NetOp.TheVariants.{ShiftDown, Add, Subtract, Negate}
 use Rattle.hw_net.specs.declared.netlist.NetOp.TheVariants.{Multiply, And, Or, Xor, Not, Less}
 use Rattle.hw_net.specs.declared.netlist.NetOp.TheVariants.{Equal, Choose, Slice}
-use Rattle.hw_net.specs.Operation.{Operands, arity, given_by, low_bits, shifted_down}
+use Rattle.hw_net.specs.Operation.{Operands, arity, given_by}
+use Rattle.math_num.specs.Bits.{low_bits, shifted_down}
 use Rattle.hw_lower.specs.declared.plan.Word.{Word}
 use Rattle.hw_lower.specs.declared.plan.Step.{Step}
 use Rattle.hw_lower.specs.declared.plan.Operand.{Operand}

@@ -2,7 +2,7 @@
 use Rattle.std.specs.Prelude.{◌≡◌, false, ℕ, ◌+◌, ◌<◌, ◌≤◌, ℤ, List, length, slice_get, Option}
 use Rattle.std.specs.Prelude.{◌⊎◌, ◌≤ℤ◌, All, Some, count_by, ◌%◌, ◌==◌, ◌*ℤ◌, ◌-ℤ◌, pos, Bool}
 use Rattle.std.specs.List.{list_all, list_any}
-use Rattle.fx_num.specs.Word.{IsWord, InWord}
+use Rattle.math_num.specs.Word.{IsWord, InWord}
 use Rattle.fx_type.specs.declared.kind.FxType.{FxType}
 use Rattle.fx_type.specs.FxType.{IsType, frac_of}
 use Rattle.fx_type.specs.FullType.{HoldsType, IsFullProduct, IsUnion}

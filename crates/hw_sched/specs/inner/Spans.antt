@@ -5,7 +5,7 @@ use Rattle.dg_model.specs.declared.diagram.Edge.{Edge}
 use Rattle.dg_model.specs.declared.resolved.Resolved.{Resolved}
 use Rattle.dg_model.specs.Attributes.{attributes_of}
 use Rattle.dg_model.specs.Limits.{most_times}
-use Rattle.dg_model.specs.Widths.{greatest}
+use Rattle.math_list.specs.Numbers.{greatest}
 use Rattle.hw_latency.specs.Weight.{samples}
 use Rattle.hw_slots.specs.declared.operation.Span.{Span}
 use Rattle.hw_sched.specs.Slots.{shorter_into, start_of, have_of}

@@ -1,4 +1,4 @@
--- How a netlist grows while units are put in. Crates above may cite this file.
+-- How a netlist grows while units are put in.
 use Rattle.std.specs.Prelude.{◌≡◌, ℕ, ◌+◌, ◌<◌, ◌≤◌, ◌⊎◌, List, length, Contains, slice_get}
 use Rattle.std.specs.Prelude.{Some, ⊤}
 use Rattle.hw_net.specs.declared.netlist.Frame.{Frame}

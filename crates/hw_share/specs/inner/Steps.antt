@@ -1,7 +1,7 @@
 -- The multipliers behind the ends of their chains, and the registers of results behind these.
 use Rattle.std.specs.Prelude.{◌≡◌, ℕ, ◌+◌, ◌*ℤ◌, ◌<◌, ◌||◌, List, [], ◌∷◌, length}
 use Rattle.std.specs.Prelude.{slice_get, slice_index_or, Option, None, Some, pos}
-use Rattle.fx_num.specs.Word.{IsWord}
+use Rattle.math_num.specs.Word.{IsWord}
 use Rattle.hw_net.specs.Circuit.{Circuit}
 use Rattle.hw_net.specs.Registers.{Wave}
 use Rattle.hw_net.specs.Growing.{InRows}

@@ -1,7 +1,7 @@
 -- What is worked out on the way to slots (own).
 use Rattle.std.specs.Prelude.{◌≡◌, ℕ, suc, ◌+◌, ◌≤◌, ◌<◌, min, List, length, map, Some, slice_get}
 use Rattle.std.specs.List.{sum}
-use Rattle.dg_waves.specs.Rounds.{numbers_from}
+use Rattle.math_list.specs.Numbers.{numbers_from}
 use Rattle.hw_slots.specs.declared.operation.Operation.{Operation}
 use Rattle.hw_slots.specs.declared.operation.Span.{Span}
 use Rattle.hw_slots.specs.declared.turns.Turns.{Turns}

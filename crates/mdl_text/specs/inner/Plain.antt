@@ -1,5 +1,5 @@
 -- The plain reading of a text, a line after another. What it gives is what the text stands for
--- (own). Crates above may cite this file.
+-- (own).
 use Prim.Native.Char.{code}
 use Rattle.std.specs.Prelude.{ℕ, ◌+◌, ◌-◌, ◌≤◌, ◌==◌, ◌&&◌, Bool, List, [], ◌∷◌, ◌++◌, codes, Option, None, Some, option_and_then, length, take, drop, nat_lt, if◌then◌else◌}
 use Rattle.std.specs.List.{list_all, prefix_len}

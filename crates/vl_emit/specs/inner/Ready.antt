@@ -1,7 +1,7 @@
 -- What the code asks of a netlist and of the places of its labels.
 use Rattle.std.specs.Prelude.{◌≡◌, ◌<◌, ◌-◌, ◌*◌, ℕ, List, length, get_or, slice_index_or, []}
 use Rattle.std.specs.Prelude.{Bool, true, false, if◌then◌else◌, map, flat_map, Option, None, Some, IsSome, Contains}
-use Rattle.fx_num.specs.Word.{IsWord}
+use Rattle.math_num.specs.Word.{IsWord}
 use Rattle.hw_net.specs.declared.netlist.Frame.{Frame}
 use Rattle.hw_net.specs.declared.netlist.NetLabel.{NetLabel}
 use Rattle.hw_net.specs.declared.netlist.NetPort.{NetPort}

@@ -1,6 +1,6 @@
 -- What the code's operands stand for.
 use Rattle.std.specs.Prelude.{ℕ, zero, suc, Bool, ◌≤◌, ◌<◌, List}
-use Rattle.fx_num.specs.Word.{IsWord}
+use Rattle.math_num.specs.Word.{IsWord}
 use Rattle.vl_ast.specs.declared.expressions.BinOp.{BinOp}
 use Rattle.vl_ast.specs.declared.expressions.Expr.{Expr}
 use Rattle.vl_ast.specs.declared.expressions.Expr.TheVariants.{Binary}

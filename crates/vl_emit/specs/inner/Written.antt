@@ -1,6 +1,6 @@
 -- An expression that is written at a width, and a net that shows a number.
 use Rattle.std.specs.Prelude.{◌≡◌, ℕ, Bool, List, ℤ}
-use Rattle.fx_num.specs.Word.{IsWord, InWord}
+use Rattle.math_num.specs.Word.{IsWord, InWord}
 use Rattle.vl_ast.specs.declared.expressions.Expr.{Expr}
 use Rattle.vl_ast.specs.Context.{Net, own_length}
 use Rattle.vl_ast.specs.Value.{value_in}

@@ -1,5 +1,5 @@
 use Rattle.std.specs.List.{flat_map}
-use Rattle.dg_waves.specs.Rounds.{numbers_from}
+use Rattle.math_list.specs.Numbers.{numbers_from}
 use Rattle.hw_rules.specs.Times.{timing_in}
 use Rattle.cmd_check.specs.CheckText.{block_line}
 use Rattle.cmd_check.specs.Handed.{Adds}

@@ -2,7 +2,8 @@ use Rattle.std.proofs.Common.{◌≡◌, ℤ, to_z, of_z, ap₂, ◌∙◌, refl
 use Rattle.std.specs.Int.{w16, w128, int_max}
 use Rattle.std.proofs.lemmas.Int.{ints, clamps, to_z-of_z}
 use Rattle.fx_type.specs.FxType.{frac_of}
-use Rattle.fx_type.proofs.Ranges.{frac_bounds, int_max_most}
+use Rattle.fx_type.proofs.Ranges.{frac_bounds}
+use Rattle.math_num.proofs.Integers.{int_max_most}
 use Rattle.dg_model.specs.Operation.{compares}
 use Rattle.dg_blocks.proofs.Ranges.{left_fits, right_fits}
 use Rattle.dg_blocks.proofs.conditions.compares_values.Goals as goal

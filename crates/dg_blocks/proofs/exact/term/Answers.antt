@@ -3,7 +3,7 @@ use Rattle.std.specs.Int.{w16, w128, int_gap}
 use Rattle.std.proofs.lemmas.Int.{to_z-of_z}
 use Rattle.fx_type.specs.FxType.{frac_of, aligned}
 use Rattle.fx_type.specs.FullType.{negated_if}
-use Rattle.fx_num.proofs.Arithmetic.{scaled-neg}
+use Rattle.math_num.proofs.Arithmetic.{scaled-neg}
 use Rattle.dg_blocks.proofs.Ranges.{minus_is, neg_fits}
 use Rattle.dg_blocks.proofs.exact.term.Goals as goal
 

@@ -1,7 +1,7 @@
 use Rattle.std.proofs.Common.{◌≡◌, ℤ, pos, negsuc, ◌-ℤ◌, ◌≤ℤ◌, FitsSigned, to_z, of_z, refl, arith}
 use Rattle.std.specs.Int.{w16}
 use Rattle.std.proofs.lemmas.Int.{ints, to_z-of_z}
-use Rattle.fx_type.proofs.Ranges.{gap_is, gap_none}
+use Rattle.math_num.proofs.Integers.{gap_is, gap_none}
 use Rattle.dg_blocks.proofs.narrow.gap.Goals as goal
 
 near_fits : (low high : ℤ) → negsuc 63 ≤ℤ low → low ≤ℤ pos 128 → negsuc 63 ≤ℤ high → high ≤ℤ pos 128 → FitsSigned w16 (high -ℤ low)

@@ -3,7 +3,7 @@ use Rattle.std.specs.Int.{w128}
 use Rattle.std.specs.Option.{unwrap_or}
 use Rattle.std.proofs.lemmas.Int.{to_z-of_z}
 use Rattle.fx_type.specs.FxType.{IsType, lowest_of, highest_of}
-use Rattle.fx_io.proofs.Places.{get_some}
+use Rattle.math_list.proofs.Places.{get_some}
 use Rattle.dg_response.proofs.root_columns.column.Goals as goal
 use Rattle.dg_response.proofs.root_columns.column.Goals.{After-result-kind}
 

@@ -1,8 +1,9 @@
 use Rattle.std.proofs.Common.{◌≡◌, ◌≤◌, ◌+◌, ◌-◌, ◌<◌, ℕ, suc, map, sum, arith}
-use Rattle.dg_waves.specs.Rounds.{numbers_from}
+use Rattle.math_list.specs.Numbers.{numbers_from}
 use Rattle.dg_model.specs.Attributes.{attributes_of}
 use Rattle.dg_model.specs.Wires.{width_into}
-use Rattle.dg_tables.proofs.Lists.{sum_last, part_here}
+use Rattle.dg_tables.proofs.Lists.{part_here}
+use Rattle.math_list.proofs.Sums.{sum_last}
 use Rattle.dg_sim.proofs.Joined.{before_end}
 use Rattle.dg_sim.proofs.joining.part_into.Goals as goal
 use Rattle.dg_sim.proofs.joining.part_into.Goals.{After-start_cursor-start, In-loop-width}

@@ -1,7 +1,7 @@
 use Rattle.std.proofs.Common.{◌≡◌, ◌-◌, ◌+◌, ◌<◌, ℕ, map, sum, ap, ◌∙◌, arith}
-use Rattle.dg_waves.specs.Rounds.{numbers_from}
+use Rattle.math_list.specs.Numbers.{numbers_from}
 use Rattle.dg_model.specs.Attributes.{attributes_of}
-use Rattle.dg_tables.proofs.Lists.{sum_before, sum_last}
+use Rattle.math_list.proofs.Sums.{sum_before, sum_last}
 use Rattle.dg_sim.proofs.joining.width_before.Goals as goal
 
 pub loop-i-init : goal.loop-i-init

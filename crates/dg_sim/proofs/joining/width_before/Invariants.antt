@@ -1,5 +1,5 @@
 use Rattle.std.proofs.Common.{◌≡◌, map, sum}
-use Rattle.dg_waves.specs.Rounds.{numbers_from}
+use Rattle.math_list.specs.Numbers.{numbers_from}
 use Rattle.dg_model.specs.Attributes.{attributes_of}
 use Rattle.dg_sim.proofs.joining.width_before.Given as goal
 

@@ -8,7 +8,7 @@ use Rattle.dg_model.specs.declared.kind.Kind.{Kind}
 use Rattle.dg_model.specs.declared.kind.Kind.TheVariants.{EnOut}
 use Rattle.dg_model.specs.Library.{row_of}
 use Rattle.dg_model.specs.Wired.{MayStand}
-use Rattle.fx_io.proofs.Places.{held}
+use Rattle.math_list.proofs.Places.{held}
 use Rattle.dg_model.specs.Attributes.{attributes_of}
 use Rattle.dg_tables.specs.declared.entries.Place.{Place}
 use Rattle.dg_tables.specs.Entries.{Reads}

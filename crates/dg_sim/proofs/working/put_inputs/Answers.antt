@@ -4,7 +4,7 @@ use Rattle.dg_model.specs.Attributes.{attributes_of}
 use Rattle.dg_model.specs.Wires.{type_into}
 use Rattle.dg_tables.specs.Entries.{Reads}
 use Rattle.dg_sim.proofs.Serving.{read_more}
-use Rattle.dg_tables.proofs.Lists.{map_last}
+use Rattle.math_list.proofs.Numbers.{map_last}
 use Rattle.dg_sim.proofs.working.put_inputs.Goals as goal
 
 pub loop-i-preserved : goal.loop-i-preserved

@@ -2,7 +2,7 @@ use Rattle.std.proofs.Common.{◌≡◌, ◌≤◌, ◌<◌, ◌^◌, ℕ, List,
 use Rattle.std.proofs.lemmas.Option.{slice_get-get_or}
 use Rattle.dg_model.specs.declared.diagram.Block.{Block}
 use Rattle.dg_model.specs.declared.diagram.Diagram.{Diagram}
-use Rattle.fx_io.proofs.Places.{held}
+use Rattle.math_list.proofs.Places.{held}
 use Rattle.dg_tables.proofs.Laid.{laid_none, laid_more, laid_entries, laid_finds}
 use Rattle.dg_tables.proofs.layout.lay_out.Goals as goal
 

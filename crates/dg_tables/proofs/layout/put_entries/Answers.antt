@@ -1,5 +1,5 @@
 use Rattle.dg_tables.specs.Entries.{place_at}
-use Rattle.dg_tables.proofs.Lists.{one_pushed}
+use Rattle.math_list.proofs.Numbers.{one_pushed}
 use Rattle.dg_tables.proofs.layout.put_entries.Goals as goal
 
 pub loop-element-preserved : goal.loop-element-preserved

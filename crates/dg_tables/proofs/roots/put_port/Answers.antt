@@ -1,5 +1,5 @@
 use Rattle.dg_tables.specs.Roots.{root_at}
-use Rattle.dg_tables.proofs.Lists.{one_pushed}
+use Rattle.math_list.proofs.Numbers.{one_pushed}
 use Rattle.dg_tables.proofs.roots.put_port.Goals as goal
 
 pub loop-element-preserved : goal.loop-element-preserved

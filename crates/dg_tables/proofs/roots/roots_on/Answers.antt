@@ -1,6 +1,6 @@
 use Rattle.std.proofs.Common.{sym, subst, ◌≡◌, ◌++◌, ◌+◌, ℕ, List, filter_map, length, ap, ◌∙◌, arith}
 use Rattle.std.specs.List.{position, flat_map}
-use Rattle.dg_waves.specs.Rounds.{numbers_from}
+use Rattle.math_list.specs.Numbers.{numbers_from}
 use Rattle.dg_model.specs.declared.diagram.Block.{Block}
 use Rattle.dg_model.specs.declared.diagram.Diagram.{Diagram}
 use Rattle.dg_model.specs.Attributes.{attributes_of}

@@ -2,7 +2,7 @@ use Rattle.std.proofs.Common.{◌≡◌, ℕ, ◌<◌, List, [], ◌∷◌, leng
 use Rattle.std.specs.Prelude.{slice_get}
 use Rattle.std.specs.Option.{option_copied}
 use Rattle.std.proofs.lemmas.Option.{none-some, same_Some}
-use Rattle.fx_io.proofs.Places.{held}
+use Rattle.math_list.proofs.Places.{held}
 use Rattle.dg_types.specs.declared.linked.Source.{Source}
 use Rattle.dg_types.specs.inner.Linked.{source_widths, width_through}
 use Rattle.dg_types.proofs.linked.first_width.Goals as goal

@@ -1,6 +1,6 @@
 use Rattle.std.proofs.Common.{◌≡◌, List, [], drop, max, refl, subst, arith}
 use Rattle.std.proofs.lemmas.List.{drop_all}
-use Rattle.dg_model.specs.Widths.{greatest}
+use Rattle.math_list.specs.Numbers.{greatest}
 use Rattle.dg_types.specs.declared.linked.Source.{Source}
 use Rattle.dg_types.specs.inner.Linked.{source_widths}
 use Rattle.dg_types.proofs.linked.greatest_width.Goals as goal

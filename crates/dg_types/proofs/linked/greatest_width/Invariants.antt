@@ -1,6 +1,6 @@
 use Rattle.std.proofs.Common.{◌≡◌, drop, max}
 use Rattle.dg_types.specs.inner.Linked.{source_widths}
-use Rattle.dg_model.specs.Widths.{greatest}
+use Rattle.math_list.specs.Numbers.{greatest}
 use Rattle.dg_types.proofs.linked.greatest_width.Given as goal
 
 abbrev pub invariant-loop-source : goal.invariant-loop-source

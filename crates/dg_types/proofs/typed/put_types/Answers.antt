@@ -1,10 +1,10 @@
 use Rattle.std.proofs.Common.{◌≡◌, ◌<◌, ◌≤◌, ℕ, List, None, length, map, take, ◌++◌, ◌∷◌, [], ap, sym, ◌∙◌, arith}
 use Rattle.std.proofs.lemmas.List.{map_more, take_all}
-use Rattle.dg_waves.specs.Rounds.{numbers_from}
+use Rattle.math_list.specs.Numbers.{numbers_from}
 use Rattle.fx_type.specs.declared.kind.FxType.{FxType}
 use Rattle.dg_model.specs.Attributes.{or_logical, param_type_at}
 use Rattle.dg_model.specs.TypeRounds.{types_of}
-use Rattle.dg_waves.proofs.Waved.{numbers_more}
+use Rattle.math_list.proofs.Numbers.{numbers_more}
 use Rattle.dg_types.proofs.typed.put_types.Goals as goal
 
 pub loop-place-init : goal.loop-place-init

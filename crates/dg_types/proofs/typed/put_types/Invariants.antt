@@ -1,5 +1,5 @@
 use Rattle.std.proofs.Common.{◌≡◌, map, take}
-use Rattle.dg_waves.specs.Rounds.{numbers_from}
+use Rattle.math_list.specs.Numbers.{numbers_from}
 use Rattle.dg_model.specs.Attributes.{or_logical, param_type_at}
 use Rattle.dg_model.specs.TypeRounds.{types_of}
 use Rattle.dg_types.proofs.typed.put_types.Given as goal

@@ -1,7 +1,7 @@
 use Rattle.std.proofs.Common.{◌≡◌, ◌-◌, ◌/◌, ◌^◌, ◌≤◌, arith, pos, pow_mono, to_z}
 use Rattle.std.specs.Int.{w128}
 use Rattle.std.proofs.lemmas.Int.{ints}
-use Rattle.fx_num.proofs.Words.{unsigned_word, signed_word, half_mask, unsigned_bits, small_bits, large_bits, read_top}
+use Rattle.math_num.proofs.Words.{unsigned_word, signed_word, half_mask, unsigned_bits, small_bits, large_bits, read_top}
 use Rattle.fx_num.proofs.word.from_bits.Goals as goal
 
 pub overflow_cast-result : goal.overflow_cast-result

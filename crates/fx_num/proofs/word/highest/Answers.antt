@@ -1,6 +1,6 @@
 use Rattle.std.proofs.Common.{◌-◌, arith}
 use Rattle.std.proofs.lemmas.Int.{ints}
-use Rattle.fx_num.proofs.Words.{signed_word, unsigned_word, small_mask}
+use Rattle.math_num.proofs.Words.{signed_word, unsigned_word, small_mask}
 use Rattle.fx_num.proofs.word.highest.Goals as goal
 
 pub overflow_cast-result : goal.overflow_cast-result

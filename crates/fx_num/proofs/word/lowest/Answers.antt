@@ -1,6 +1,6 @@
 use Rattle.std.proofs.Common.{◌-◌, arith, pow_pos}
 use Rattle.std.proofs.lemmas.Int.{ints}
-use Rattle.fx_num.proofs.Words.{signed_word, small_mask}
+use Rattle.math_num.proofs.Words.{signed_word, small_mask}
 use Rattle.fx_num.proofs.word.lowest.Goals as goal
 
 pub overflow_cast-result : goal.overflow_cast-result

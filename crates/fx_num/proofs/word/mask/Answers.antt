@@ -1,6 +1,6 @@
 -- The 128 set bits, shifted down, are those of the width.
 use Rattle.std.proofs.Common.{◌≡◌, ◌+◌, ◌-◌, ◌/◌, ◌^◌, ap, ◌∙◌, arith, sym, ℕ}
-use Rattle.fx_num.proofs.Words.{mask-suc}
+use Rattle.math_num.proofs.Words.{mask-suc}
 use Rattle.fx_num.proofs.word.mask.Goals as goal
 
 pub returns : goal.returns

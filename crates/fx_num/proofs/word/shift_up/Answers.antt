@@ -2,8 +2,8 @@ use Rattle.std.proofs.Common.{◌≡◌, ◌*◌, ◌%◌, ◌^◌, ◌≤◌, t
 use Rattle.std.specs.Int.{w128}
 use Rattle.std.specs.Int.Signed.{shr_z}
 use Rattle.std.proofs.lemmas.Int.{to_z-of_z}
-use Rattle.fx_num.proofs.Shifted.{shr-fits, shl_fits, shl_exact, shl_back, shr_exact}
-use Rattle.fx_num.proofs.Words.{too_far}
+use Rattle.math_num.proofs.Shifts.{shr-fits, shl_fits, shl_exact, shl_back, shr_exact}
+use Rattle.math_num.proofs.Words.{too_far}
 use Rattle.fx_num.proofs.word.shift_up.Goals as goal
 
 pub returns-then-shifted-by : goal.returns-then-shifted-by

@@ -2,7 +2,7 @@
 use Rattle.std.proofs.Common.{◌≡◌, ap, ◌∙◌, of_z}
 use Rattle.std.specs.Int.{w128}
 use Rattle.std.proofs.lemmas.Int.{to_z-of_z}
-use Rattle.fx_num.proofs.Words.{low_bits, word_width}
+use Rattle.math_num.proofs.Words.{low_bits, word_width}
 use Rattle.fx_num.proofs.word.to_bits.Goals as goal
 
 pub returns-clause-congruent : goal.returns-clause-congruent

@@ -2,9 +2,9 @@ use Rattle.std.proofs.Common.{◌≡◌, ◌-◌, ◌*◌, ◌/◌, ◌%◌, ◌
 use Rattle.std.specs.Int.{w128}
 use Rattle.std.specs.Int.Signed.{shr_z}
 use Rattle.std.proofs.lemmas.Int.{ints, to_z-of_z}
-use Rattle.fx_num.specs.Word.{IsWrapped}
-use Rattle.fx_num.proofs.Shifted.{shr-fits, shl_fits, wrapped_signed, wrapped_unsigned}
-use Rattle.fx_num.proofs.Words.{signed_word, unsigned_word, word_width}
+use Rattle.math_num.specs.Word.{IsWrapped}
+use Rattle.math_num.proofs.Shifts.{shr-fits, shl_fits, wrapped_signed, wrapped_unsigned}
+use Rattle.math_num.proofs.Words.{signed_word, unsigned_word, word_width}
 use Rattle.fx_num.proofs.word.wrap.Goals as goal
 use Rattle.fx_num.proofs.word.wrap.Goals.{After-cast_unsigned}
 

@@ -1,13 +1,13 @@
 use Rattle.std.proofs.Common.{◌≡◌, ℕ, ◌^◌, Bool, ℤ, pos, negsuc, ◌-ℤ◌, ◌*ℤ◌, ◌≤ℤ◌, nat_abs, to_z, of_z, subst, arith}
 use Rattle.std.specs.Int.{w16, w128}
 use Rattle.std.proofs.lemmas.Int.{ints, to_z-of_z}
-use Rattle.fx_num.specs.Word.{InWord}
-use Rattle.fx_num.proofs.Words.{word_width}
+use Rattle.math_num.specs.Word.{InWord}
+use Rattle.math_num.proofs.Words.{word_width}
 use Rattle.fx_type.specs.declared.kind.FxType.{FxType}
 use Rattle.fx_type.specs.declared.kind.FxType.TheVariants.{Num, Logical}
 use Rattle.fx_type.specs.FxType.{IsType, InRange}
 use Rattle.fx_type.specs.Conversion.{Settles, StoresQuotient}
-use Rattle.fx_type.proofs.Ranges.{gap_is, gap_none}
+use Rattle.math_num.proofs.Integers.{gap_is, gap_none}
 use Rattle.fx_round.proofs.Converting.{converts_up, converts_down}
 use Rattle.fx_round.proofs.conversion.convert.Goals as goal
 

@@ -2,8 +2,8 @@ use Rattle.std.proofs.Common.{◌-◌, ◌^◌, ◌-ℤ◌}
 use Rattle.std.specs.Int.{w64}
 use Rattle.std.specs.Int.Signed.{shr_z}
 use Rattle.std.proofs.lemmas.Int.{to_z-of_z}
-use Rattle.fx_num.proofs.Arithmetic.{double}
-use Rattle.fx_num.proofs.Shifted.{shr-fits}
+use Rattle.math_num.proofs.Arithmetic.{double}
+use Rattle.math_num.proofs.Shifts.{shr-fits}
 use Rattle.fx_round.proofs.Biased.{shift_floors, halves_floor, half_fits}
 use Rattle.fx_round.proofs.narrow.floor_past_half.Goals as goal
 

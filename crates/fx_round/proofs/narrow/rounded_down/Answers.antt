@@ -1,7 +1,7 @@
 use Rattle.std.proofs.Common.{◌≡◌, ℕ, ◌-◌, ◌^◌, ◌≤◌, ◌≤ℤ◌, Bool, true, false, ℤ, pos, negsuc, neg_ℤ, ◌+ℤ◌, ◌-ℤ◌, FitsSigned, cond, int_lt, refl, subst, arith, pow_mono, pow_pos}
 use Rattle.std.specs.Int.{w64}
 use Rattle.std.proofs.lemmas.Int.{ints, to_z-of_z}
-use Rattle.fx_num.proofs.Arithmetic.{double}
+use Rattle.math_num.proofs.Arithmetic.{double}
 use Rattle.fx_type.specs.Conversion.{twice, RoundsDown}
 use Rattle.fx_round.specs.inner.Narrow.{IsTie}
 use Rattle.fx_round.proofs.Biased.{toward_zero, ties_up, away_from_zero, ties_even}

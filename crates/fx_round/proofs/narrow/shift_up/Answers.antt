@@ -1,7 +1,7 @@
 use Rattle.std.proofs.Common.{◌^◌, pos, ◌*ℤ◌, FitsSigned, arith}
 use Rattle.std.specs.Int.{w64}
 use Rattle.std.proofs.lemmas.Int.{ints}
-use Rattle.fx_num.proofs.Shifted.{shl_exact}
+use Rattle.math_num.proofs.Shifts.{shl_exact}
 use Rattle.fx_round.proofs.narrow.shift_up.Goals as goal
 
 pub returns : goal.returns

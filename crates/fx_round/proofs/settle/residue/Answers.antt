@@ -2,8 +2,8 @@ use Rattle.std.proofs.Common.{◌≡◌, ◌<◌, ◌^◌, pos, ◌+ℤ◌, ◌*
 use Rattle.std.specs.Int.{w64, w128}
 use Rattle.std.specs.Int.Signed.{shr_z}
 use Rattle.std.proofs.lemmas.Int.{to_z-of_z}
-use Rattle.fx_num.specs.Word.{IsWrapped, IsCongruent}
-use Rattle.fx_num.proofs.Words.{word_width}
+use Rattle.math_num.specs.Word.{IsWrapped, IsCongruent}
+use Rattle.math_num.proofs.Words.{word_width}
 use Rattle.fx_round.proofs.Congruence.{low_congruent, wrapped_part}
 use Rattle.fx_round.proofs.settle.residue.Goals as goal
 

@@ -2,8 +2,8 @@ use Rattle.std.proofs.Common.{◌≡◌, ◌-◌, ◌<◌, ◌^◌, pos, ◌+ℤ
 use Rattle.std.specs.Int.{w64, w128}
 use Rattle.std.specs.Int.Signed.{shr_z}
 use Rattle.std.proofs.lemmas.Int.{to_z-of_z}
-use Rattle.fx_num.specs.Word.{IsWrapped}
-use Rattle.fx_num.proofs.Shifted.{shr-fits, shl_exact}
+use Rattle.math_num.specs.Word.{IsWrapped}
+use Rattle.math_num.proofs.Shifts.{shr-fits, shl_exact}
 use Rattle.fx_round.proofs.Congruence.{high_fits, halves_fit, wrapped_halves}
 use Rattle.fx_round.proofs.settle.residue_high.Goals as goal
 use Rattle.fx_round.proofs.settle.residue_high.Goals.{After-from}

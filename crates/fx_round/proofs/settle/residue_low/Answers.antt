@@ -2,7 +2,7 @@ use Rattle.std.proofs.Common.{◌≡◌, ◌-◌, ◌*◌, ◌%◌, ◌^◌, to_
 use Rattle.std.specs.Int.{w64, w128}
 use Rattle.std.specs.Int.Signed.{shr_z}
 use Rattle.std.proofs.lemmas.Int.{to_z-of_z}
-use Rattle.fx_num.proofs.Shifted.{shr-fits, shl_fits, wrapped_signed, wrapped_unsigned}
+use Rattle.math_num.proofs.Shifts.{shr-fits, shl_fits, wrapped_signed, wrapped_unsigned}
 use Rattle.fx_round.proofs.settle.residue_low.Goals as goal
 
 pub returns-then-signed : goal.returns-then-signed

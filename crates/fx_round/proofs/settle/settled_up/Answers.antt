@@ -2,7 +2,7 @@ use Rattle.std.proofs.Common.{arith}
 use Rattle.std.specs.Int.{w128}
 use Rattle.std.proofs.lemmas.Int.{to_z-of_z}
 use Rattle.fx_round.proofs.Congruence.{shift_wrapped, zero_wrapped}
-use Rattle.fx_num.proofs.Words.{word-width}
+use Rattle.math_num.proofs.Words.{word-width}
 use Rattle.fx_round.proofs.settle.settled_up.Goals as goal
 
 pub returns-then-by-lt128 : goal.returns-then-by-lt128

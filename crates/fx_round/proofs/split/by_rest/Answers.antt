@@ -2,8 +2,8 @@ use Rattle.std.proofs.Common.{◌≡◌, ◌+◌, ◌-◌, ◌/◌, ◌^◌, ◌
 use Rattle.std.specs.Int.{w128, from_bool}
 use Rattle.std.specs.Int.Signed.{shr_z}
 use Rattle.std.proofs.lemmas.Int.{ints, to_z-of_z}
-use Rattle.fx_num.proofs.Arithmetic.{double}
-use Rattle.fx_num.proofs.Shifted.{shr-fits}
+use Rattle.math_num.proofs.Arithmetic.{double}
+use Rattle.math_num.proofs.Shifts.{shr-fits}
 use Rattle.fx_round.specs.inner.Split.{IsSplit}
 use Rattle.fx_round.proofs.Exactly.{part_of}
 use Rattle.fx_round.proofs.Rounding.{rounds_next, flag_small, odd_test, even_test}

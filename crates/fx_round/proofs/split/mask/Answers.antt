@@ -1,5 +1,5 @@
 use Rattle.std.proofs.Common.{◌≡◌, ◌+◌, ◌-◌, ◌/◌, ◌^◌, ap, ◌∙◌, arith, sym, ℕ}
-use Rattle.fx_num.proofs.Words.{mask-suc}
+use Rattle.math_num.proofs.Words.{mask-suc}
 use Rattle.fx_round.proofs.split.mask.Goals as goal
 
 pub returns : goal.returns

@@ -2,8 +2,8 @@ use Rattle.std.proofs.Common.{◌≡◌, ◌-◌, ◌^◌, pos, ◌+ℤ◌, Fits
 use Rattle.std.specs.Int.{w128}
 use Rattle.std.specs.Int.Signed.{shr_z}
 use Rattle.std.proofs.lemmas.Int.{ints, to_z-of_z, to_z_pos}
-use Rattle.fx_num.proofs.Arithmetic.{double}
-use Rattle.fx_num.proofs.Shifted.{shr-fits, shr-divided}
+use Rattle.math_num.proofs.Arithmetic.{double}
+use Rattle.math_num.proofs.Shifts.{shr-fits, shr-divided}
 use Rattle.fx_round.proofs.Halves.{nearest_by}
 use Rattle.fx_round.proofs.Shifts.{near_split, near_room}
 use Rattle.fx_round.proofs.split.nearest.Goals as goal

@@ -1,7 +1,7 @@
 use Rattle.std.proofs.Common.{◌≡◌, ◌∙◌, ℕ, ◌*◌, ◌^◌, ◌<◌, ◌≤◌, pos, neg_ℤ, ◌≤ℤ◌, ap, ap₂, arith, mul-le-mul_left, mod-lt, div-add-mod'}
 use Rattle.std.specs.Int.{w16, int_gap}
 use Rattle.std.proofs.lemmas.Int.{ints, to_z-of_z}
-use Rattle.fx_type.proofs.Ranges.{gap_none}
+use Rattle.math_num.proofs.Integers.{gap_none}
 use Rattle.fx_round.proofs.Sizes.{down_gap, part_size, ten_bound, ten_positive, up_gap, whole_size}
 use Rattle.fx_round.proofs.stored.magnitude.Goals as goal
 

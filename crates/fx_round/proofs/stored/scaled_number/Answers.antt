@@ -1,7 +1,7 @@
 use Rattle.std.proofs.Common.{◌≡◌, pos, ◌-ℤ◌, ◌≤ℤ◌, nat_abs, to_z, of_z, sym, arith}
 use Rattle.std.specs.Int.{w16}
 use Rattle.std.proofs.lemmas.Int.{ints, to_z-of_z}
-use Rattle.fx_type.proofs.Ranges.{gap_is, gap_none}
+use Rattle.math_num.proofs.Integers.{gap_is, gap_none}
 use Rattle.fx_round.proofs.Sizes.{size_down, size_up}
 use Rattle.fx_round.proofs.stored.scaled_number.Goals as goal
 

@@ -3,7 +3,8 @@ use Rattle.std.specs.Int.{w16, w128, int_gap}
 use Rattle.std.proofs.lemmas.Int.{ints, to_z-of_z}
 use Rattle.fx_type.specs.FxType.{frac_of, highest_of}
 use Rattle.fx_type.specs.Span.{least_end, greatest_end}
-use Rattle.fx_type.proofs.Ranges.{frac_bounds, gap_is, highest_sign}
+use Rattle.fx_type.proofs.Ranges.{frac_bounds, highest_sign}
+use Rattle.math_num.proofs.Integers.{gap_is}
 use Rattle.fx_type.proofs.Ends.{same_span}
 use Rattle.fx_type.proofs.full.term_span.Goals as goal
 

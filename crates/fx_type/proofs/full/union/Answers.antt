@@ -5,7 +5,8 @@ use Rattle.fx_type.specs.declared.kind.FxType.{FxType}
 use Rattle.fx_type.specs.FxType.{frac_of}
 use Rattle.fx_type.specs.Span.{least_term, greatest_term}
 use Rattle.fx_type.proofs.Ends.{least_sign, greatest_sign}
-use Rattle.fx_type.proofs.Ranges.{frac_bounds, int_max_most}
+use Rattle.fx_type.proofs.Ranges.{frac_bounds}
+use Rattle.math_num.proofs.Integers.{int_max_most}
 use Rattle.fx_type.proofs.FullTypes.{OnErr-from, no_left, no_right, union_is}
 use Rattle.fx_type.proofs.full.union.Goals as goal
 use Rattle.fx_type.proofs.full.union.Goals.{After-max-frac}

@@ -1,7 +1,7 @@
 use Rattle.std.proofs.Common.{arith}
 use Rattle.dg_model.specs.Attributes.{attributes_of}
 use Rattle.dg_model.specs.Solves.{shown_width}
-use Rattle.dg_tables.proofs.Lists.{sum_last}
+use Rattle.math_list.proofs.Sums.{sum_last}
 use Rattle.hw_build.proofs.Parting.{begins_more}
 use Rattle.hw_build.proofs.block_inputs.put_begins.Goals as goal
 

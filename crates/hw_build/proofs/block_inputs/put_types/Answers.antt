@@ -1,9 +1,9 @@
 use Rattle.std.proofs.Common.{List, ◌++◌, ◌∷◌, [], ◌∙◌, map, ap, sym, ◌≡◌, arith}
 use Rattle.fx_type.specs.declared.kind.FxType.{FxType}
-use Rattle.dg_waves.specs.Rounds.{numbers_from}
+use Rattle.math_list.specs.Numbers.{numbers_from}
 use Rattle.dg_model.specs.Attributes.{attributes_of}
 use Rattle.dg_model.specs.Wires.{type_into, types_into}
-use Rattle.dg_tables.proofs.Lists.{map_last}
+use Rattle.math_list.proofs.Numbers.{map_last}
 use Rattle.hw_build.proofs.block_inputs.put_types.Goals as goal
 
 pub loop-input-preserved : goal.loop-input-preserved

@@ -4,7 +4,7 @@ use Rattle.std.proofs.lemmas.Int.{to_z-of_z}
 use Rattle.std.proofs.lemmas.Result.{IfOk-weaker}
 use Rattle.hw_net.specs.declared.netlist.NetKind.TheVariants.{Comb}
 use Rattle.hw_net.specs.declared.netlist.NetOp.TheVariants.{Const}
-use Rattle.hw_net.proofs.Extending.{if-both}
+use Rattle.math_list.proofs.Places.{if-both}
 use Rattle.hw_build.proofs.Constants.{adds_one, coefficient_is}
 use Rattle.hw_build.proofs.Entering.{typed_net}
 use Rattle.hw_build.proofs.coefficients.put_coefficient.Goals as goal

@@ -4,7 +4,7 @@ use Rattle.fx_type.specs.FxType.{IsType}
 use Rattle.dg_model.specs.Readable.{IsReadable}
 use Rattle.hw_build.proofs.FullyTyped.{found_ok, full_is_there, second_is_valid}
 use Rattle.hw_build.proofs.Serving.{multiplies_input}
-use Rattle.fx_io.proofs.Places.{held}
+use Rattle.math_list.proofs.Places.{held}
 use Rattle.hw_build.proofs.full_types.full_type.Goals as goal
 
 pub full_product-requires-clause-left : goal.full_product-requires-clause-left

@@ -5,7 +5,7 @@ use Rattle.hw_build.specs.declared.operands.Span.{Span}
 use Rattle.hw_build.specs.inner.Designed.{times_for}
 use Rattle.hw_build.specs.inner.EndAsks.{AreEndsFor, IsSpan, controls_left}
 use Rattle.hw_build.proofs.AllEnds.{control_longer, controls_more, controls_end}
-use Rattle.fx_io.proofs.Places.{get_some}
+use Rattle.math_list.proofs.Places.{get_some}
 use Rattle.hw_build.proofs.gathering.gather_controls.Goals as goal
 
 size_of : (slice : List Block) (same diagram : Diagram) → slice ≡ same.blocks → ◌≡◌ {A = Diagram} same diagram → length slice ≡ length diagram.blocks

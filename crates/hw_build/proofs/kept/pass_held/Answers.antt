@@ -1,7 +1,7 @@
 use Rattle.std.proofs.Common.{None, ◌<◌, ◌∷◌, [], length, refl, ap, arith, ◌∙◌}
 use Rattle.std.specs.Prelude.{slice_index_or}
 use Rattle.std.proofs.lemmas.List.Elements.{All-cons, All-nil}
-use Rattle.fx_io.proofs.Tests.{some_there}
+use Rattle.math_list.proofs.Tests.{some_there}
 use Rattle.dg_model.specs.declared.kind.Kind.{Kind}
 use Rattle.dg_model.specs.Library.{row_of}
 use Rattle.dg_model.specs.Attributes.{attributes_of}

@@ -1,6 +1,6 @@
 use Rattle.std.proofs.Common.{ℕ, List, ◌++◌, ◌∷◌, [], ◌∙◌, map, ap, sym}
-use Rattle.dg_waves.specs.Rounds.{numbers_from}
-use Rattle.dg_tables.proofs.Lists.{map_last}
+use Rattle.math_list.specs.Numbers.{numbers_from}
+use Rattle.math_list.proofs.Numbers.{map_last}
 use Rattle.hw_build.specs.inner.Operands.{offered_at}
 use Rattle.hw_build.proofs.offers.from_each.Goals as goal
 

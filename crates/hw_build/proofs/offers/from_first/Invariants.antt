@@ -1,5 +1,5 @@
 use Rattle.std.proofs.Common.{◌≡◌, map}
-use Rattle.dg_waves.specs.Rounds.{numbers_from}
+use Rattle.math_list.specs.Numbers.{numbers_from}
 use Rattle.hw_build.specs.inner.Operands.{offered_at}
 use Rattle.hw_build.proofs.offers.from_first.Given as goal
 

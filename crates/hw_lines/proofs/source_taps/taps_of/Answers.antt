@@ -2,7 +2,7 @@ use Rattle.std.proofs.Common.{rules, ◌≡◌, ◌-◌, ◌*◌, ◌∷◌, [],
 use Rattle.std.specs.Int.{w128}
 use Rattle.std.proofs.lemmas.Int.{to_z-of_z}
 use Rattle.hw_net.specs.declared.netlist.Frame.{Frame}
-use Rattle.hw_net.proofs.Growing.{last-of}
+use Rattle.math_list.proofs.Places.{last_at}
 use Rattle.hw_lines.specs.Register.{CanHold}
 use Rattle.hw_lines.specs.inner.Parts.{IsTapAt}
 use Rattle.hw_lines.proofs.Steps.{tap-can-hold, tap-behind, tap-named, taps-first, taps-more, taps-stay, grows-self, grows-trans}
@@ -46,7 +46,7 @@ loop-step-preserved c =
       are = taps-more c.args.net.now new c.args.source c.loop-step.taps c.in_ok-last.last
           (taps-stay c.args.net.now now new c.args.source c.loop-step.taps grown.appends.extends inv.are)
           (subst (λ (i : ℕ). IsTapAt c.args.net.now new c.args.source i c.in_ok-last.last) (sym inv.size) next);
-      last_is = ap (slice_get (c.loop-step.taps ++ c.in_ok-last.last ∷ [])) (sym inv.size) ∙ last-of c.loop-step.taps c.in_ok-last.last;
+      last_is = ap (slice_get (c.loop-step.taps ++ c.in_ok-last.last ∷ [])) (sym inv.size) ∙ last_at c.loop-step.taps c.in_ok-last.last;
       grown = grows-trans c.args.net.now now new c.args.source.from c.loop-step.last ⊥ ⊥ (λ (other : Frame). other ≡ c.args.source.frame) (λ (other : Frame). other ≡ c.args.source.frame) (λ none. none) (λ frame same. same)
           (tap-named c.args.net.now now c.args.source c.loop-step.step c.loop-step.last tap) inv.grown grown;
       few = omega (arith, c.in_ok-last.ensures.few, inv.few);

@@ -1,9 +1,10 @@
 use Rattle.std.proofs.Common.{◌≡◌, ◌-ℤ◌, nat_abs, to_z, of_z, arith}
 use Rattle.std.specs.Int.{w16, int_gap}
 use Rattle.std.proofs.lemmas.Int.{ints}
-use Rattle.fx_num.specs.Word.{IsWrapped}
+use Rattle.math_num.specs.Word.{IsWrapped}
 use Rattle.fx_type.specs.FxType.{frac_of, aligned}
-use Rattle.fx_type.proofs.Ranges.{gap_is, frac_bounds}
+use Rattle.fx_type.proofs.Ranges.{frac_bounds}
+use Rattle.math_num.proofs.Integers.{gap_is}
 use Rattle.hw_lower.proofs.Chained.{made-map}
 use Rattle.hw_lower.proofs.aligning.align.Goals as goal
 

@@ -1,5 +1,5 @@
 use Rattle.std.proofs.Common.{◌≡◌, pos, Bool, true, false, ap, sym, ◌∙◌, subst}
-use Rattle.fx_num.specs.Word.{IsWord, InWord}
+use Rattle.math_num.specs.Word.{IsWord, InWord}
 use Rattle.hw_lower.specs.inner.Planned.{bit_of}
 use Rattle.hw_lower.proofs.Chained.{made-map}
 use Rattle.hw_lower.proofs.LowBits.{bit-past, bit-none}

@@ -1,5 +1,5 @@
 use Rattle.std.proofs.Common.{◌≡◌, pos, ◌-ℤ◌, subst}
-use Rattle.fx_num.specs.Word.{InWord}
+use Rattle.math_num.specs.Word.{InWord}
 use Rattle.hw_lower.specs.declared.plan.Word.{Word}
 use Rattle.hw_lower.proofs.Chained.{made-map}
 use Rattle.hw_lower.proofs.Cut.{not-bit}

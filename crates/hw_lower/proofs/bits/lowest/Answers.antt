@@ -1,5 +1,5 @@
 use Rattle.std.proofs.Common.{◌≡◌, ◌↔◌, pos}
-use Rattle.hw_net.specs.Operation.{low_bits}
+use Rattle.math_num.specs.Bits.{low_bits}
 use Rattle.hw_lower.proofs.Chained.{made-self}
 use Rattle.hw_lower.proofs.LowBits.{low-all}
 use Rattle.hw_lower.proofs.bits.lowest.Goals as goal

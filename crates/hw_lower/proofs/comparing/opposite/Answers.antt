@@ -1,7 +1,7 @@
 use Rattle.std.proofs.Common.{◌≡◌, Bool, ℤ, pos, ◌-ℤ◌, false, not, ap, subst, ◌∙◌}
-use Rattle.fx_num.specs.Word.{IsWrapped}
+use Rattle.math_num.specs.Word.{IsWrapped}
 use Rattle.dg_model.specs.Operation.{stored_truth}
-use Rattle.hw_net.specs.Operation.{truth}
+use Rattle.math_num.specs.Bits.{truth}
 use Rattle.hw_lower.specs.inner.Planned.{of_two}
 use Rattle.hw_lower.proofs.Chained.{made-then}
 use Rattle.hw_lower.proofs.Truths.{truth-is, not-truth}

@@ -1,5 +1,5 @@
 use Rattle.std.proofs.Common.{subst}
-use Rattle.fx_num.specs.Word.{IsWord, InWord}
+use Rattle.math_num.specs.Word.{IsWord, InWord}
 use Rattle.hw_lower.specs.declared.plan.Word.{Word}
 use Rattle.hw_lower.specs.inner.Planned.{IsChosen}
 use Rattle.hw_lower.proofs.Chained.{made-map}

@@ -1,7 +1,7 @@
 use Rattle.std.proofs.Common.{◌≡◌, ◌+◌, ◌/◌, ◌^◌, pos}
-use Rattle.hw_net.specs.Operation.{low_bits}
+use Rattle.math_num.specs.Bits.{low_bits}
 use Rattle.hw_lower.proofs.Chained.{made-map}
-use Rattle.hw_net.proofs.Numbers.{wrapped-is}
+use Rattle.math_num.proofs.Words.{wrapped-is}
 use Rattle.hw_lower.proofs.LowBits.{slice-in-word}
 use Rattle.hw_lower.proofs.plan.slice.Goals as goal
 

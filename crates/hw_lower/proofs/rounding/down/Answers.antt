@@ -1,7 +1,7 @@
 use Rattle.std.proofs.Common.{◌≡◌}
-use Rattle.hw_net.specs.Operation.{shifted_down}
+use Rattle.math_num.specs.Bits.{shifted_down}
 use Rattle.hw_lower.proofs.Chained.{made-map}
-use Rattle.hw_net.proofs.Numbers.{wrapped-is}
+use Rattle.math_num.proofs.Words.{wrapped-is}
 use Rattle.hw_lower.proofs.LowBits.{down-in-word}
 use Rattle.hw_lower.proofs.rounding.down.Goals as goal
 

@@ -1,5 +1,5 @@
 use Rattle.std.proofs.Common.{◌-◌, subst, arith}
-use Rattle.hw_net.specs.Operation.{low_bits}
+use Rattle.math_num.specs.Bits.{low_bits}
 use Rattle.hw_lower.specs.declared.plan.Word.{Word}
 use Rattle.hw_lower.specs.inner.Planned.{IsMade, IsPastTie}
 use Rattle.hw_lower.proofs.Made.{at-later}

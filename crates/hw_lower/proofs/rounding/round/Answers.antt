@@ -1,5 +1,5 @@
 use Rattle.std.proofs.Common.{◌^◌, Bool, false, subst}
-use Rattle.fx_num.specs.Word.{InWord}
+use Rattle.math_num.specs.Word.{InWord}
 use Rattle.fx_type.specs.Conversion.{Rounds}
 use Rattle.fx_type.specs.declared.rounding.Rounding.TheVariants.{Zero}
 use Rattle.hw_lower.proofs.Chained.{made-map}

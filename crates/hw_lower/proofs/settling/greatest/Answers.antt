@@ -2,7 +2,7 @@ use Rattle.std.proofs.Common.{◌^◌, FitsSigned}
 use Rattle.std.specs.Int.{w128}
 use Rattle.std.specs.Int.Signed.{shr_z}
 use Rattle.std.proofs.lemmas.Int.{to_z-of_z}
-use Rattle.fx_num.proofs.Shifted.{shr-fits}
+use Rattle.math_num.proofs.Shifts.{shr-fits}
 use Rattle.hw_lower.proofs.Ends.{greatest-near, greatest-far}
 use Rattle.hw_lower.proofs.settling.greatest.Goals as goal
 

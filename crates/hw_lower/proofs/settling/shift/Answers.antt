@@ -1,5 +1,5 @@
 use Rattle.std.proofs.Common.{◌≡◌, ◌^◌, pos, ◌*ℤ◌, sym, subst, arith}
-use Rattle.fx_num.specs.Word.{IsWrapped}
+use Rattle.math_num.specs.Word.{IsWrapped}
 use Rattle.hw_lower.specs.declared.plan.Word.{Word}
 use Rattle.hw_lower.specs.inner.Planned.{IsMade}
 use Rattle.hw_lower.proofs.Chained.{made-map, made-self}

@@ -1,7 +1,7 @@
 use Rattle.std.proofs.Common.{◌+ℤ◌}
 use Rattle.std.specs.Int.{w16}
 use Rattle.std.proofs.lemmas.Int.{to_z-of_z}
-use Rattle.fx_num.specs.Word.{IsWrapped}
+use Rattle.math_num.specs.Word.{IsWrapped}
 use Rattle.fx_type.specs.FxType.{aligned}
 use Rattle.fx_type.specs.FullType.{negated_if}
 use Rattle.hw_lower.proofs.Chained.{made-then}

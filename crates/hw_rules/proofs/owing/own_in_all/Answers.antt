@@ -3,7 +3,7 @@ use Rattle.dg_model.specs.declared.diagram.Block.{Block}
 use Rattle.dg_model.specs.declared.diagram.Diagram.{Diagram}
 use Rattle.hw_rules.specs.inner.Own.{own_at}
 use Rattle.hw_rules.proofs.Multipliers.{unshared_is}
-use Rattle.hw_slots.proofs.Sums.{sum_below, sum_below_next}
+use Rattle.math_list.proofs.Sums.{sum_below, sum_below_next}
 use Rattle.hw_rules.proofs.owing.own_in_all.Goals as goal
 
 pub loop-place-preserved : goal.loop-place-preserved

@@ -1,6 +1,6 @@
 use Rattle.std.proofs.Common.{◌≡◌}
 use Rattle.hw_rules.specs.inner.Own.{own_at}
-use Rattle.hw_slots.proofs.Sums.{sum_below}
+use Rattle.math_list.proofs.Sums.{sum_below}
 use Rattle.hw_rules.proofs.owing.own_in_all.Given as goal
 
 abbrev pub invariant-loop-place : goal.invariant-loop-place

@@ -2,7 +2,7 @@ use Rattle.std.specs.Int.{w128}
 use Rattle.std.proofs.Common.{◌≡◌, ◌*ℤ◌}
 use Rattle.std.proofs.lemmas.Bool.{false≢true}
 use Rattle.std.proofs.lemmas.Int.{to_z-of_z}
-use Rattle.fx_num.proofs.Words.{word-fits}
+use Rattle.math_num.proofs.Words.{word-fits}
 use Rattle.hw_run.proofs.checking.holds_product.Goals as goal
 
 pub returns-in-None : goal.returns-in-None

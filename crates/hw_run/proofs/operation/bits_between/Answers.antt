@@ -1,4 +1,4 @@
-use Rattle.hw_net.proofs.Modular.{between}
+use Rattle.math_num.proofs.Residues.{between}
 use Rattle.hw_run.proofs.operation.bits_between.Goals as goal
 
 pub returns : goal.returns

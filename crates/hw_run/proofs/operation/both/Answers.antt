@@ -1,4 +1,4 @@
-use Rattle.hw_net.proofs.Modular.{and-congruent}
+use Rattle.math_num.proofs.Residues.{and-congruent}
 use Rattle.hw_run.proofs.operation.both.Goals as goal
 
 pub returns : goal.returns

@@ -1,4 +1,4 @@
-use Rattle.hw_net.proofs.Modular.{kept-as, choice}
+use Rattle.math_num.proofs.Residues.{kept-as, choice}
 use Rattle.hw_run.proofs.operation.choice.Goals as goal
 
 pub returns-then-a-eq0 : goal.returns-then-a-eq0

@@ -1,4 +1,4 @@
-use Rattle.hw_net.proofs.Modular.{inverted-congruent}
+use Rattle.math_num.proofs.Residues.{inverted-congruent}
 use Rattle.hw_run.proofs.operation.complement.Goals as goal
 
 pub returns : goal.returns

@@ -1,4 +1,4 @@
-use Rattle.hw_net.proofs.Modular.{difference-congruent}
+use Rattle.math_num.proofs.Residues.{difference-congruent}
 use Rattle.hw_run.proofs.operation.difference.Goals as goal
 
 pub returns : goal.returns

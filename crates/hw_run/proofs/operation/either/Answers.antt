@@ -1,4 +1,4 @@
-use Rattle.hw_net.proofs.Modular.{or-congruent}
+use Rattle.math_num.proofs.Residues.{or-congruent}
 use Rattle.hw_run.proofs.operation.either.Goals as goal
 
 pub returns : goal.returns

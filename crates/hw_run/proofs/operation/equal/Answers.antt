@@ -1,4 +1,4 @@
-use Rattle.hw_net.proofs.Modular.{same-congruent}
+use Rattle.math_num.proofs.Residues.{same-congruent}
 use Rattle.hw_run.proofs.operation.equal.Goals as goal
 
 pub returns-then-a-b : goal.returns-then-a-b

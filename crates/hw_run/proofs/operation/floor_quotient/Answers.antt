@@ -1,6 +1,6 @@
 use Rattle.std.proofs.Common.{arith}
 use Rattle.std.proofs.lemmas.Int.{ints}
-use Rattle.hw_net.proofs.Modular.{far-down}
+use Rattle.math_num.proofs.Residues.{far-down}
 use Rattle.hw_run.proofs.operation.floor_quotient.Goals as goal
 
 pub returns-then-v-lt0 : goal.returns-then-v-lt0

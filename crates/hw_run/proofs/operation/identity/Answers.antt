@@ -1,4 +1,4 @@
-use Rattle.hw_net.proofs.Modular.{kept-congruent}
+use Rattle.math_num.proofs.Residues.{kept-congruent}
 use Rattle.hw_run.proofs.operation.identity.Goals as goal
 
 pub returns : goal.returns

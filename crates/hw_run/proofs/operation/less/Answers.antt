@@ -1,5 +1,5 @@
 use Rattle.std.proofs.Common.{true, false}
-use Rattle.hw_net.proofs.Modular.{below-congruent}
+use Rattle.math_num.proofs.Residues.{below-congruent}
 use Rattle.hw_run.proofs.operation.less.Goals as goal
 
 pub returns-then-a-b : goal.returns-then-a-b

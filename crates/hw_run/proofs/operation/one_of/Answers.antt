@@ -1,4 +1,4 @@
-use Rattle.hw_net.proofs.Modular.{xor-congruent}
+use Rattle.math_num.proofs.Residues.{xor-congruent}
 use Rattle.hw_run.proofs.operation.one_of.Goals as goal
 
 pub returns : goal.returns

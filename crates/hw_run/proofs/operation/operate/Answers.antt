@@ -1,7 +1,7 @@
 use Rattle.std.specs.Int.{w128}
 use Rattle.std.proofs.lemmas.Int.{to_z-of_z}
-use Rattle.fx_num.proofs.Words.{word-width}
-use Rattle.hw_net.proofs.Modular.{cut-through}
+use Rattle.math_num.proofs.Words.{word-width}
+use Rattle.math_num.proofs.Residues.{cut-through}
 use Rattle.hw_run.proofs.operation.operate.Goals as goal
 
 pub returns : goal.returns

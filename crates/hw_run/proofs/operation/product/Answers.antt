@@ -1,4 +1,4 @@
-use Rattle.hw_net.proofs.Modular.{product-congruent}
+use Rattle.math_num.proofs.Residues.{product-congruent}
 use Rattle.hw_run.proofs.operation.product.Goals as goal
 
 pub returns : goal.returns

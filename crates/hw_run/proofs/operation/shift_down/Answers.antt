@@ -1,8 +1,8 @@
 use Rattle.std.proofs.Common.{◌∙◌, ap, ℤ}
 use Rattle.std.specs.Int.{w128}
 use Rattle.std.proofs.lemmas.Int.{to_z-of_z}
-use Rattle.hw_net.specs.Operation.{shifted_down}
-use Rattle.hw_net.proofs.Modular.{kept-as}
+use Rattle.math_num.specs.Bits.{shifted_down}
+use Rattle.math_num.proofs.Residues.{kept-as}
 use Rattle.hw_run.proofs.operation.shift_down.Goals as goal
 
 pub returns : goal.returns

@@ -1,5 +1,5 @@
 use Rattle.std.proofs.Common.{arith}
-use Rattle.hw_net.proofs.Modular.{up-congruent, far-up}
+use Rattle.math_num.proofs.Residues.{up-congruent, far-up}
 use Rattle.hw_run.proofs.operation.shift_up.Goals as goal
 
 pub returns-then-places-lt128 : goal.returns-then-places-lt128

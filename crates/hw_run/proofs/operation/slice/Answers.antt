@@ -1,7 +1,7 @@
 use Rattle.std.proofs.Common.{◌∙◌, ap, ◌%◌, ◌/◌, ◌^◌, ◌+◌, ℕ, of_z}
 use Rattle.std.specs.Int.{w128}
 use Rattle.std.proofs.lemmas.Int.{to_z-of_z}
-use Rattle.hw_net.proofs.Modular.{slice-congruent}
+use Rattle.math_num.proofs.Residues.{slice-congruent}
 use Rattle.hw_run.proofs.operation.slice.Goals as goal
 
 pub returns : goal.returns

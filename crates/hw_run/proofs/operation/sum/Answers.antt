@@ -1,4 +1,4 @@
-use Rattle.hw_net.proofs.Modular.{sum-congruent}
+use Rattle.math_num.proofs.Residues.{sum-congruent}
 use Rattle.hw_run.proofs.operation.sum.Goals as goal
 
 pub returns : goal.returns

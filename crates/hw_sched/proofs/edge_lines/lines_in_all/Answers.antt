@@ -7,7 +7,7 @@ use Rattle.hw_sched.specs.Answer.{timing_of}
 use Rattle.hw_sched.proofs.Counting.{beside_control, beside_line, beside_lines, beside_none}
 use Rattle.hw_sched.proofs.Items.{item_read}
 use Rattle.hw_sched.proofs.Widths.{line_there}
-use Rattle.fx_io.proofs.Places.{get_some}
+use Rattle.math_list.proofs.Places.{get_some}
 use Rattle.hw_sched.proofs.edge_lines.lines_in_all.Goals as goal
 
 abbrev none : Edge

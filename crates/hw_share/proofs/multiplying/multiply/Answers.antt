@@ -1,6 +1,6 @@
 use Rattle.std.proofs.Common.{◌≡◌, ◌+◌, ◌<◌, ◌≤◌, IfOk, OnOk, ◌∷◌, [], List, ℕ, Bool, Some, true, false, ap, arith, length, slice_get}
 use Rattle.std.proofs.lemmas.Option.{slice_get_within}
-use Rattle.fx_num.specs.Word.{IsWord}
+use Rattle.math_num.specs.Word.{IsWord}
 use Rattle.hw_net.specs.declared.netlist.Net.{Net}
 use Rattle.hw_share.specs.inner.Parts.{Grows, IsMultiplying}
 use Rattle.hw_share.specs.inner.Steps.{IsMultiplier}

@@ -1,7 +1,7 @@
 use Rattle.std.proofs.Common.{◌≡◌, ◌*◌, ◌-◌, [], ℕ, false, pos, ap, ◌∙◌, IfOk, OnOk, FitsSigned, rules, arith}
 use Rattle.std.specs.Int.{w128}
 use Rattle.std.proofs.lemmas.Int.{to_z-of_z}
-use Rattle.fx_num.specs.Word.{InWord}
+use Rattle.math_num.specs.Word.{InWord}
 use Rattle.hw_net.proofs.Growing.{appends-counter}
 use Rattle.hw_share.specs.inner.Parts.{Grows, IsChoosing}
 use Rattle.hw_share.specs.inner.Choices.{IsTestAt}

@@ -1,6 +1,6 @@
 use Rattle.std.proofs.Common.{◌≡◌, ℕ, List, IfOk, ap, arith, subst, sym, ◌∙◌}
-use Rattle.fx_num.specs.Word.{IsWord}
-use Rattle.fx_num.proofs.Words.{word_width}
+use Rattle.math_num.specs.Word.{IsWord}
+use Rattle.math_num.proofs.Words.{word_width}
 use Rattle.hw_net.specs.declared.netlist.Net.{Net}
 use Rattle.hw_net.specs.declared.netlist.NetOp.{NetOp}
 use Rattle.hw_net.specs.declared.netlist.NetKind.TheVariants.{Comb}

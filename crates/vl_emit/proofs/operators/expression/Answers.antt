@@ -1,4 +1,4 @@
-use Rattle.fx_num.proofs.Words.{word_width}
+use Rattle.math_num.proofs.Words.{word_width}
 use Rattle.vl_emit.proofs.operators.expression.Goals as goal
 
 pub piece-requires-clause-net : goal.piece-requires-clause-net

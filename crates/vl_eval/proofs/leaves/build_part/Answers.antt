@@ -1,5 +1,5 @@
 use Rattle.std.proofs.Common.{◌≡◌, ◌+◌, ◌-◌, ◌^◌, [], sym, ap, subst, ◌∙◌, arith}
-use Rattle.vl_ast.proofs.Places.{head-in}
+use Rattle.math_list.proofs.Elements.{head-in}
 use Rattle.std.proofs.Common.{Contains}
 use Rattle.vl_check.specs.Scope.{nets_in}
 use Rattle.vl_eval.proofs.Operands.{length-part, names-part, sound-part}

@@ -3,7 +3,7 @@ use Rattle.std.specs.Int.{w128}
 use Rattle.std.proofs.lemmas.Bool.{and_parts, leb-true}
 use Rattle.std.proofs.lemmas.Int.{ints}
 use Rattle.std.proofs.lemmas.Nat.{pow_pos}
-use Rattle.fx_num.proofs.Words.{read_top}
+use Rattle.math_num.proofs.Words.{read_top}
 use Rattle.vl_replay.proofs.Words.{few}
 use Rattle.vl_replay.proofs.Widths.{below-zero, half-of-mask, plain-column, signed-column}
 use Rattle.vl_replay.proofs.port_columns.column.Goals as goal

@@ -5,7 +5,7 @@ use Rattle.std.proofs.lemmas.Option.{slice_get-get_or}
 use Rattle.vl_replay.specs.declared.drivers.Driver.{Driver}
 use Rattle.vl_replay.specs.declared.drivers.Driver.TheVariants.{Reset}
 use Rattle.vl_replay.specs.inner.Resting.{IsPast}
-use Rattle.fx_io.proofs.Places.{there_within}
+use Rattle.math_list.proofs.Places.{there_within}
 use Rattle.vl_replay.proofs.Rested.{past-later}
 use Rattle.vl_replay.proofs.resting.driven_until.Goals as goal
 

@@ -1,7 +1,7 @@
 use Rattle.std.proofs.Common.{◌∙◌, ap₂}
 use Rattle.std.specs.Int.{w128}
 use Rattle.std.proofs.lemmas.Int.{to_z-of_z}
-use Rattle.fx_num.specs.Word.{word_highest}
+use Rattle.math_num.specs.Word.{word_highest}
 use Rattle.fx_type.proofs.Ranges.{type-word, type-highest}
 use Rattle.fx_type.proofs.kind.FxType.highest.Goals as goal
 

@@ -4,7 +4,7 @@ use Rattle.std.specs.BTreeMap.{get}
 use Rattle.mdl_build.specs.declared.names.Blocks.{Blocks}
 use Rattle.mdl_build.specs.Blocks.{is_named_in}
 use Rattle.mdl_build.specs.inner.Names.{compare_keys, key_eq}
-use Rattle.fx_io.proofs.Tests.{some_of, none_of}
+use Rattle.math_list.proofs.Tests.{some_of, none_of}
 use Rattle.mdl_build.proofs.NameNumbers.{other_name, new_name, known_name, tied_keys}
 use Rattle.mdl_build.proofs.names.Blocks.add.Goals as goal
 use Rattle.mdl_build.proofs.names.Blocks.add.Goals.{in-Some+then-not-contains_key+in_ok-insert, in-Some+else-not-contains_key, in_default}

@@ -1,13 +1,14 @@
--- Sums, counts and greatest numbers of lists, and when the order of numbers holds two for one. Crates above may cite this file.
-use Rattle.std.proofs.Common.{◌≡◌, ℕ, zero, suc, ◌+◌, ◌≤◌, ◌==◌, nat_lt, max, List, [], ◌∷◌, map, take, refl, sym, ap, ◌∙◌, arith}
+-- Sums, counts and greatest numbers of lists, and when the order of numbers holds two for one.
+use Rattle.std.proofs.Common.{◌≡◌, ℕ, zero, suc, ◌+◌, ◌≤◌, ◌==◌, nat_lt, max, List, [], ◌∷◌, map, take, refl, sym, ap, ◌∙◌, arith, ◌<◌, length, sum, slice_index}
 use Rattle.std.specs.Prelude.{slice_get, Some}
 use Rattle.std.specs.List.{sum}
 use Rattle.std.specs.Ordering.{nat_cmp, is_eq}
 use Rattle.std.proofs.lemmas.Option.{none-some, same_Some}
-use Rattle.dg_waves.specs.Rounds.{numbers_from}
-use Rattle.dg_model.specs.Widths.{greatest}
-use Rattle.fx_io.proofs.Places.{sum-cons}
-use Rattle.fx_io.proofs.Tests.{tied}
+use Rattle.math_list.specs.Numbers.{numbers_from, greatest}
+use Rattle.math_list.proofs.Places.{sum-cons}
+use Rattle.math_list.proofs.Tests.{tied}
+use Rattle.std.proofs.lemmas.List.Sums.{sum_by-append, sum_by-cons}
+use Rattle.math_list.proofs.Numbers.{map_last}
 
 -- ---- greatest numbers and counts
 
@@ -49,3 +50,29 @@ sum_below_next f n = let e : f (0 + n) ≡ f n = ap f (omega arith) in omega (ar
 
 pub tied_number : (x y : ℕ) → is_eq (nat_cmp x y) ≡ (x == y)
 tied_number x y = tied x y (nat_lt x y) (x == y) refl refl
+
+-- the numbers before one of them, with it, have no greater sum than all
+pub sum_before : (f : ℕ → ℕ) (k n i : ℕ) → i < n → sum (map f (numbers_from k i)) + f (k + i) ≤ sum (map f (numbers_from k n))
+sum_before f k zero i h = absurd (omega (arith, h))
+sum_before f k (suc n) zero h = let e : f (k + 0) ≡ f k = ap f (omega arith) in omega (arith, sum-cons (f k) (map f (numbers_from (suc k) n)), e)
+sum_before f k (suc n) (suc i) h =
+    let e : f (k + suc i) ≡ f (suc k + i) = ap f (omega arith) in
+    omega (arith, e, sum-cons (f k) (map f (numbers_from (suc k) n)), sum-cons (f k) (map f (numbers_from (suc k) i)), sum_before f (suc k) n i (omega arith))
+
+-- ---- parts of signals end to end
+pub parts_one : (widths : List ℕ) (i j k l : ℕ) → i < length widths → j < length widths → k < slice_index widths i → l < slice_index widths j → sum (take i widths) + k ≡ sum (take j widths) + l → (i ≡ j) × (k ≡ l)
+parts_one [] i j k l p q r s e = absurd (omega (arith, p))
+parts_one (w ∷ ws) zero zero k l p q r s e = (refl, omega (arith, e))
+parts_one (w ∷ ws) zero (suc j) k l p q r s e = absurd (omega (arith, e, r, sum-cons w (take j ws)))
+parts_one (w ∷ ws) (suc i) zero k l p q r s e = absurd (omega (arith, e, s, sum-cons w (take i ws)))
+parts_one (w ∷ ws) (suc i) (suc j) k l p q r s e =
+    let h = parts_one ws i j k l (omega arith) (omega arith) r s (omega (arith, e, sum-cons w (take i ws), sum-cons w (take j ws))) in
+    (ap suc h.0, h.1)
+
+-- one number more
+pub sum_last : (f : ℕ → ℕ) (n : ℕ) → sum (map f (numbers_from 1 (n + 1))) ≡ sum (map f (numbers_from 1 n)) + f (n + 1)
+sum_last f n =
+    let e = ap (λ (xs : List ℕ). sum xs) (map_last f n) in
+    let split = sum_by-append (λ x. x) (map f (numbers_from 1 n)) (f (n + 1) ∷ []) in
+    let one = sum_by-cons (λ x. x) (f (n + 1)) [] in
+    omega (arith, e, split, one)

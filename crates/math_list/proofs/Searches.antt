@@ -1,12 +1,13 @@
--- The first number of a range that passes a test, tests of whole numbers, and functions that give a relation's one answer. Crates above may cite this module.
-use Rattle.std.proofs.Common.{◌≡◌, ℕ, zero, suc, ◌+◌, ◌<◌, ◌≤◌, Bool, true, false, cond, Option, Some, None, ℤ, ◌≤ℤ◌, ◌<ℤ◌, inl, inr, ap, sym, refl, subst, arith, true≢false}
+-- The first number of a range that passes a test, tests of whole numbers, and functions that give a relation's one answer.
+use Rattle.std.proofs.Common.{◌≡◌, ℕ, zero, suc, ◌+◌, ◌<◌, ◌≤◌, Bool, true, false, cond, Option, Some, None, ℤ, ◌≤ℤ◌, ◌<ℤ◌, inl, inr, ap, sym, refl, subst, arith, true≢false, List, [], ◌∷◌, find, All}
 use Rattle.std.specs.Prelude.{◌↔◌, int_lt, int_le, nat_le}
 use Rattle.std.specs.Bool.{Decides}
 use Rattle.std.specs.List.{find, range_with_len}
 use Rattle.std.specs.Option.{is_some}
 use Rattle.std.proofs.lemmas.Bool.{cases_lt, leb-true, le-leb}
 use Rattle.std.proofs.lemmas.Int.{ints}
-use Rattle.std.proofs.lemmas.Option.{same_Some}
+use Rattle.std.proofs.lemmas.Option.{same_Some, none-some}
+use Rattle.std.proofs.lemmas.List.Elements.{All-head, All-tail}
 
 pub Some≢None : {A : Type 0} (a : A) → Some a ≡ None → ⊥
 Some≢None {A} a e = true≢false (ap (λ (o : Option A). is_some o) e)
@@ -64,3 +65,12 @@ module _ (test : ℕ → Bool) where
   pub not_found : (from count : ℕ) → find test (range_with_len from count) ≡ None → NonePasses test from count
   not_found from zero e = λ j p q. absurd (omega (arith, p, q))
   not_found from (suc count) e = none_step from count (test from) refl (not_found (from + 1) count) e
+
+-- ---- what is found or read has what all have
+pub find_holds : {X : Type 0} (P : X → Type 0) (test : X → Bool) (xs : List X) (x : X) → All P xs → find test xs ≡ Some x → P x
+find_holds P test [] x all e = absurd (none-some x e)
+find_holds {X} P test (y ∷ ys) x all e = go (test y) (find_holds P test ys x (All-tail P y ys all)) e
+  where
+    go : (b : Bool) → (find test ys ≡ Some x → P x) → cond b (Some y) (find test ys) ≡ Some x → P x
+    go true rest e = subst P (same_Some y x e) (All-head P y ys all)
+    go false rest e = rest e

@@ -1,12 +1,11 @@
--- Numbers of words. Crates above may cite this module.
-use Rattle.std.proofs.Common.{◌≡◌, ℕ, suc, ◌+◌, ◌-◌, ◌*◌, ◌/◌, ◌%◌, ◌^◌, ◌<◌, ◌≤◌, true, false, ℤ, pos, negsuc, ◌+ℤ◌, ◌*ℤ◌, ap, sym, ◌∙◌, arith, mul_comm, pow_pos, pow_mono, to_z, of_z, zero, Bool, neg_ℤ, bit_and, div-add-mod', FitsSigned, refl}
+-- Numbers of words: what is cut to a word, and products by how large their factors are.
+use Rattle.std.proofs.Common.{◌≡◌, ℕ, suc, ◌+◌, ◌-◌, ◌*◌, ◌/◌, ◌%◌, ◌^◌, ◌<◌, ◌≤◌, true, false, ℤ, pos, negsuc, ◌+ℤ◌, ◌*ℤ◌, ap, sym, ◌∙◌, arith, mul_comm, pow_pos, pow_mono, to_z, of_z, zero, Bool, neg_ℤ, bit_and, div-add-mod', FitsSigned, refl, ◌<ℤ◌, ◌≤ℤ◌, unsigned_abs}
 use Rattle.std.proofs.lemmas.Nat.{and_mask, pow-add, shr_high}
 use Rattle.std.proofs.Math.Arith.{mul_pred}
 use Rattle.std.specs.Int.{w128}
-use Rattle.std.proofs.lemmas.Int.{to_z-of_z}
-use Rattle.std.proofs.lemmas.Int.{ints}
-use Rattle.fx_num.specs.Word.{IsWord, IsCongruent, IsWrapped, InWord}
-use Rattle.fx_num.proofs.Arithmetic.{double, add-scaled, scaled-neg, IsCongruent-refl}
+use Rattle.std.proofs.lemmas.Int.{to_z-of_z, ints}
+use Rattle.math_num.specs.Word.{IsWord, IsCongruent, IsWrapped, InWord}
+use Rattle.math_num.proofs.Arithmetic.{double, add-scaled, scaled-neg, IsCongruent-refl, near_congruent}
 
 -- the mask of b bits, and one more
 pub mask-suc : (a b : ℕ) → (2 ^ (a + b) - 1) / 2 ^ a + 1 ≡ 2 ^ b
@@ -107,3 +106,25 @@ size-below width false (negsuc n) w r = absurd (omega (arith, ints, r.low))
 pub size-half : (width : ℕ) (z : ℤ) → InWord width true z → size_of z < 2 ^ (width - 1)
 size-half width (pos n) r = omega (arith, ints, r.high, pow_pos (width - 1))
 size-half width (negsuc n) r = omega (arith, ints, r.low, pow_pos (width - 1))
+
+-- two numbers of one word are less than 2 to the width apart
+pub apart : (width : ℕ) (signed : Bool) (a b : ℤ) → IsWord width signed → InWord width signed a → InWord width signed b → a <ℤ (b +ℤ pos (2 ^ width))
+apart width true a b word p q = omega (arith, ints, p.high, q.low, double width (omega (arith, word.0)), pow_pos (width - 1))
+apart width false a b word p q = omega (arith, ints, p.high, q.low, pow_pos width)
+
+-- a number of the word is cut to itself
+pub wrapped-is : (v : ℤ) (width : ℕ) (signed : Bool) (r : ℤ) → IsWord width signed → InWord width signed v → IsWrapped v width signed r → r ≡ v
+wrapped-is v width signed r word has is =
+    near_congruent r v (2 ^ width) is.congruent (apart width signed r v word is.in_word has) (apart width signed v r word has is.in_word)
+
+-- a product from how large its factors are
+pub signed-product : (x y : ℤ) (width : ℕ) → unsigned_abs x * unsigned_abs y < 2 ^ (width - 1) → InWord width true (x *ℤ y)
+signed-product (pos a) (pos b) width h = record { low = omega (arith, ints, h); high = omega (arith, ints, h) }
+signed-product (pos a) (negsuc b) width h = record { low = omega (arith, ints, h); high = omega (arith, ints, h) }
+signed-product (negsuc a) (pos b) width h = record { low = omega (arith, ints, h); high = omega (arith, ints, h) }
+signed-product (negsuc a) (negsuc b) width h = record { low = omega (arith, ints, h); high = omega (arith, ints, h) }
+
+pub unsigned-product : (x y : ℤ) (width : ℕ) → pos 0 ≤ℤ x → pos 0 ≤ℤ y → unsigned_abs x * unsigned_abs y < 2 ^ width → InWord width false (x *ℤ y)
+unsigned-product (pos a) (pos b) width p q h = record { low = omega (arith, ints, h); high = omega (arith, ints, h) }
+unsigned-product (pos a) (negsuc b) width p q h = absurd q.le
+unsigned-product (negsuc a) y width p q h = absurd p.le

@@ -1,4 +1,4 @@
--- Parts of lists, place by place. Crates above may cite this file.
+-- Parts of lists, place by place.
 use Rattle.std.proofs.Common.{◌≡◌, ◌<◌, ◌+◌, ℕ, zero, suc, List, [], ◌∷◌, length, map, take, drop, slice_get, slice_index_or, Some, ℤ, pos, refl, sym, subst, ap₂, arith}
 
 -- an item of a part

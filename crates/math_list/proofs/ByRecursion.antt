@@ -1,4 +1,4 @@
--- What holds of lists that are written out. Crates above may cite this file.
+-- What holds of lists that are written out.
 use Rattle.std.specs.Prelude.{AllPairs, ⊤}
 use Rattle.std.proofs.Common.{◌≡◌, ℕ, zero, suc, ◌<◌, List, [], ◌∷◌, All, Some, slice_get, subst, arith}
 use Rattle.std.specs.List.{AllByRecursion}

@@ -1,4 +1,4 @@
--- Tests by `Bool`, of bytes and of options. Crates above may cite this file.
+-- Tests by `Bool`, of bytes and of options.
 use Rattle.std.proofs.Common.{Bool, true, refl, false, ◌≡◌, true≢false, sym, cond, inl, inr, ◌⊎◌, Option, None, Some, List, ℕ, ap, ◌≢◌, ◌∙◌, bytes_eq, nat_lt, arith, ◌==◌, ℤ, int_lt, ◌<ℤ◌}
 use Rattle.std.specs.Prelude.{◌&&◌, is_some, IsSome}
 use Rattle.std.specs.Str.{bytes_eq}

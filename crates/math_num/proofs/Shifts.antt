@@ -1,4 +1,4 @@
--- Shifts in words of a computer: up, modulo the word, and down, to the whole number below. Crates above may cite this module.
+-- Shifts in words of a computer: up, modulo the word, and down, to the whole number below.
 use Rattle.std.proofs.Common.{◌≡◌, ℕ, suc, ◌+◌, ◌-◌, ◌*◌, ◌/◌, ◌%◌, ◌^◌, ◌<◌, ◌≤◌, true, false, ℤ, pos, negsuc, neg_ℤ, ◌+ℤ◌, ◌*ℤ◌, ◌≤ℤ◌, ◌<ℤ◌, FitsSigned, of_z, to_z, inl, inr, ap, sym, ◌∙◌, subst, arith, pow_pos, mod-lt, lt_of_le_of_lt, div-add-mod', mul-le-mul_right}
 use Rattle.std.specs.Int.{Width}
 use Rattle.std.specs.Int.Signed.{shr_z, mag_shr}
@@ -9,8 +9,8 @@ use Rattle.std.proofs.lemmas.Int.{ints, by_lt_z, to_z_pos}
 use Rattle.std.proofs.lemmas.Nat.{pow-add, mod-mul-add}
 use Rattle.std.proofs.Math.Facts.{to_z-neg, sfits_to_z}
 use Rattle.std.proofs.Math.Nat.{mul-div_cancel}
-use Rattle.fx_num.specs.Word.{IsCongruent, IsWrapped}
-use Rattle.fx_num.proofs.Arithmetic.{IsDivided, divided, unit_apart, scaled-mono, scaled-neg, add-scaled, mul-scaled, near_congruent, double, IsCongruent-trans, IsCongruent-times, IsCongruent-part}
+use Rattle.math_num.specs.Word.{IsCongruent, IsWrapped}
+use Rattle.math_num.proofs.Arithmetic.{IsDivided, divided, unit_apart, scaled-mono, scaled-neg, add-scaled, mul-scaled, near_congruent, double, IsCongruent-trans, IsCongruent-times, IsCongruent-part}
 
 -- ---- down
 

@@ -1,4 +1,4 @@
--- Numbers of 128 bits and their bits, modulo 2 to the power 128. Crates above may cite this file.
+-- Numbers of 128 bits and their bits, modulo 2 to the power 128.
 use Rattle.std.proofs.Common.{◌≡◌, ℕ, zero, suc, ◌+◌, ◌-◌, ◌*◌, ◌/◌, ◌%◌, ◌^◌, ◌<◌, ◌≤◌, ◌<ℤ◌, ◌≤ℤ◌, ◌≢◌, int_lt, not, if◌then◌else◌, Bool, true, false, ℤ, pos, negsuc, ◌+ℤ◌, ◌-ℤ◌, ◌*ℤ◌, neg_ℤ, ap, sym, ◌∙◌, subst, arith, refl, of_z, to_z, FitsSigned, bit_and, bit_or, bit_xor, mod-lt, inl, inr, pow_pos, pow_mono}
 use Rattle.std.specs.Int.{w128}
 use Rattle.std.proofs.lemmas.Int.{ints, to_z-of_z}
@@ -6,12 +6,12 @@ use Rattle.std.proofs.lemmas.Nat.{pow-add, div-add-mod', mod-mul-add, and_le_l, 
 use Rattle.std.proofs.lemmas.Bool.{cases_lt}
 use Rattle.std.proofs.lemmas.Bool.Decides.{Decides-int_eq}
 use Rattle.std.proofs.Math.Nat.{div-eq_of_lt, mul-lt-mul_of_pos_right}
-use Rattle.fx_num.specs.Word.{IsWord, InWord, IsCongruent, IsWrapped}
-use Rattle.fx_num.proofs.Arithmetic.{double, add-scaled, IsCongruent-trans, scaled-neg, mul-scaled, IsCongruent-refl, IsCongruent-times, IsCongruent-part}
+use Rattle.math_num.specs.Word.{IsWord, InWord, IsCongruent, IsWrapped}
+use Rattle.math_num.proofs.Arithmetic.{double, add-scaled, IsCongruent-trans, scaled-neg, mul-scaled, IsCongruent-refl, IsCongruent-times, IsCongruent-part}
 use Rattle.std.proofs.Math.IntN.{*ℤ_comm, *ℤ-negsuc}
 use Rattle.std.specs.Ordering.{int_eq}
-use Rattle.hw_net.specs.Operation.{low_bits, shifted_down, truth}
-use Rattle.fx_num.proofs.Shifted.{remainder_congruent}
+use Rattle.math_num.specs.Bits.{low_bits, shifted_down, truth}
+use Rattle.math_num.proofs.Shifts.{remainder_congruent}
 
 congruent-same : {a b c d : ℤ} (m : ℕ) → a ≡ c → b ≡ d → IsCongruent a b m → IsCongruent c d m
 congruent-same m p q h = record { turns = h.turns; equal = sym p ∙ h.equal ∙ ap (λ (z : ℤ). z +ℤ h.turns *ℤ pos m) q }

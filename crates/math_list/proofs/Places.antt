@@ -1,11 +1,12 @@
--- Elements of lists by their places, after an append, `take` and `drop`. Crates above may cite this file.
-use Rattle.std.proofs.Common.{◌≡◌, ℕ, zero, suc, ◌+◌, ◌-◌, ◌<◌, ◌≤◌, List, [], ◌∷◌, ◌++◌, length, take, drop, inl, inr, ⊎_elim, refl, ap, ◌∙◌, arith, subst, map, All, Bool, cond, fold, max, Contains, true, append_assoc}
-use Rattle.std.specs.Prelude.{slice_get, Some, ◌⊎◌, All, count_by}
+-- Elements of lists by their places, after an append, `take`, `drop`, `map` and `set`.
+use Rattle.std.proofs.Common.{◌≡◌, ℕ, zero, suc, ◌+◌, ◌-◌, ◌<◌, ◌≤◌, List, [], ◌∷◌, ◌++◌, length, take, drop, inl, inr, ⊎_elim, refl, ap, ◌∙◌, arith, subst, map, All, Bool, cond, fold, max, Contains, true, append_assoc, None, Some, slice_get, ◌⊎◌, Result, Ok, Err, IfOk, sym, length-append}
+use Rattle.std.specs.Prelude.{slice_get, Some, ◌⊎◌, All, count_by, set}
 use Rattle.std.proofs.lemmas.Option.{none-some, get_or_from_slice_get, slice_get_within, same_Some}
 use Rattle.std.proofs.lemmas.List.Sums.{sum_by-cons}
 use Rattle.std.specs.List.{sum, list_any, find, range_with_len}
 use Rattle.std.proofs.lemmas.List.{append_assoc}
 use Rattle.std.proofs.lemmas.List.Folds.{list_any-from_Any}
+use Rattle.std.proofs.lemmas.Bool.{cases_lt}
 
 pub get_left : {A : Type 0} (xs ys : List A) (k : ℕ) (x : A) → slice_get xs k ≡ Some x → slice_get (xs ++ ys) k ≡ Some x
 get_left [] ys k x at = absurd (none-some x at)
@@ -115,3 +116,63 @@ three_appended old a b c one two three p q r = rw (r, q, p) (simp append_assoc)
 
 pub five_appended : (old a b c d e one two three four five : List ℕ) → one ≡ old ++ a → two ≡ one ++ b → three ≡ two ++ c → four ≡ three ++ d → five ≡ four ++ e → five ≡ old ++ (a ++ b ++ c ++ d ++ e)
 five_appended old a b c d e one two three four five p q r s t = rw (t, s, r, q, p) (simp append_assoc)
+
+-- there is an element at each place below the length
+pub slice_get_inside : {A : Type 0} (xs : List A) (k : ℕ) → k < length xs → slice_get xs k ≡ None → ⊥
+slice_get_inside [] k h e = absurd (omega arith)
+slice_get_inside (x ∷ xs) zero h e = let f : Some x ≡ None = e in cc
+slice_get_inside (x ∷ xs) (suc k) h e = slice_get_inside xs k (omega arith) e
+
+-- Lists.
+
+-- an element of a list with one more is one of the list or the last
+pub split-last : {A : Type 0} (xs : List A) (x y : A) (k : ℕ) → slice_get (xs ++ x ∷ []) k ≡ Some y → ((k < length xs) × (slice_get xs k ≡ Some y)) ⊎ ((k ≡ length xs) × (x ≡ y))
+split-last xs x y k there =
+    elim (cases_lt k (length xs)) [
+      | inl less ↦ inl (less, sym (get_front xs (x ∷ []) k less) ∙ there)
+      | inr more ↦
+          let within = slice_get_within (xs ++ x ∷ []) k y there in
+          let last : k ≡ length xs = omega (arith, within, length-append xs (x ∷ [])) in
+          inr (last, same_Some x y (sym (last_at xs x) ∙ ap (slice_get (xs ++ x ∷ [])) (sym last) ∙ there))
+    ]
+
+pub if-both : {A E : Type 0} (P Q R : A → Type 0) (result : Result A E) → IfOk result P → IfOk result Q → ((x : A) → P x → Q x → R x) → IfOk result R
+if-both P Q R (Ok x) p q f = f x p q
+if-both P Q R (Err e) p q f = tt
+
+-- ---- lists by their places
+
+pub same_places : {A : Type 0} (xs ys : List A) → length xs ≡ length ys → ((k : ℕ) → k < length xs → slice_get xs k ≡ slice_get ys k) → xs ≡ ys
+same_places [] [] same at = refl
+same_places [] (y ∷ ys) same at = absurd (omega arith)
+same_places (x ∷ xs) [] same at = absurd (omega arith)
+same_places (x ∷ xs) (y ∷ ys) same at =
+    let head : x ≡ y = same_Some x y (at 0 (omega arith)) in
+    let tail : xs ≡ ys = same_places xs ys (omega arith) (λ k inside. at (suc k) (omega arith)) in cc
+
+pub set_same : {A : Type 0} (xs : List A) (k : ℕ) (x : A) → k < length xs → slice_get (set xs k x) k ≡ Some x
+set_same [] k x inside = absurd (omega arith)
+set_same (y ∷ xs) zero x inside = refl
+set_same (y ∷ xs) (suc k) x inside = set_same xs k x (omega arith)
+
+pub set_other : {A : Type 0} (xs : List A) (k j : ℕ) (x : A) → (k ≡ j → ⊥) → slice_get (set xs k x) j ≡ slice_get xs j
+set_other [] k j x differ = refl
+set_other (y ∷ xs) zero zero x differ = absurd (differ refl)
+set_other (y ∷ xs) zero (suc j) x differ = refl
+set_other (y ∷ xs) (suc k) zero x differ = refl
+set_other (y ∷ xs) (suc k) (suc j) x differ = set_other xs k j x (λ same. differ (ap suc same))
+
+pub length_set : {A : Type 0} (xs : List A) (k : ℕ) (x : A) → length (set xs k x) ≡ length xs
+length_set [] k x = refl
+length_set (y ∷ xs) zero x = refl
+length_set (y ∷ xs) (suc k) x = ap suc (length_set xs k x)
+
+pub pushed_at : {A : Type 0} (P : A → Type 0) (xs : List A) (x : A) → ((k : ℕ) (y : A) → slice_get xs k ≡ Some y → P y) → P x → (k : ℕ) (y : A) → slice_get (xs ++ x ∷ []) k ≡ Some y → P y
+pushed_at P [] x all here zero y at = subst P (same_Some x y at) here
+pushed_at P [] x all here (suc k) y at = absurd (none-some y at)
+pushed_at P (z ∷ xs) x all here zero y at = all 0 y at
+pushed_at P (z ∷ xs) x all here (suc k) y at = pushed_at P xs x (λ j w e. all (suc j) w e) here k y at
+
+pub map-same : {X Y : Type 0} (f g : X → Y) → ((x : X) → f x ≡ g x) → (xs : List X) → map f xs ≡ map g xs
+map-same f g same [] = refl
+map-same f g same (x ∷ xs) = (let a = same x in let b = map-same f g same xs in λ i. a i ∷ b i)

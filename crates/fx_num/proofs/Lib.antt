@@ -1,3 +1,0 @@
-pub mod Arithmetic
-pub mod Shifted
-pub mod Words

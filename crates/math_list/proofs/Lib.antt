@@ -1,0 +1,9 @@
+pub mod ByRecursion
+pub mod Elements
+pub mod Indices
+pub mod Numbers
+pub mod Places
+pub mod Searches
+pub mod Sums
+pub mod Tests
+pub mod Zips
