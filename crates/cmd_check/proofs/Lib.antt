@@ -1,11 +1,11 @@
 mod Fewer
-mod Followed
-pub mod Handing
+mod FirstNumbers
 mod Lines
-mod Listing
+mod OutputLines
+pub mod PieceBytes
+mod PieceTexts
 mod Rooms
-mod Shown
 mod Sources
-mod Spelling
+mod WayBack
 mod Ways
 mod Whole

@@ -15,7 +15,7 @@ use Rattle.dg_tables.specs.Listing.{AreBlocksOf}
 use Rattle.hw_names.specs.Names.{AreNames, wanted_names, wanted_of}
 use Rattle.hw_sched.specs.Slots.{Timing}
 use Rattle.cmd_check.specs.CheckText.{IsCheckText, blocks_text, front_text, output_line}
-use Rattle.cmd_check.specs.inner.Listed.{AddsOutputs}
+use Rattle.cmd_check.specs.inner.OutputLines.{AddsOutputs}
 use Rattle.math_list.proofs.Places.{map_there}
 
 -- what is left behind so many names

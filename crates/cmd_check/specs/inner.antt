@@ -1,3 +1,3 @@
 -- What only private contracts cite.
-pub mod Listed
+pub mod OutputLines
 pub mod Way

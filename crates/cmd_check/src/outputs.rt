@@ -4,7 +4,7 @@ ghost use Rattle.hw_rules.specs.Times.{AreTimes, timing_in};
 ghost use Rattle.cmd_check.specs.CheckText.{steps_text};
 ghost use Rattle.cmd_check.specs.Handed.{Adds};
 ghost use Rattle.cmd_check.specs.Gathered.{clocks_at};
-ghost use Rattle.cmd_check.specs.inner.Listed.{PutsOutput, PutsOutputs};
+ghost use Rattle.cmd_check.specs.inner.OutputLines.{PutsOutput, PutsOutputs};
 
 use crate::paths::path_to;
 use crate::pending::{Pending, put};

@@ -2,7 +2,7 @@ ghost use Rattle.std.specs.Prelude.{IfErr, IfOk, List, ℕ};
 ghost use Rattle.dg_model.specs.PlanOf.{IsPlanOf};
 ghost use Rattle.dg_model.specs.PlanRange.{IsPlanInRange};
 ghost use Rattle.cmd_design.specs.Refused.{IsDesigned, IsRefusedDesign, IsRefusedModel};
-ghost use Rattle.cmd_design.specs.inner.Telling.{IsPlanSaid, IsPlannedSo, IsRefusedBy, IsRefusedPlan, IsRefusedText};
+ghost use Rattle.cmd_design.specs.inner.FaultTexts.{IsPlanSaid, IsPlannedSo, IsRefusedBy, IsRefusedPlan, IsRefusedText};
 ghost use Rattle.hw_rules.specs.Times.{AreTimes};
 
 use crate::refusal::{ModelRefusal, checked_of};

@@ -1,6 +1,6 @@
 ghost use Rattle.std.specs.Prelude.{IfErr, IfOk};
 ghost use Rattle.cmd_design.specs.Refused.{IsRefusedModel};
-ghost use Rattle.cmd_design.specs.inner.Telling.{IsTold};
+ghost use Rattle.cmd_design.specs.inner.FaultTexts.{IsTold};
 ghost use Rattle.cmd_model.specs.Model.{IsModelOf};
 
 use cmd_model::{ModelFault, accept, rule_text};

@@ -1,1 +1,1 @@
-mod Cut
+mod RangeWord

@@ -20,9 +20,9 @@ use Rattle.dg_model.specs.Wired.{Joins, root_input, root_output}
 use Rattle.dg_model.specs.Wires.{at_source, driver_of, enters, width_into}
 use Rattle.math_list.proofs.Places.{held}
 use Rattle.math_list.proofs.Searches.{find_holds}
-use Rattle.cmd_generate.proofs.Steadied.{placed}
-use Rattle.hw_build.proofs.Named.{want_is}
-use Rattle.hw_build.proofs.Naming.{IsWanted}
+use Rattle.cmd_generate.proofs.SteadyPorts.{placed}
+use Rattle.hw_build.proofs.PortNames.{want_is}
+use Rattle.hw_build.proofs.NameForms.{IsWanted}
 use Rattle.hw_names.specs.Names.{wanted_names, wanted_of}
 
 small-at : (widths : List ℕ) (k : ℕ) → All (λ (width : ℕ). width ≤ 1024) widths → slice_index_or widths k 0 ≤ 1024

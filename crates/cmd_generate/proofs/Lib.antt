@@ -1,8 +1,8 @@
-pub mod Answering
 pub mod Elements
-pub mod Placing
-pub mod Ported
-pub mod Steadied
+pub mod HandshakeNames
+pub mod Places
+pub mod Ports
+pub mod SteadyPorts
 pub mod Streams
-pub mod Titled
+pub mod Transfers
 pub mod Verilogs

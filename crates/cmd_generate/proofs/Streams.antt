@@ -13,14 +13,14 @@ use Rattle.cmd_design.specs.declared.designing.DesignFault.TheVariants as design
 use Rattle.cmd_design.specs.Design.{IsDesignOf}
 use Rattle.cmd_generate.specs.Streamed.{BreaksStream, IsStreamOf, KeepsStream}
 use Rattle.cmd_generate.specs.Streaming.{IsCoreOf, IsRefusedOnPorts, IsRefusedStream}
-use Rattle.cmd_generate.proofs.Answering.{answers, columns-many}
+use Rattle.cmd_generate.proofs.Transfers.{answers, columns-many}
 use Rattle.cmd_generate.proofs.Elements.{wanted-are}
-use Rattle.cmd_generate.proofs.Steadied.{in-steady, out-ready, out-steady}
-use Rattle.cmd_generate.proofs.Titled.{names-apart, names-each, taken_names}
+use Rattle.cmd_generate.proofs.SteadyPorts.{in-steady, out-ready, out-steady}
+use Rattle.cmd_generate.proofs.HandshakeNames.{names-apart, names-each, taken_names}
 use Rattle.hw_build.specs.Laws.{SlotsAreScheduled}
 use Rattle.hw_module.specs.Design.{IsModuleOf}
 use Rattle.hw_names.specs.Names.{AreStreamNames, wanted_names}
-use Rattle.hw_names.proofs.Taking.{given_size}
+use Rattle.hw_names.proofs.NameSets.{given_size}
 use Rattle.hw_rules.specs.declared.times.Times.{Times}
 use Rattle.hw_rules.specs.Times.{AreTimes, timing_in}
 use Rattle.hw_sched.specs.Laws.{ReadyFits}

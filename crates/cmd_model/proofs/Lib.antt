@@ -1,4 +1,4 @@
-mod Plain
-pub mod Refused
 mod OneVerdict
+mod Plain
 mod SomeVerdict
+pub mod TreeFaults

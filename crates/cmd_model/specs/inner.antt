@@ -1,3 +1,3 @@
-pub mod Accepting
+pub mod ModelFault
 pub mod Singles
 pub mod Values

@@ -2,7 +2,7 @@ ghost use Rattle.std.specs.Prelude.{◌≡◌, ◌⊎◌, ℕ, List, [], Err, If
 ghost use Rattle.dg_model.specs.declared.diagram.Block.{Block as BlockOf};
 ghost use Rattle.dg_model.specs.declared.fault.RuleFault.{RuleFault as FaultOf};
 ghost use Rattle.dg_model.specs.Faults.{IsRefusal};
-ghost use Rattle.cmd_model.specs.inner.Accepting.{fault_of};
+ghost use Rattle.cmd_model.specs.inner.ModelFault.{fault_of};
 ghost use Rattle.cmd_model.specs.Model.{BreaksLines, BreaksText, IsBrokenModel, IsDiagramOf, IsModelOf, IsNotMdl};
 
 use dg_flat::flatten;

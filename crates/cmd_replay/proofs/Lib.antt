@@ -1,3 +1,3 @@
-pub mod Replayed
+pub mod Machines
+pub mod NoResponse
 pub mod Responses
-pub mod Unreplayed

@@ -1,2 +1,2 @@
-pub mod Benching
 pub mod Machines
+pub mod TextResponse

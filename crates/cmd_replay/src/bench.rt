@@ -1,6 +1,6 @@
 ghost use Rattle.std.specs.Prelude.{◌≡◌, [], IfOk, OnErr, OnOk};
 ghost use Rattle.cmd_replay.specs.Benched.{IsTold, told_by};
-ghost use Rattle.cmd_replay.specs.inner.Benching.{IsReplayedAs};
+ghost use Rattle.cmd_replay.specs.inner.TextResponse.{IsReplayedAs};
 
 use crate::response::{ReplayFault, response_of, response_text};
 use cmd_sample::Bench;

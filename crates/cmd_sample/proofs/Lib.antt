@@ -2,5 +2,5 @@ pub mod Congruence
 mod FirstTexts
 pub mod SamplePlan
 pub mod SampleTree
-pub mod Spelled
 pub mod Texts
+pub mod WholeLines

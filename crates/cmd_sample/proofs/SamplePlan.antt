@@ -5,7 +5,7 @@ use Rattle.std.specs.Str.Lines.{lines}
 use Rattle.fx_tables.specs.declared.table.TableFault.{TableFault}
 use Rattle.fx_tables.specs.Plan.{IsPlanFault, SayEach, cycles_of, is_repeated}
 use Rattle.fx_tables.specs.PlanLines.{Says}
-use Rattle.fx_tables.specs.inner.PlanReading.{entry_of, is_bad_entry}
+use Rattle.fx_tables.specs.inner.PlainPlan.{entry_of, is_bad_entry}
 use Rattle.fx_tables.proofs.PlanForms.{entry_form, form_entry}
 use Rattle.cmd_sample.specs.Stimulus.{sample_plan}
 use Rattle.math_list.proofs.Tests.{some_of}

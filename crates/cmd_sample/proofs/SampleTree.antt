@@ -14,7 +14,7 @@ use Rattle.cmd_sample.specs.declared.chain.ChainKind.{ChainKind}
 use Rattle.cmd_sample.specs.declared.chain.ChainKind.TheVariants.{Delay, Sum, Gain, Product, Switch}
 use Rattle.cmd_sample.specs.Chain.{word_of, inputs_of}
 use Rattle.cmd_sample.specs.ModelText.{chain_name, parameter_text, block_head, section_end, block_text, type_parameter, gain_parameters, parameters_of, chain_text, source_text, target_text, line_text, chain_lines, kind_at, block_at, lines_at, model_head, input_text, ends_text, end_lines, model_end, sample_model}
-use Rattle.cmd_sample.proofs.Spelled.{Spelled, empty, joined, same_bytes, ranged, opens, closes, bare, in_quotes, is_word_byte, AreWord, word_line, stands}
+use Rattle.cmd_sample.proofs.WholeLines.{Spelled, empty, joined, same_bytes, ranged, opens, closes, bare, in_quotes, is_word_byte, AreWord, word_line, stands}
 
 -- ---- words
 

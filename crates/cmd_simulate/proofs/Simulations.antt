@@ -18,9 +18,9 @@ use Rattle.fx_tables.specs.RowText.{periods_of}
 use Rattle.fx_tables.specs.Stimulus.{FitsColumns, IsRows, stimulus_fault}
 use Rattle.cmd_simulate.specs.declared.simulation.Simulation.{Simulation}
 use Rattle.cmd_simulate.specs.Simulating.{AreLines, IsSimulationIn, IsStimulusFault, TookLines, TookPartOfLines, output_periods}
-use Rattle.cmd_simulate.specs.inner.Making.{HasColumns, IsReadyFor}
+use Rattle.cmd_simulate.specs.inner.Columns.{HasColumns, IsReadyFor}
 use Rattle.fx_tables.proofs.ResponseLines.{took-part}
-use Rattle.fx_io.proofs.Taken.{also_took-append}
+use Rattle.fx_io.proofs.SinkBytes.{also_took-append}
 
 -- ---- what is ready
 

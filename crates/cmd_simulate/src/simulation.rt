@@ -6,7 +6,7 @@ ghost use Rattle.fx_tables.specs.Stimulus.{FitsColumns};
 ghost use Rattle.dg_response.specs.Laws.{SomeResponse};
 ghost use Rattle.dg_response.specs.Responding.{IsBefore, row_of};
 ghost use Rattle.cmd_simulate.specs.Simulating.{AreLines, IsSimulationIn, IsStimulusFault, TookLines, TookPartOfLines};
-ghost use Rattle.cmd_simulate.specs.inner.Making.{HasColumns, HaveRows, IsReadyFor};
+ghost use Rattle.cmd_simulate.specs.inner.Columns.{HasColumns, HaveRows, IsReadyFor};
 
 use dg_model::{Checked, root_elements_are_listed};
 use dg_response::{Responding, RootColumns, columns, some_response};

@@ -1,8 +1,7 @@
 pub mod Exactly
 mod Fracs
 mod Gaps
-mod Listed
-mod Narrowed
+mod NarrowWords
 mod Outputs
 mod Pairs
 mod Products
@@ -10,4 +9,5 @@ mod Ranges
 mod Shifts
 mod Steps
 mod Sums
-mod Weighted
+mod TypeLists
+mod Weights

@@ -15,8 +15,8 @@ use Rattle.dg_blocks.specs.declared.narrow.Narrow.{Narrow}
 use Rattle.dg_blocks.specs.declared.prepared.Prepared.TheVariants.{Converted, Times, Scaled, Summed, Chosen}
 use Rattle.dg_blocks.specs.Narrow.{IsNarrow, IsWithin, HasRoom, magnitude_of}
 use Rattle.dg_blocks.specs.Prepared.{IsPrepared, IsSummable, product_bits}
-use Rattle.dg_blocks.proofs.Narrowed.{range_within, product_within, whole_fits}
-use Rattle.dg_blocks.proofs.Weighted.{whole_within}
+use Rattle.dg_blocks.proofs.NarrowWords.{range_within, product_within, whole_fits}
+use Rattle.dg_blocks.proofs.Weights.{whole_within}
 
 more_bits : (bits more : ℕ) (v : ℤ) → bits ≤ more → IsWithin bits v → IsWithin more v
 more_bits bits more v h w = let p : 2 ^ bits ≤ 2 ^ more = pow_mono h in record { low = omega (arith, ints, p, w.low); high = omega (arith, ints, p, w.high) }

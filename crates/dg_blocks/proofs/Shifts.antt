@@ -9,7 +9,7 @@ use Rattle.fx_type.specs.declared.rounding.Rounding.TheVariants.{Floor, Ceiling,
 use Rattle.fx_type.specs.Conversion.{twice, IsEven, RoundsDown, RoundsUp, RoundsTiesUp, RoundsTiesDown, RoundsTiesEven, Rounds}
 use Rattle.math_num.proofs.Arithmetic.{next-scaled}
 use Rattle.dg_blocks.specs.Narrow.{IsBias, IsTie, IsShifted}
-use Rattle.fx_round.proofs.Biased.{shift_floors, floors_one}
+use Rattle.fx_round.proofs.Bias.{shift_floors, floors_one}
 
 pub odd_bit : (v : ℤ) → FitsSigned w64 v → IsTie true v (to_z w64 (bit_and (of_z w64 v) 1))
 odd_bit (pos n) f =

@@ -1,2 +1,2 @@
 pub mod Hits
-pub mod Tapped
+pub mod Taps

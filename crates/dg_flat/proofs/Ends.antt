@@ -6,7 +6,7 @@ use Rattle.dg_flat.specs.declared.edges.FlatPort.{FlatPort}
 use Rattle.dg_flat.specs.declared.numbering.Side.{Side}
 use Rattle.dg_flat.specs.Flat.{flat_place, first_port, port_at}
 use Rattle.dg_flat.specs.Parts.{is_subsystem}
-use Rattle.dg_flat.specs.inner.Numbering.{number_on, numbered_at}
+use Rattle.dg_flat.specs.inner.PortNumbers.{number_on, numbered_at}
 
 -- a port of a subsystem is port 1 of the block in it
 pub port_inner : (blocks : List NestedBlock) (place port : ℕ) (side : Side) (block : NestedBlock) → slice_get blocks place ≡ Some block → is_subsystem block.part ≡ true →

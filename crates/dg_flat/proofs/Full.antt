@@ -10,9 +10,9 @@ use Rattle.dg_model.specs.declared.nested.NestedBlock.{NestedBlock}
 use Rattle.dg_flat.specs.declared.numbering.Side.{Side}
 use Rattle.dg_flat.specs.Parts.{same_system, count_in, first_in, is_number}
 use Rattle.dg_flat.specs.Rules.{KeepsWiring, AllNestedKeep}
-use Rattle.dg_flat.specs.inner.Numbering.{number_on}
+use Rattle.dg_flat.specs.inner.PortNumbers.{number_on}
 use Rattle.math_list.proofs.Places.{count_cons}
-use Rattle.dg_flat.proofs.Found.{ranged}
+use Rattle.dg_flat.proofs.Positions.{ranged}
 use Rattle.dg_flat.proofs.Firsts.{same_system_eq}
 use Rattle.dg_flat.proofs.Verdicts.{has_this, passed}
 

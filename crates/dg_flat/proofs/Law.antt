@@ -15,10 +15,10 @@ use Rattle.dg_model.specs.Wired.{IsWired, Joins, StandsBefore}
 use Rattle.dg_model.specs.Wires.{enters}
 use Rattle.dg_flat.specs.Flat.{IsFlatOf, flat_blocks, edge_of}
 use Rattle.dg_flat.specs.Rules.{AllNestedKeep, KeepsWiring, KeepsEnable}
-use Rattle.dg_flat.proofs.Driven.{flat_joins, flat_driven}
+use Rattle.dg_flat.proofs.PortEdges.{flat_joins, flat_driven}
 use Rattle.dg_flat.proofs.RootPorts.{flat_inports, flat_outports}
 use Rattle.dg_flat.proofs.Standings.{flat_stands}
-use Rattle.dg_flat.proofs.WiredParts.{flat_few, flat_readable, flat_controls}
+use Rattle.dg_flat.proofs.FlatParts.{flat_few, flat_readable, flat_controls}
 
 pub flat_of : (nested : Nested) (blocks : List NestedBlock) (lines : List NestedLine) (flat : List Block) (edges : List Edge) → blocks ≡ nested.blocks → lines ≡ nested.lines → flat ≡ flat_blocks blocks →
     IsPermutation (filter_map (edge_of blocks) lines) edges → AllPairs StandsBefore edges → IsFlatOf nested (record { blocks = flat; edges = edges })

@@ -7,7 +7,7 @@ use Rattle.dg_flat.specs.declared.numbering.Side.{Side}
 use Rattle.dg_flat.specs.Parts.{same_system, is_number}
 use Rattle.dg_flat.specs.inner.Slots.{slot_of, system_of, first_of}
 use Rattle.dg_flat.specs.inner.Tables.{HasCell, IsRowTable, cell_at}
-use Rattle.dg_flat.specs.inner.Numbering.{number_on, count_at, numbered_at, IsNumbering, IsNumberedAt}
+use Rattle.dg_flat.specs.inner.PortNumbers.{number_on, count_at, numbered_at, IsNumbering, IsNumberedAt}
 use Rattle.dg_flat.proofs.Cells.{rows_set, rows_same}
 use Rattle.math_list.proofs.Tests.{and_false}
 use Rattle.dg_flat.proofs.Firsts.{position_push, same_at, other_at, first_none}

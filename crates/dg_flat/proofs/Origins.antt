@@ -10,7 +10,7 @@ use Rattle.dg_model.specs.declared.nested.NestedBlock.{NestedBlock}
 use Rattle.dg_flat.specs.Flat.{flat_block, flat_blocks, flat_place}
 use Rattle.dg_flat.specs.Parts.{is_subsystem, control_of}
 use Rattle.math_list.proofs.Places.{count_cons}
-use Rattle.dg_flat.proofs.WiredParts.{agrees}
+use Rattle.dg_flat.proofs.FlatParts.{agrees}
 
 -- an item of a list that is kept at a place, and what it becomes
 record IsOrigin {X Y : Type 0} (h : ℕ × X → Option Y) (keeps : X → Bool) (from : ℕ) (xs : List X) (j : ℕ) (y : Y) : Type 0 where

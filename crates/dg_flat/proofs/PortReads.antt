@@ -9,7 +9,7 @@ use Rattle.dg_model.specs.declared.nested.Part.TheVariants.{SubSystem}
 use Rattle.dg_flat.specs.Parts.{inputs_of, outputs_of, is_subsystem}
 use Rattle.dg_flat.specs.declared.numbering.Side.{Side}
 use Rattle.dg_flat.specs.declared.numbering.Side.TheVariants.{In, Out}
-use Rattle.dg_flat.specs.inner.Numbering.{count_at}
+use Rattle.dg_flat.specs.inner.PortNumbers.{count_at}
 use Rattle.dg_flat.specs.inner.Ports.{ports_of, ports_at, inputs_at, outputs_at}
 
 pub read_at : (blocks : List NestedBlock) (place : ℕ) (block : NestedBlock) → place < length blocks → block ≡ get_or blocks place block → slice_get blocks place ≡ Some block

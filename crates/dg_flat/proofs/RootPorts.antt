@@ -20,9 +20,9 @@ use Rattle.dg_flat.specs.declared.numbering.Side.TheVariants.{In as Ins, Out as 
 use Rattle.dg_flat.specs.Flat.{flat_block, flat_blocks, resetting, resets_under}
 use Rattle.dg_flat.specs.Parts.{control_of, count_in, same_system}
 use Rattle.dg_flat.specs.Rules.{KeepsWiring, AllNestedKeep}
-use Rattle.dg_flat.specs.inner.Numbering.{number_on}
-use Rattle.dg_flat.proofs.Found.{ranged}
-use Rattle.dg_flat.proofs.Joining.{in_block_kind, out_block_kind}
+use Rattle.dg_flat.specs.inner.PortNumbers.{number_on}
+use Rattle.dg_flat.proofs.Positions.{ranged}
+use Rattle.dg_flat.proofs.LinePorts.{in_block_kind, out_block_kind}
 use Rattle.dg_flat.proofs.Lists.{each_given, pairs_given, length_kept, kept_kept, of_some}
 use Rattle.dg_flat.proofs.Readable.{row_kept}
 use Rattle.dg_flat.proofs.Roles.{IsInKind, IsOutKind}

@@ -22,10 +22,10 @@ use Rattle.dg_flat.specs.Parts.{same_system, is_enable_port, enable_port, contro
 use Rattle.dg_flat.specs.Rules.{MayStand, MayStandAt, KeepsEnable, AllNestedKeep}
 use Rattle.dg_flat.proofs.FlatList.{each_kept}
 use Rattle.dg_flat.proofs.Firsts.{same_self}
-use Rattle.dg_flat.proofs.Joining.{in_block_kind, out_block_kind}
+use Rattle.dg_flat.proofs.LinePorts.{in_block_kind, out_block_kind}
 use Rattle.dg_flat.proofs.Readable.{row_kept}
 use Rattle.dg_flat.proofs.Roles.{IsInKind, IsOutKind}
-use Rattle.dg_flat.proofs.WiredParts.{no_block}
+use Rattle.dg_flat.proofs.FlatParts.{no_block}
 
 stand_map : (stands : Standing) (f : ℕ → ℕ) (control : Option ℕ) → MayStand stands control → MayStandFlat stands (option_map f control)
 stand_map Standing.Anywhere f control may = tt

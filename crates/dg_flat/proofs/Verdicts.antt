@@ -17,7 +17,7 @@ use Rattle.dg_model.specs.declared.nested.Target.TheVariants.{Port, Enable as To
 use Rattle.dg_flat.specs.declared.numbering.Side.{Side}
 use Rattle.dg_flat.specs.Parts.{inputs_of, outputs_of, enable_port, same_system, is_number, count_in, first_in}
 use Rattle.dg_flat.specs.Rules.{HasEnd, KeepsWiring, IsNumbered, drivers, is_port}
-use Rattle.dg_flat.specs.inner.Numbering.{number_on, count_at, numbered_at, IsNumberedAt}
+use Rattle.dg_flat.specs.inner.PortNumbers.{number_on, count_at, numbered_at, IsNumberedAt}
 use Rattle.dg_flat.specs.inner.Ports.{inputs_at, outputs_at, is_past, is_lacking, lacks_output, lacks_input, lacks_end, port_drivers}
 use Rattle.dg_flat.specs.inner.Slots.{slot_of}
 use Rattle.dg_flat.specs.inner.Tables.{HasCell, IsTable, IsRowTable, cell_at}

@@ -3,7 +3,7 @@ ghost use Rattle.std.specs.List.{filter_map};
 ghost use Rattle.dg_model.specs.Wired.{StandsBefore};
 ghost use Rattle.dg_model.specs.declared.nested.NestedBlock.{NestedBlock};
 ghost use Rattle.dg_flat.specs.Flat.{flat_place, first_port as first_port_of, source_of as source_of_line, end_at, joined as joined_of, edge_of};
-ghost use Rattle.dg_flat.specs.inner.Numbering.{AreNumbersWithin};
+ghost use Rattle.dg_flat.specs.inner.PortNumbers.{AreNumbersWithin};
 ghost use Rattle.dg_flat.specs.inner.Systems.{AreSystems};
 ghost use Rattle.dg_flat.specs.inner.Tables.{IsTable};
 ghost use Rattle.dg_flat.specs.inner.Tally.{HaveEnds};

@@ -1,5 +1,5 @@
 ghost use Rattle.std.specs.Prelude.{◌≡◌, suc, ◌≤◌, ◌<◌, List, length, IfOk};
-ghost use Rattle.dg_flat.specs.inner.Numbering.{number_on, count_at, IsNumbering, IsNumberedAt};
+ghost use Rattle.dg_flat.specs.inner.PortNumbers.{number_on, count_at, IsNumbering, IsNumberedAt};
 ghost use Rattle.dg_flat.specs.inner.Slots.{slot_of, HaveParents};
 ghost use Rattle.dg_flat.specs.inner.Tables.{IsTable, AreRows};
 ghost use Rattle.dg_flat.specs.declared.numbering.Side.{Side};

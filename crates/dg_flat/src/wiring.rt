@@ -3,7 +3,7 @@ ghost use Rattle.dg_model.specs.declared.nested.NestedBlock.{NestedBlock};
 ghost use Rattle.dg_model.specs.Limits.{most_blocks};
 ghost use Rattle.dg_flat.specs.declared.numbering.Side.{Side};
 ghost use Rattle.dg_flat.specs.Rules.{KeepsWiring};
-ghost use Rattle.dg_flat.specs.inner.Numbering.{IsNumbering, IsNumberedAt};
+ghost use Rattle.dg_flat.specs.inner.PortNumbers.{IsNumbering, IsNumberedAt};
 ghost use Rattle.dg_flat.specs.inner.Slots.{slot_of, HaveParents};
 ghost use Rattle.dg_flat.specs.inner.Systems.{AreSystems};
 ghost use Rattle.dg_flat.specs.inner.Tables.{AreRows, HasCell, cell_at};

@@ -21,7 +21,7 @@ use Rattle.dg_model.specs.Operation.{OpGives}
 use Rattle.dg_model.specs.Wires.{type_into, types_into, values_into}
 use Rattle.fx_type.specs.FxType.{IsType, lowest_of, highest_of}
 use Rattle.fx_type.specs.StoredOf.{stored_of}
-use Rattle.fx_type.proofs.Stored.{stored_one}
+use Rattle.fx_type.proofs.Decimals.{stored_one}
 
 abbrev pub int8 : FxType
 int8 = Num true 8 (pos 0)

@@ -1,18 +1,16 @@
-mod Carried
 mod Chain
 mod Columns
 mod DelayOfThree
 mod Elements
-mod Enabled
 mod EnabledAccumulator
 mod EnabledOutput
 pub mod Examples
-mod Flattened
+mod Flat
 mod GainTypes
 mod Late
 mod LeastLoop
-mod Listed
 mod Numbers
+mod OperationInputs
 mod ParamTypes
 mod PeriodRounds
 mod PlanFaults
@@ -20,10 +18,12 @@ pub mod Ports
 pub mod Propagation
 mod RateAndLoop
 mod ReadableRows
-pub mod Refused
+pub mod Refusals
 pub mod Roots
 mod Roundings
+mod SmallDiagrams
 pub mod SoundRows
+mod SubsystemPorts
 pub mod SumTerms
 mod SumTypes
 mod Transitions
@@ -32,4 +32,4 @@ mod TypeOfSmall
 mod TypeRows
 mod Vectors
 mod WidthRounds
-mod WiredRows
+mod WireRows

@@ -15,7 +15,7 @@ use Rattle.fx_type.specs.Conversion.{Stores}
 use Rattle.fx_type.specs.StoredOf.{rounded_of, is_in_range}
 use Rattle.std.proofs.lemmas.Option.{same_Some}
 use Rattle.math_list.proofs.Searches.{Some≢None, one_answer, IsFirst, NonePasses, found, not_found}
-use Rattle.fx_type.proofs.Stored.{nearest_only, rounded_rounds, Decides-in_range}
+use Rattle.fx_type.proofs.Decimals.{nearest_only, rounded_rounds, Decides-in_range}
 use Rattle.dg_model.specs.GainParam.{is_zero, is_param_signed, param_width, FitsAt, IsGreatestFit, IsInternalParam, fits_at, frac_down, greatest_fit_of, internal_param_of, ParamTypeIsOne}
 
 Decides-element : (s : Bool) (w : ℕ) (f : ℤ) (decimal : Decimal) → Decides (is_in_range (Num s w f) (rounded_of decimal f)) ((r : ℤ) × (stored : Stores decimal (Num s w f) r) × InRange (Num s w f) stored.rounded)

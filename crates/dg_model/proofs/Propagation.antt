@@ -3,7 +3,7 @@ use Rattle.std.proofs.Common.{◌≡◌, ℕ, ◌+◌, ◌<◌, length, map, get
 use Rattle.std.proofs.lemmas.List.{get_or-map, length-map}
 use Rattle.std.proofs.lemmas.Option.{get_or_from_slice_get}
 use Rattle.math_list.specs.Numbers.{numbers_from}
-use Rattle.dg_waves.proofs.Waved.{length_after}
+use Rattle.dg_waves.proofs.WaveRounds.{length_after}
 use Rattle.math_list.proofs.Numbers.{mapped_at, length_numbers}
 use Rattle.fx_type.specs.declared.kind.FxType.{FxType}
 use Rattle.dg_model.specs.declared.diagram.Diagram.{Diagram}

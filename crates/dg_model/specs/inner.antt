@@ -1,3 +1,3 @@
 pub mod Flat
 pub mod Paths
-pub mod Told
+pub mod RowColumns

@@ -1,7 +1,7 @@
 ghost use Rattle.std.specs.Prelude.{◌≡◌};
 ghost use Rattle.dg_model.specs.Library.{row_of};
 ghost use Rattle.dg_model.specs.Wired.{root_input, root_output};
-ghost use Rattle.dg_model.specs.inner.Told.{fixed_row};
+ghost use Rattle.dg_model.specs.inner.RowColumns.{fixed_row};
 
 use crate::kind::Kind;
 use fx_type::FxType;

@@ -1,7 +1,7 @@
-mod Agreed
-pub mod Aligning
-pub mod Declaring
-mod Keeping
-mod Linking
-pub mod Stepping
-mod Tying
+mod Agreement
+pub mod BasePeriods
+mod FirstFault
+mod LinkRows
+pub mod OneUnit
+mod RowTies
+pub mod Steps

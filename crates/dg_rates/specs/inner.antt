@@ -1,7 +1,7 @@
 -- What private contracts cite.
-pub mod Agreeing
-pub mod Declared
+pub mod Above
 pub mod Links
+pub mod Sources
 pub mod StepLaws
 pub mod Steps
 pub mod Units

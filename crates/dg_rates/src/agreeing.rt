@@ -6,7 +6,7 @@ ghost use Rattle.dg_model.specs.Library.{row_of};
 ghost use Rattle.dg_model.specs.Limits.{most_blocks};
 ghost use Rattle.dg_model.specs.Periods.{period_at};
 ghost use Rattle.dg_model.specs.Rate.{KeepsPeriods, joins_periods as joins_periods_of, shown_period, shown_periods, suits as suits_of};
-ghost use Rattle.dg_rates.specs.inner.Agreeing.{asked_among};
+ghost use Rattle.dg_rates.specs.inner.Sources.{asked_among};
 ghost use Rattle.dg_rates.specs.inner.Links.{AreSources};
 
 use crate::links::Links;

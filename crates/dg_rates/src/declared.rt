@@ -7,7 +7,7 @@ ghost use Rattle.dg_model.specs.Faults.{AllKeep, BreaksAt, IsRefusal, fault_of};
 ghost use Rattle.dg_model.specs.Library.{row_of};
 ghost use Rattle.dg_model.specs.Periods.{base_units, first_inherited, first_periods as first_periods_of, least_of, units_of};
 ghost use Rattle.dg_model.specs.Rate.{KeepsDeclared};
-ghost use Rattle.dg_rates.specs.inner.Declared.{IsAbove, KeepsIn, first_in, least_units};
+ghost use Rattle.dg_rates.specs.inner.Above.{IsAbove, KeepsIn, first_in, least_units};
 
 use crate::rounds::Known;
 use crate::units::{is_less, times_of};

@@ -1,4 +1,4 @@
 pub mod Elements
+pub mod SampleSteps
 pub mod Single
-pub mod Stepping
-pub mod Stimulated
+pub mod Stimuli

@@ -11,7 +11,7 @@ use Rattle.dg_model.specs.Signals.{Attributes, Stimulus, Table}
 use Rattle.dg_model.specs.Equation.{Equation, KindEquation, ElementEquation, StoresEntry, IsOpOf}
 use Rattle.dg_model.specs.Wires.{type_into, value_into}
 use Rattle.dg_tables.specs.declared.entries.Place.{Place}
-use Rattle.dg_sim.specs.inner.Building.{HandsOn, IsAlways, IsElementwise}
+use Rattle.dg_sim.specs.inner.ProgramSteps.{HandsOn, IsAlways, IsElementwise}
 use Rattle.math_list.proofs.Numbers.{get_mapped}
 
 module _ (diagram : Diagram) (attributes : Attributes) (place : Place) (b : Block) (block_is : slice_get diagram.blocks place.block ≡ Some b) where

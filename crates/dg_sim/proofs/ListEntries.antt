@@ -17,7 +17,7 @@ use Rattle.dg_model.specs.Solves.{IsShown, shown_ports, shown_width}
 use Rattle.dg_tables.specs.Fit.{HasLists}
 use Rattle.dg_sim.specs.inner.Turns.{HasEntry}
 use Rattle.dg_sim.proofs.Entries.{ports_are}
-use Rattle.dg_tables.proofs.Fitting.{lists_fit}
+use Rattle.dg_tables.proofs.Widths.{lists_fit}
 use Rattle.dg_tables.proofs.Lists.{below_repeated}
 
 module _ (diagram : Diagram) (is : IsChecked diagram) (block port element : ℕ) (b : Block) (shown : IsShown diagram (attributes_of diagram) block b port element) where

@@ -27,7 +27,7 @@ use Rattle.dg_tables.specs.Entries.{IsEntry, place_at}
 use Rattle.dg_tables.specs.Finding.{Finds, IsRead, ReadsNow}
 use Rattle.dg_tables.specs.Laws.{IsOrdered}
 use Rattle.dg_sim.specs.inner.Turns.{IsTurn}
-use Rattle.dg_tables.proofs.Fitting.{widths_fit}
+use Rattle.dg_tables.proofs.Widths.{widths_fit}
 use Rattle.dg_tables.proofs.Lists.{below_repeated}
 use Rattle.dg_tables.proofs.Ranks.{control_leads}
 use Rattle.dg_tables.proofs.Sources.{elements_read, is_readable}

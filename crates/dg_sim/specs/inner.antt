@@ -1,4 +1,4 @@
-pub mod Building
 pub mod Columns
 pub mod Cursors
+pub mod ProgramSteps
 pub mod Turns

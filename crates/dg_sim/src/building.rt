@@ -3,7 +3,7 @@ ghost use Rattle.std.specs.Prelude.{◌≡◌, ◌<◌, ◌+◌, ℕ, Some, leng
 ghost use Rattle.dg_model.specs.Attributes.{attributes_of};
 ghost use Rattle.dg_model.specs.RootElements.{root_inputs};
 ghost use Rattle.dg_sim.specs.Sim.{IsProgram};
-ghost use Rattle.dg_sim.specs.inner.Building.{AreShown, IsFilled};
+ghost use Rattle.dg_sim.specs.inner.ProgramSteps.{AreShown, IsFilled};
 ghost use Rattle.dg_tables.specs.Entries.{IsEntry, place_at};
 ghost use Rattle.dg_tables.specs.Finding.{Finds};
 ghost use Rattle.dg_tables.specs.declared.roots.Root.{Root};

@@ -3,7 +3,7 @@ ghost use Rattle.std.specs.Prelude.{◌≡◌, ◌<◌, ◌++◌, ℕ, List, len
 ghost use Rattle.fx_type.specs.declared.kind.FxType.{FxType};
 ghost use Rattle.dg_model.specs.Attributes.{attributes_of};
 ghost use Rattle.dg_model.specs.Wires.{width_into};
-ghost use Rattle.dg_sim.specs.inner.Building.{AreElements};
+ghost use Rattle.dg_sim.specs.inner.ProgramSteps.{AreElements};
 ghost use Rattle.dg_sim.specs.inner.Turns.{CanOffer, IsMadeFor, IsTurnOf};
 ghost use Rattle.dg_model.specs.declared.kind.Kind.{Kind};
 

@@ -2,7 +2,7 @@
 ghost use Rattle.std.specs.Prelude.{◌≡◌, IfOk};
 ghost use Rattle.fx_type.specs.declared.decimal.Decimal.{Decimal};
 ghost use Rattle.dg_model.specs.Attributes.{attributes_of};
-ghost use Rattle.dg_sim.specs.inner.Building.{HandsOn};
+ghost use Rattle.dg_sim.specs.inner.ProgramSteps.{HandsOn};
 ghost use Rattle.dg_tables.specs.Finding.{Finds, IsRead, ReadsNow};
 ghost use Rattle.dg_sim.specs.inner.Turns.{IsMadeFor, IsTurnOf};
 ghost use Rattle.dg_model.specs.declared.kind.Kind.{Kind};

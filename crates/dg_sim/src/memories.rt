@@ -6,7 +6,7 @@ ghost use Rattle.dg_model.specs.declared.kind.Kind.{Kind};
 ghost use Rattle.dg_model.specs.Hits.{is_slow_to_fast};
 ghost use Rattle.dg_model.specs.Wires.{period_into};
 ghost use Rattle.dg_tables.specs.State.{kept_count};
-ghost use Rattle.dg_sim.specs.inner.Building.{IsControl, Moves, IsRemembered};
+ghost use Rattle.dg_sim.specs.inner.ProgramSteps.{IsControl, Moves, IsRemembered};
 ghost use Rattle.dg_tables.specs.Finding.{IsRead};
 ghost use Rattle.dg_sim.specs.inner.Turns.{IsMadeFor, IsTurnOf};
 ghost use Rattle.dg_tables.specs.Entries.{place_at};

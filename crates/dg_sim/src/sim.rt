@@ -5,7 +5,7 @@ ghost use Rattle.dg_model.specs.RootElements.{root_outputs};
 ghost use Rattle.dg_model.specs.Signals.{Stimulus, Table};
 ghost use Rattle.dg_sim.specs.Ready.{AreReady};
 ghost use Rattle.dg_sim.specs.Sim.{Simulation, IsProgram, IsSimOf, IsAt, IsStepped, Stands};
-ghost use Rattle.dg_sim.specs.inner.Building.{AreRooms};
+ghost use Rattle.dg_sim.specs.inner.ProgramSteps.{AreRooms};
 
 use crate::building::program_of;
 use crate::past::Past;

@@ -5,7 +5,7 @@ ghost use Rattle.dg_model.specs.Equation.{IsOpOf};
 ghost use Rattle.dg_model.specs.Wires.{type_into, types_into};
 ghost use Rattle.dg_model.specs.Solves.{IsShown};
 ghost use Rattle.dg_tables.specs.Entries.{Reads, AreEntries};
-ghost use Rattle.dg_sim.specs.inner.Building.{AreRead, is_worked};
+ghost use Rattle.dg_sim.specs.inner.ProgramSteps.{AreRead, is_worked};
 ghost use Rattle.dg_tables.specs.Finding.{AreLines, IsRead};
 ghost use Rattle.dg_tables.specs.Laws.{IsOrdered, TypesAreValid};
 ghost use Rattle.dg_sim.specs.inner.Turns.{CanOffer, IsMadeFor, IsTurnOf};

@@ -11,7 +11,7 @@ use Rattle.dg_model.specs.Wires.{driver_of, enters}
 use Rattle.dg_model.specs.Wired.{IsWired, Joins}
 use Rattle.math_list.proofs.Places.{held}
 use Rattle.math_list.proofs.Searches.{find_holds}
-use Rattle.dg_tables.proofs.Fitting.{outputs_there}
+use Rattle.dg_tables.proofs.Widths.{outputs_there}
 
 abbrev pub unit_if : Bool → ℕ
 unit_if b = cond b 1 0

@@ -1,25 +1,25 @@
-mod Built
-mod Carried
+mod Agreement
+mod BetweenHits
+mod BlockTypes
 pub mod Drivers
 pub mod Edges
-pub mod Fitting
-pub mod Given
+pub mod EntryLayout
+pub mod Equations
 pub mod Ground
-pub mod Grounded
-mod Growing
-mod Known
-pub mod Laid
 mod Lines
-mod Listed
 pub mod Lists
-mod Moved
-mod Offered
-mod Ported
+mod Moves
 pub mod Ranks
-pub mod Rooted
+mod RootBlocks
+pub mod RootElements
+mod RootPorts
+mod Rounds
+pub mod Runnable
 pub mod Single
+mod SomeTable
+mod SourceEntries
 pub mod Sources
-mod Staying
+mod TypeFits
 mod TypeRules
-mod Typed
 mod Unique
+pub mod Widths

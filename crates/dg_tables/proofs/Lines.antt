@@ -9,7 +9,7 @@ use Rattle.dg_model.specs.declared.diagram.Edge.{Edge}
 use Rattle.dg_model.specs.Wires.{driver_of, enters}
 use Rattle.dg_model.specs.Wired.{IsWired, Joins, StandsBefore}
 use Rattle.dg_tables.specs.Finding.{AreLines}
-use Rattle.dg_tables.specs.inner.Laying.{AreLinesTo, line_put}
+use Rattle.dg_tables.specs.inner.Layout.{AreLinesTo, line_put}
 use Rattle.dg_tables.proofs.Drivers.{unit_if, count_by-cons, some_counted, driver_is}
 use Rattle.math_list.proofs.Places.{held, get_some}
 use Rattle.dg_tables.proofs.Ranks.{found_at}

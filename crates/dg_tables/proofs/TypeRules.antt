@@ -24,7 +24,7 @@ use Rattle.dg_model.specs.Library.{row_of}
 use Rattle.dg_model.specs.GainParam.{ParamTypeIsOne, IsInternalParam, IsGreatestFit, is_negative, is_zero, is_param_signed, param_width, param_type_of}
 use Rattle.dg_model.specs.Periods.{known_at}
 use Rattle.dg_model.specs.TypeRounds.{with_known, all_known, Types, specified_type, sum_named, full_type, internal_type, own_type, taken_type}
-use Rattle.dg_tables.proofs.Growing.{Grows, known_there, there_known, rest_grows}
+use Rattle.dg_tables.proofs.Rounds.{Grows, known_there, there_known, rest_grows}
 use Rattle.dg_model.proofs.SumTerms.{terms-valid}
 
 -- ---- what follows from a known value

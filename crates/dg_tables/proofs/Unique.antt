@@ -11,7 +11,7 @@ use Rattle.dg_tables.proofs.Ground.{IsRanked, RankedTablesAreOne}
 use Rattle.fx_round.specs.Laws.{StoringGivesOne}
 use Rattle.dg_blocks.specs.Laws.{OperationGivesAtMostOne}
 use Rattle.dg_tables.proofs.Lists.{hit_or_not, last_before}
-use Rattle.dg_tables.proofs.Carried.{carried}
+use Rattle.dg_tables.proofs.Agreement.{carried}
 use Rattle.dg_tables.proofs.Single.{kind_one}
 
 module _ (storing : StoringGivesOne) (at_most : OperationGivesAtMostOne) (diagram : Diagram) (attributes : Attributes) (rank : ℕ → ℕ) (stimulus : Stimulus) (n : ℕ) (table other : Table)

@@ -5,7 +5,7 @@ ghost use Rattle.dg_model.specs.Attributes.{attributes_of};
 ghost use Rattle.dg_model.specs.Solves.{shown_ports, shown_width};
 ghost use Rattle.dg_tables.specs.Entries.{AreEntries, place_at};
 ghost use Rattle.dg_tables.specs.Finding.{AreLines, Finds};
-ghost use Rattle.dg_tables.specs.inner.Laying.{line_put, ArePut};
+ghost use Rattle.dg_tables.specs.inner.Layout.{line_put, ArePut};
 
 use crate::entries::{Place, Places};
 use crate::reading::{Starts, ports_shown, width_shown};

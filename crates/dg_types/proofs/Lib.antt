@@ -1,16 +1,16 @@
-pub mod Built
-pub mod Deciding
-pub mod FromWired
-pub mod Numbered
+mod AccumSteps
+pub mod Counts
+pub mod DimensionTests
+pub mod FracFits
+pub mod FracSearch
+pub mod FractionRanges
+pub mod GreatestFrac
+pub mod InputTests
+pub mod LinkRows
 pub mod ScanFacts
-pub mod Shown
+pub mod SumTypes
+pub mod TypeParts
+pub mod TypeRounds
 pub mod Verdicts
-mod Stepping
-pub mod TypedFits
-pub mod TypedGreatest
-pub mod TypedRanges
-pub mod TypedSearch
-pub mod TypedSums
-pub mod TypedWired
-pub mod TypedTests
-pub mod TypedParts
+pub mod WidthRounds
+pub mod WidthTables

@@ -7,17 +7,17 @@ use Rattle.dg_model.specs.Widths.{Widths, next_widths, widths_of}
 use Rattle.dg_model.specs.Wired.{IsWired}
 use Rattle.dg_model.specs.Wires.{edges_into}
 use Rattle.dg_waves.specs.Rounds.{round, after_rounds}
-use Rattle.dg_waves.proofs.Waved.{length_after, round_at}
+use Rattle.dg_waves.proofs.WaveRounds.{length_after, round_at}
 use Rattle.dg_types.specs.declared.linked.Source.{Source}
 use Rattle.dg_types.specs.declared.linked.Form.{Form}
 use Rattle.dg_types.specs.declared.scanning.Scan.{Scan}
 use Rattle.dg_types.specs.inner.Build.{Gathered}
-use Rattle.dg_types.specs.inner.Linked.{next_held}
+use Rattle.dg_types.specs.inner.Widths.{next_held}
 use Rattle.dg_types.specs.inner.Rows.{width_of_edge}
-use Rattle.dg_types.specs.inner.Scanned.{IsScan}
-use Rattle.dg_types.specs.inner.Shown.{shown, all_first, Mirrors}
-use Rattle.dg_types.proofs.FromWired.{can_link, is_laid}
-use Rattle.dg_types.proofs.Shown.{held_shows, length_first, length_shown}
+use Rattle.dg_types.specs.inner.WidthScan.{IsScan}
+use Rattle.dg_types.specs.inner.WidthShapes.{shown, all_first, Mirrors}
+use Rattle.dg_types.proofs.WidthRounds.{can_link, is_laid}
+use Rattle.dg_types.proofs.WidthTables.{held_shows, length_first, length_shown}
 
 pub is_scan : (diagram : Diagram) (scan : Scan) (forms : List Form) (sources : List (List Source)) (held later : List ℕ) → IsWired diagram → Mirrors diagram forms sources →
     held ≡ after_rounds (next_held forms sources) (length diagram.blocks) (all_first diagram.blocks) → later ≡ round (next_held forms sources) held →

@@ -10,7 +10,7 @@ use Rattle.dg_model.specs.declared.rule.Rule.{Rule}
 use Rattle.dg_model.specs.Faults.{fault_of, path_of}
 use Rattle.dg_model.specs.Dimension.{IsBounded, KeepsDimension, KeepsDimensions, BreaksDimension}
 use Rattle.dg_model.specs.Widths.{Widths, widths_of}
-use Rattle.dg_types.specs.inner.Scanned.{KeepAllBelow}
+use Rattle.dg_types.specs.inner.WidthScan.{KeepAllBelow}
 
 pub breaks_at : (diagram : Diagram) (place : ℕ) (block : Block) (path : List ℕ) (fault : RuleFault) → slice_get diagram.blocks place ≡ Some block → ¬ KeepsDimension diagram (widths_of diagram) place block → KeepAllBelow diagram place →
     path ≡ block.path → fault ≡ fault_of Rule.Dimension path Nothing → BreaksDimension diagram fault

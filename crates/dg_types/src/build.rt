@@ -1,7 +1,7 @@
 ghost use Rattle.std.specs.Prelude.{◌≡◌, ◌^◌, ◌<◌, ◌≤◌, [], length, replicate, slice_get, Some, IfOk, OnOk};
 ghost use Rattle.dg_model.specs.declared.diagram.Block.{Block};
 ghost use Rattle.dg_types.specs.inner.Build.{AreAlike, CanLink, Gathered, Known, IsPortOf, all_forms};
-ghost use Rattle.dg_types.specs.inner.Shown.{shape_of, share_at as share_at_shape, part_of, source_of as source_of_edge, Mirrors};
+ghost use Rattle.dg_types.specs.inner.WidthShapes.{shape_of, share_at as share_at_shape, part_of, source_of as source_of_edge, Mirrors};
 ghost use Rattle.dg_model.specs.Widths.{are_open as are_open_of};
 
 use crate::linked::{Share, Source, WidthRound};

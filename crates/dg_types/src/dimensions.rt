@@ -7,7 +7,7 @@ ghost use Rattle.dg_model.specs.Dimension.{KeepsDimension, KeepsDimensions, Brea
 ghost use Rattle.dg_model.specs.Widths.{widths_of};
 ghost use Rattle.dg_model.specs.Wired.{IsWired};
 ghost use Rattle.dg_types.specs.inner.Build.{all_forms};
-ghost use Rattle.dg_types.specs.inner.Scanned.{CanBeScanned, IsScan, KeepAllBelow};
+ghost use Rattle.dg_types.specs.inner.WidthScan.{CanBeScanned, IsScan, KeepAllBelow};
 
 use crate::build::width_round;
 use crate::elements::is_bounded;

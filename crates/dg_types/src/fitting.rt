@@ -1,6 +1,6 @@
 ghost use Rattle.std.specs.Prelude.{◌≡◌, ◌^◌, ◌-◌, min, sum, slice_index_or};
 ghost use Rattle.dg_model.specs.Library.{row_of};
-ghost use Rattle.dg_types.specs.inner.Shown.{shape_of};
+ghost use Rattle.dg_types.specs.inner.WidthShapes.{shape_of};
 ghost use Rattle.dg_types.specs.inner.Tests as test;
 
 use crate::kinds::are_open;

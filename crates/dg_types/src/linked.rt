@@ -1,8 +1,8 @@
 ghost use Rattle.std.specs.Prelude.{◌≡◌, true, ◌<◌, ◌≤◌, [], min, max, sum, All, length, slice_index_or};
-ghost use Rattle.dg_types.specs.inner.Linked.{width_through as width_through_of, is_shared_out, source_widths, taken_by as taken_by_form, next_held, AreLinked, CanTake};
-ghost use Rattle.dg_types.specs.inner.LinkedLaws.{is_local, stays};
+ghost use Rattle.dg_types.specs.inner.Widths.{width_through as width_through_of, is_shared_out, source_widths, taken_by as taken_by_form, next_held, AreLinked, CanTake};
+ghost use Rattle.dg_types.specs.inner.WidthLaws.{is_local, stays};
 ghost use Rattle.dg_types.specs.inner.Build.{all_forms};
-ghost use Rattle.dg_types.specs.inner.Shown.{shape_of, form_of as form_of_shape};
+ghost use Rattle.dg_types.specs.inner.WidthShapes.{shape_of, form_of as form_of_shape};
 ghost use Rattle.dg_model.specs.Limits.{longest_list};
 ghost use Rattle.dg_model.specs.Widths.{share as share_of, list_length as list_length_of, most_width};
 ghost use Rattle.math_list.specs.Numbers.{greatest};

@@ -4,7 +4,7 @@ ghost use Rattle.dg_model.specs.KindRow.{Shape as ShapeOf};
 ghost use Rattle.dg_model.specs.Limits.{longest_list};
 ghost use Rattle.dg_model.specs.Widths.{share, most_width};
 ghost use Rattle.dg_types.specs.inner.Build.{Gathered};
-ghost use Rattle.dg_types.specs.inner.Shown.{shape_of, outputs_of, shown};
+ghost use Rattle.dg_types.specs.inner.WidthShapes.{shape_of, outputs_of, shown};
 ghost use Rattle.dg_types.specs.inner.Rows.{HasRow, width_of_edge};
 
 use crate::kinds::are_open;

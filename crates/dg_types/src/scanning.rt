@@ -1,8 +1,8 @@
 ghost use Rattle.std.specs.Prelude.{◌≡◌, ℕ, ◌^◌, ◌<◌, Some, slice_get, IfOk, OnOk};
 ghost use Rattle.dg_model.specs.declared.diagram.Block.{Block};
-ghost use Rattle.dg_types.specs.inner.Shown.{shape_of, declared_width as declared_width_of, first_held as first_held_of, all_first as all_first_of};
+ghost use Rattle.dg_types.specs.inner.WidthShapes.{shape_of, declared_width as declared_width_of, first_held as first_held_of, all_first as all_first_of};
 ghost use Rattle.dg_types.specs.inner.Build.{all_forms};
-ghost use Rattle.dg_types.specs.inner.Scanned.{CanBeScanned, IsScan};
+ghost use Rattle.dg_types.specs.inner.WidthScan.{CanBeScanned, IsScan};
 
 use crate::linked::WidthRound;
 use crate::rows::{input_rows, put_rows};

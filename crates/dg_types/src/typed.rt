@@ -10,9 +10,9 @@ ghost use Rattle.dg_model.specs.TypeRounds.{types_of};
 ghost use Rattle.dg_model.specs.TypeRule.{KeepsTypes, BreaksType};
 ghost use Rattle.dg_model.specs.Wired.{IsWired};
 ghost use Rattle.dg_types.specs.inner.Build.{all_forms};
-ghost use Rattle.dg_types.specs.inner.Shown.{Mirrors};
-ghost use Rattle.dg_types.specs.inner.TypedScan.{KeepsPart, KeepBelow, word_of};
-ghost use Rattle.dg_types.specs.inner.TypedWith.{AreFound, AreTyped};
+ghost use Rattle.dg_types.specs.inner.WidthShapes.{Mirrors};
+ghost use Rattle.dg_types.specs.inner.TypeScan.{KeepsPart, KeepBelow, word_of};
+ghost use Rattle.dg_types.specs.inner.Types.{AreFound, AreTyped};
 
 use crate::typed_round::{TypeRound, known_types, round_of};
 use crate::typed_rule::{agrees, has_types, is_narrow};

@@ -2,7 +2,7 @@
 //! two, so that 128 bits hold them without loss, and no quotient is worked out.
 ghost use Rattle.std.specs.Prelude.{◌≡◌, ◌+◌, ◌-◌, ◌*◌, ◌^◌, ◌/◌, ◌<◌, ◌≤◌, pos, negsuc, ◌≤ℤ◌, MatchOption};
 ghost use Rattle.std.specs.Int.{int_gap};
-ghost use Rattle.dg_types.specs.inner.TypedFit.{is_within, is_below as is_below_bound};
+ghost use Rattle.dg_types.specs.inner.TypeFit.{is_within, is_below as is_below_bound};
 
 use fx_type::Decimal;
 

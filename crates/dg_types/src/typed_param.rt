@@ -8,7 +8,7 @@ ghost use Rattle.fx_type.specs.FxType.{IsType};
 ghost use Rattle.fx_type.specs.StoredOf.{rounded_of, is_in_range};
 ghost use Rattle.dg_model.specs.GainParam.{is_negative as is_negative_of, is_zero as is_zero_of, is_param_signed as is_param_signed_of};
 ghost use Rattle.dg_model.specs.KindRow.{IsSpec};
-ghost use Rattle.dg_types.specs.inner.TypedFit.{at_step, HasSign, greatest_fit as greatest_fit_of, internal_param as internal_param_of, param_type as param_type_of};
+ghost use Rattle.dg_types.specs.inner.TypeFit.{at_step, HasSign, greatest_fit as greatest_fit_of, internal_param as internal_param_of, param_type as param_type_of};
 
 use crate::typed_fit::{fits, fraction_of};
 use fx_type::{Decimal, FxType, TypeSpec};

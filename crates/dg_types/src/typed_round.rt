@@ -4,10 +4,10 @@ ghost use Rattle.std.specs.Prelude.{◌≡◌, [], length, slice_index_or, IfOk}
 ghost use Rattle.dg_model.specs.TypeRounds.{explicit_type as explicit_type_of};
 ghost use Rattle.dg_model.specs.Wired.{IsWired};
 ghost use Rattle.dg_types.specs.inner.Build.{all_forms};
-ghost use Rattle.dg_types.specs.inner.Shown.{Mirrors};
-ghost use Rattle.dg_types.specs.inner.TypedInputs.{IsKnownValid, AreReady, FullTypesAreValid, next_typed};
-ghost use Rattle.dg_types.specs.inner.TypedScan.{IsTyped};
-ghost use Rattle.dg_types.specs.inner.TypedLaws.{first_types, typed_is_local, typed_stays};
+ghost use Rattle.dg_types.specs.inner.WidthShapes.{Mirrors};
+ghost use Rattle.dg_types.specs.inner.TypeInputs.{IsKnownValid, AreReady, FullTypesAreValid, next_typed};
+ghost use Rattle.dg_types.specs.inner.TypeScan.{IsTyped};
+ghost use Rattle.dg_types.specs.inner.TypeLaws.{first_types, typed_is_local, typed_stays};
 
 use crate::build::width_round;
 use crate::linked::WidthRound;

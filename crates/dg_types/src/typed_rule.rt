@@ -6,7 +6,7 @@ ghost use Rattle.dg_model.specs.Library.{row_of};
 ghost use Rattle.dg_model.specs.Types.{names_full_type as names_full_type_of};
 ghost use Rattle.dg_model.specs.TypeRounds.{full_type as full_type_of};
 ghost use Rattle.dg_model.specs.TypeRule.{AreOne, IsDrivers, AgreesWith, AgreeInside};
-ghost use Rattle.dg_types.specs.inner.TypedInputs.{source_types, CanRead, is_ready};
+ghost use Rattle.dg_types.specs.inner.TypeInputs.{source_types, CanRead, is_ready};
 
 use crate::linked::Source;
 use crate::typed_step::{full_type, input_at};

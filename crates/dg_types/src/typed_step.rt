@@ -9,7 +9,7 @@ ghost use Rattle.dg_model.specs.KindRow.{FullRule as FullRuleOf, IsSpec};
 ghost use Rattle.dg_model.specs.Library.{row_of};
 ghost use Rattle.dg_model.specs.Periods.{known_at};
 ghost use Rattle.dg_model.specs.TypeRounds.{with_known, specified_type, stepped as stepped_of, sum_named as sum_named_of, full_type as full_type_of, internal_type as internal_type_of, own_type as own_type_of, taken_type as taken_type_of};
-ghost use Rattle.dg_types.specs.inner.TypedInputs.{source_types, IsKnownValid, CanRead, is_ready, is_full_ready, paired_of};
+ghost use Rattle.dg_types.specs.inner.TypeInputs.{source_types, IsKnownValid, CanRead, is_ready, is_full_ready, paired_of};
 
 use crate::linked::Source;
 use crate::typed_param::param_type;

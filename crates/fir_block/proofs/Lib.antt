@@ -1,4 +1,4 @@
-mod Counting
-mod Leaving
+mod Counts
 mod Names
 mod Readable
+mod Remainder

@@ -9,7 +9,7 @@ use Rattle.fx_type.specs.declared.decimal.Decimal.{Decimal}
 use Rattle.fir_block.specs.declared.filter.Fir.{Fir}
 use Rattle.fir_block.specs.declared.filter.FirBlock.{FirBlock}
 use Rattle.fir_block.specs.Expanded.{IsFir, blocks_of, numbered, delay_block, delay_blocks, gain_block, gain_blocks, sum_block, port_block}
-use Rattle.fir_block.proofs.Counting.{ends, gains_long}
+use Rattle.fir_block.proofs.Counts.{ends, gains_long}
 use Rattle.fir_block.proofs.Readable.{one, none}
 
 -- ---- names that begin with another letter

@@ -11,7 +11,7 @@ use Rattle.fir_block.specs.declared.filter.Fir.{Fir}
 use Rattle.fir_block.specs.declared.filter.FirBlock.{FirBlock}
 use Rattle.fir_block.specs.Expanded.{blocks_of, delay_block, delay_blocks, gain_block, gain_blocks, sum_block, port_block}
 use Rattle.fir_block.specs.Laws.{AreSound, IsReadableFir}
-use Rattle.fir_block.proofs.Counting.{ends}
+use Rattle.fir_block.proofs.Counts.{ends}
 
 abbrev pub Reads : FirBlock → Type 0
 Reads inner = IsReadable inner.block

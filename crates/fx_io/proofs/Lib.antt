@@ -1,2 +1,2 @@
 pub mod FaultLines
-pub mod Taken
+pub mod SinkBytes

@@ -24,7 +24,7 @@ pub struct Text {
 
 impl Model for Text {
     ghost use Rattle.std.specs.Prelude.{List, ℕ};
-    ghost use Rattle.fx_io.specs.inner.Held.{held_bytes, IsHeld};
+    ghost use Rattle.fx_io.specs.inner.Bytes.{held_bytes, IsHeld};
 
     ghost Value = { List ℕ };
 

@@ -1,1 +1,1 @@
-mod Ended
+mod ProgramEnd

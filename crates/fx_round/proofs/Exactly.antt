@@ -13,11 +13,11 @@ use Rattle.fx_type.specs.Conversion.{IsEven, Rounds, Saturates, Settles, IsTruth
 use Rattle.fx_round.specs.declared.split.Part.{Part}
 use Rattle.fx_round.specs.declared.split.Part.TheVariants.{Whole, BelowHalf, Half, AboveHalf}
 use Rattle.fx_round.specs.Laws.{RoundingGivesOne, ConversionGivesOne, StoringGivesOne}
-use Rattle.fx_round.specs.inner.Split.{IsPart, IsSplit, takes_upper}
+use Rattle.fx_round.specs.inner.Parts.{IsPart, IsSplit, takes_upper}
 use Rattle.fx_round.proofs.Orders.{rounding_monotone, word_only, word_width}
-use Rattle.fx_round.proofs.Rounding.{rounds_upper, rounds_lower}
+use Rattle.fx_round.proofs.Modes.{rounds_upper, rounds_lower}
 use Rattle.fx_round.proofs.Sizes.{ten_positive}
-use Rattle.fx_type.proofs.Stored.{saturates_only}
+use Rattle.fx_type.proofs.Decimals.{saturates_only}
 
 -- ---- at most one
 rounds_one : (mode : Rounding) (n : ℤ) (d : ℕ) (r s : ℤ) → 0 < d → Rounds mode n d r → Rounds mode n d s → r ≡ s

@@ -1,13 +1,13 @@
-pub mod Biased
+pub mod Bias
+mod ByWord
 pub mod Congruence
-mod Converting
+mod ConversionSteps
+mod Digits
 mod Exactly
 mod Halves
+mod Modes
 mod NumeralForms
 mod Orders
-mod Reading
-mod Rounding
 mod Shifts
 mod Sizes
-mod Widening
-mod Worded
+mod UpShifts

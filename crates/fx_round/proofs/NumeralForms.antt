@@ -9,10 +9,10 @@ use Rattle.std.proofs.lemmas.Bool.Decides.{nat_tests}
 use Rattle.std.proofs.lemmas.List.Folds.{list_all-append}
 use Rattle.fx_type.specs.declared.decimal.Decimal.{Decimal}
 use Rattle.fx_round.specs.DecimalText.{AreDigits, IsSign, signed, IsFraction, IsExponent, IsNumeral, IsShort, IsDecimalOf, IsLong}
-use Rattle.fx_round.specs.inner.DecimalReading.{front_digits, after_digits, is_minus, after_sign, fraction_digits, after_fraction, one_or_two, signed_some, exponent_of, whole_digits, fraction_of, all_digits, Explains}
+use Rattle.fx_round.specs.inner.PlainDecimals.{front_digits, after_digits, is_minus, after_sign, fraction_digits, after_fraction, one_or_two, signed_some, exponent_of, whole_digits, fraction_of, all_digits, Explains}
 use Rattle.fx_round.specs.declared.decimal.DecimalFault.{DecimalFault}
 use Rattle.fx_round.specs.declared.decimal.DecimalFault.TheVariants.{NotANumber, TooLong}
-use Rattle.fx_round.proofs.Reading.{digit_is}
+use Rattle.fx_round.proofs.Digits.{digit_is}
 
 value_append : (n : ℕ) (front back : List ℕ) → digits_value_after 10 n (front ++ back) ≡ digits_value_after 10 (digits_value_after 10 n front) back
 value_append n [] back = refl

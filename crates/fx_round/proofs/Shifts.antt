@@ -6,7 +6,7 @@ use Rattle.std.proofs.lemmas.Int.{ints}
 use Rattle.std.proofs.lemmas.Nat.{and_mask, pow-add, mod_low, shr_below}
 use Rattle.std.proofs.lemmas.Bool.{cases_lt}
 use Rattle.fx_round.specs.declared.split.Part.TheVariants.{BelowHalf, Half, AboveHalf}
-use Rattle.fx_round.specs.inner.Split.{IsSplit}
+use Rattle.fx_round.specs.inner.Parts.{IsSplit}
 
 -- 2 to the power 128 is a multiple of every lower power
 pub whole_turns : (by : ℕ) → by ≤ 128 → 2 ^ (128 - by) * 2 ^ by ≡ 340282366920938463463374607431768211456

@@ -14,9 +14,9 @@ use Rattle.fx_type.specs.Conversion.{Saturates, StoresQuotient}
 use Rattle.fx_round.specs.declared.split.Part.{Part}
 use Rattle.fx_round.specs.declared.split.Part.TheVariants.{Whole, BelowHalf, Half, AboveHalf}
 use Rattle.fx_round.specs.declared.split.Split.{Split}
-use Rattle.fx_round.specs.inner.Split.{IsPart, IsSplit, IsMagnitude, IsSize}
+use Rattle.fx_round.specs.inner.Parts.{IsPart, IsSplit, IsMagnitude, IsSize}
 use Rattle.math_num.proofs.Arithmetic.{add-scaled, scaled-neg}
-use Rattle.fx_round.proofs.Rounding.{ties_up_low, ties_up_high}
+use Rattle.fx_round.proofs.Modes.{ties_up_low, ties_up_high}
 
 -- ---- doubling
 pub double_step : (n k k' i : ℕ) → k ≡ n * 2 ^ i → k' ≡ 2 * k → k' ≡ n * 2 ^ (i + 1)

@@ -1,4 +1,4 @@
 -- Definitions that only private contracts cite.
-pub mod DecimalReading
 pub mod Narrow
-pub mod Split
+pub mod Parts
+pub mod PlainDecimals

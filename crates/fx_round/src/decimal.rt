@@ -4,7 +4,7 @@ ghost use Rattle.std.specs.List.{AllPass};
 ghost use Rattle.std.specs.Char.{is_ascii_digit};
 ghost use Rattle.std.specs.Str.Parse.{digits_value_after};
 ghost use Rattle.fx_round.specs.DecimalText.{signed, IsShort, IsDecimalOf, IsDecimal, IsDecimalText, IsLong};
-ghost use Rattle.fx_round.specs.inner.DecimalReading.{front_digits, after_digits, is_minus, after_sign, fraction_digits, after_fraction, one_or_two, signed_some, exponent_of, Explains};
+ghost use Rattle.fx_round.specs.inner.PlainDecimals.{front_digits, after_digits, is_minus, after_sign, fraction_digits, after_fraction, one_or_two, signed_some, exponent_of, Explains};
 
 use fx_type::Decimal;
 

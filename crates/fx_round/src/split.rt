@@ -2,7 +2,7 @@
 ghost use Rattle.std.specs.Prelude.{◌≡◌, ℕ, ◌+◌, ◌*◌, ◌^◌, ◌<◌, ◌≤◌, ◌-◌, ℤ, pos, ◌<ℤ◌};
 ghost use Rattle.fx_type.specs.Conversion.{Rounds, RoundsTiesUp};
 ghost use Rattle.fx_round.specs.declared.split.Part.{Part};
-ghost use Rattle.fx_round.specs.inner.Split.{IsPart, IsSplit, takes_upper as takes_upper_of};
+ghost use Rattle.fx_round.specs.inner.Parts.{IsPart, IsSplit, takes_upper as takes_upper_of};
 
 use fx_type::Rounding;
 

@@ -4,7 +4,7 @@ ghost use Rattle.std.specs.Int.{int_gap};
 ghost use Rattle.fx_type.specs.declared.rounding.Rounding.TheVariants.{Nearest};
 ghost use Rattle.fx_type.specs.FxType.{IsType};
 ghost use Rattle.fx_type.specs.Conversion.{StoresQuotient, Stores, signed_digits};
-ghost use Rattle.fx_round.specs.inner.Split.{IsPart, IsSplit, IsSize, IsMagnitude, mixed_count};
+ghost use Rattle.fx_round.specs.inner.Parts.{IsPart, IsSplit, IsSize, IsMagnitude, mixed_count};
 
 use crate::settle::nearest_in_type;
 use crate::split::{Part, Split, part_of, rounded_value};

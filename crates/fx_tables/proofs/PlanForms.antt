@@ -14,7 +14,7 @@ use Rattle.fx_text.specs.Digits.{is_number}
 use Rattle.fx_text.specs.Strings.{string_behind}
 use Rattle.fx_text.proofs.FormLemmas.{read_form, form_read}
 use Rattle.fx_tables.specs.Fields.{is_blank, after_blanks, fields_of}
-use Rattle.fx_tables.specs.inner.PlanReading.{sole_number, cycles_entry, multipliers_entry, pipelined_entry, counted_entry, pipeline_entry, words_entry, entry_of}
+use Rattle.fx_tables.specs.inner.PlainPlan.{sole_number, cycles_entry, multipliers_entry, pipelined_entry, counted_entry, pipeline_entry, words_entry, entry_of}
 use Rattle.fx_tables.specs.PlanLines.{AreBlanks, IsCount, IsPipelineLine, IsSetting, Says}
 use Rattle.fx_tables.specs.declared.entry.PlanEntry.{PlanEntry}
 use Rattle.fx_tables.specs.declared.entry.PlanEntry.TheVariants.{Passed, Cycles, Multipliers, Pipelined}

@@ -3,7 +3,7 @@ use Rattle.std.proofs.Common.{◌≡◌, ℕ, ◌+◌, true, false, None, Some, 
 use Rattle.std.specs.List.{filter_map, cons_option}
 use Rattle.std.specs.Option.{option_to_list}
 use Rattle.std.proofs.lemmas.Bool.{cond-true, cond-false}
-use Rattle.fx_tables.specs.inner.PlanReading.{entry_of, is_bad_entry, entries_fault}
+use Rattle.fx_tables.specs.inner.PlainPlan.{entry_of, is_bad_entry, entries_fault}
 use Rattle.fx_tables.specs.declared.entry.PlanEntry.{PlanEntry}
 use Rattle.fx_tables.specs.declared.table.TableFault.TheVariants.{Bad}
 use Rattle.fx_tables.specs.declared.table.TableCause.TheVariants.{PlanLine}

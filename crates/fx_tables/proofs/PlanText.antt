@@ -7,7 +7,7 @@ use Rattle.std.proofs.lemmas.Bool.{true≢false}
 use Rattle.dg_model.specs.declared.plan.Plan.{Plan}
 use Rattle.fx_tables.specs.Plan.{is_repeated, SayEach, AreOnce, IsPlan, IsPlanFault}
 use Rattle.fx_tables.specs.PlanLines.{Says}
-use Rattle.fx_tables.specs.inner.PlanReading.{entry_of, is_bad_entry, entries_fault, plan_fault, ReadsPlan}
+use Rattle.fx_tables.specs.inner.PlainPlan.{entry_of, is_bad_entry, entries_fault, plan_fault, ReadsPlan}
 use Rattle.fx_tables.specs.declared.entry.PlanEntry.{PlanEntry}
 use Rattle.fx_tables.specs.declared.table.TableFault.{TableFault}
 use Rattle.fx_tables.specs.declared.table.TableFault.TheVariants.{Bad}

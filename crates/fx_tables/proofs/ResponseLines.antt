@@ -4,7 +4,7 @@ use Rattle.std.proofs.Math.Numerals.{suc-eq-add-one}
 use Rattle.std.proofs.lemmas.Bool.{cases_lt}
 use Rattle.fx_io.specs.Sink.{TookProperPrefix, also_took}
 use Rattle.fx_tables.specs.Response.{response, response_line}
-use Rattle.fx_io.proofs.Taken.{took-split}
+use Rattle.fx_io.proofs.SinkBytes.{took-split}
 
 module _ (periods : List ℕ) (row : ℕ → List ℤ) where
   pub one-line-more : (t : ℕ) → response periods row t ++ response_line periods t (row t) ≡ response periods row (t + 1)

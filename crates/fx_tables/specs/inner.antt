@@ -1,4 +1,4 @@
 pub mod Digits
 pub mod Draft
 pub mod Number
-pub mod PlanReading
+pub mod PlainPlan

@@ -3,7 +3,7 @@ ghost use Rattle.std.specs.Bool.{OnTrue};
 ghost use Rattle.std.specs.List.{filter_map};
 ghost use Rattle.std.specs.Option.{option_to_list};
 ghost use Rattle.fx_tables.specs.Plan.{cycles_of, multipliers_of, pipeline_of, is_repeated};
-ghost use Rattle.fx_tables.specs.inner.PlanReading.{entry_of, is_bad_entry};
+ghost use Rattle.fx_tables.specs.inner.PlainPlan.{entry_of, is_bad_entry};
 ghost use Rattle.fx_tables.specs.inner.Draft.{Describes, IsDraftInRange, IsEntryInRange};
 ghost use Rattle.dg_model.specs.PlanRange.{IsPlanInRange};
 ghost use Rattle.fx_tables.specs.declared.entry.PlanEntry.{PlanEntry};

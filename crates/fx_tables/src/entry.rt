@@ -1,7 +1,7 @@
 ghost use Rattle.std.specs.Prelude.{◌≡◌, ◌<◌, ◌≤◌, ◌∷◌, [], length, IfOk, IfSome, slice_index, if◌then◌else◌};
 ghost use Rattle.fx_tables.specs.Fields.{is_blank, after_blanks, fields_of};
 ghost use Rattle.fx_tables.specs.inner.Draft.{IsEntryInRange};
-ghost use Rattle.fx_tables.specs.inner.PlanReading.{entry_of, sole_number, pipeline_entry, pipelined_entry};
+ghost use Rattle.fx_tables.specs.inner.PlainPlan.{entry_of, sole_number, pipeline_entry, pipelined_entry};
 
 use crate::cut::{cut_field, skip_blanks};
 use dg_model::Pipeline;

@@ -15,7 +15,7 @@ use Rattle.mdl_values.specs.Words.{value_beside}
 use Rattle.fx_top.specs.declared.task.Task.{Task}
 use Rattle.fx_top.specs.declared.task.Task.TheVariants as task
 use Rattle.fx_top.specs.Command.{Asked, Command, OfFiles, Generate, Replay, Simulate, Explore, Check, Stream, asked_of, explored, model_of, plan_word, verilog_of, first_of}
-use Rattle.fx_top.specs.inner.Named.{over_files}
+use Rattle.fx_top.specs.inner.FileCommands.{over_files}
 use Rattle.fx_top.specs.inner.Tasks.{IsTask}
 use Rattle.cmd_model.specs.Model.{IsModelOf, IsBrokenModel, IsAccepted}
 use Rattle.fx_top.specs.Outcome.{Yields, IsBadFor}

@@ -1,13 +1,13 @@
 pub mod Checks
 pub mod Commands
-pub mod Planning
+pub mod FetchFaults
+pub mod Plans
 pub mod Refusals
-pub mod Running
 pub mod SampleOutputs
 pub mod Samples
 pub mod Sayings
+pub mod ShelfFacts
 pub mod Simulations
+pub mod Status
 pub mod Tasks
-pub mod Told
-pub mod Unfetched
 pub mod Unsteady

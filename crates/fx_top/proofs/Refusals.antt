@@ -10,7 +10,7 @@ use Rattle.fx_top.specs.Cause.{AreFetched, BreaksCondition, BreaksSomeRule, HasB
 use Rattle.fx_top.specs.Caused.{HasCause, HasWritten}
 use Rattle.fx_top.specs.Command.{Command}
 use Rattle.fx_top.specs.Output.{IsOutput}
-use Rattle.fx_top.specs.inner.Refusing.{answer_to}
+use Rattle.fx_top.specs.inner.Refusals.{answer_to}
 use Rattle.fx_top.specs.inner.Tasks.{IsDone}
 
 -- what a fault says of a command over files of these names

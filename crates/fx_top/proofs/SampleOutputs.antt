@@ -18,7 +18,7 @@ use Rattle.cmd_design.specs.Design.{IsDesignOf}
 use Rattle.fx_top.specs.Summarized.{IsMade, IsSampleResponse, IsSummaryOf, latency_of_output}
 use Rattle.cmd_generate.specs.Generated.{SpellsAlone}
 use Rattle.cmd_generate.specs.Generating.{IsWrittenOf}
-use Rattle.fx_top.specs.inner.Sampling.{IsOwed}
+use Rattle.fx_top.specs.inner.SampleFaults.{IsOwed}
 use Rattle.hw_module.specs.Design.{IsModuleOf}
 use Rattle.hw_rules.specs.declared.times.Times.{Times}
 use Rattle.hw_rules.specs.Times.{timing_in}

@@ -26,7 +26,7 @@ use Rattle.cmd_generate.specs.Generated.{CanBeDesigned, IsWithoutDesign}
 use Rattle.fx_top.specs.Sampled.{HasSampleCause, HasSampleWritten, IfSample, IsCompleteSample, IsDueSample}
 use Rattle.fx_top.specs.Simulated.{CanBeSimulated}
 use Rattle.fx_top.specs.Summarized.{IsSummaryOf, IsSummed, TellsSampleRule}
-use Rattle.fx_top.proofs.Running.{carried}
+use Rattle.fx_top.proofs.Status.{carried}
 
 -- what was written by some bytes that the bench tells
 pub written-summed : (MayTell : List ℕ → List ℕ → List ℕ → Type 0) (number : ℕ) (told : List ℕ) (out : Stream) (answer : Answer) → HasSampleWritten (IsSummaryOf MayTell number told) out answer → HasSampleWritten (IsSummed MayTell number) out answer

@@ -6,7 +6,7 @@ use Rattle.fx_io.specs.Cause.{Rose}
 use Rattle.std.specs.List.{flat_map}
 use Rattle.fx_top.specs.Call.{Said, Stream}
 use Rattle.fx_top.specs.Messages.{names_end}
-use Rattle.fx_io.proofs.Taken.{also_took-append}
+use Rattle.fx_io.proofs.SinkBytes.{also_took-append}
 
 -- what was said of one piece
 pub said-alone : {stream : Stream} (bytes text : List ℕ) → bytes ≡ text → Said stream (bytes ++ []) → Said stream text

@@ -21,12 +21,12 @@ use Rattle.fx_top.specs.Output.{IsOutput, IsPlanText}
 use Rattle.fx_top.specs.Simulated.{IsBadSimulation}
 use Rattle.cmd_generate.specs.Streamed.{TellsStreamRule}
 use Rattle.cmd_generate.specs.Generating.{IsModuleFor, IsTextOf}
-use Rattle.fx_top.specs.inner.Refusing.{IsDesignFault, IsReplayFault, OfModel, answer_to}
+use Rattle.fx_top.specs.inner.Refusals.{IsDesignFault, IsReplayFault, OfModel, answer_to}
 use Rattle.fx_top.specs.inner.Tasks.{IsDone, IsFaultOf, IsPut, Makes, command_of, table_word}
 use Rattle.vl_ast.specs.declared.modules.Module.{Module}
-use Rattle.fx_top.proofs.Planning.{fetched-planned, plan-bad, plan-rule, stream-rule}
+use Rattle.fx_top.proofs.Plans.{fetched-planned, plan-bad, plan-rule, stream-rule}
 use Rattle.fx_top.proofs.Refusals.{Blames, done-caused, done-written}
-use Rattle.fx_top.proofs.Told.{reads-plan}
+use Rattle.fx_top.proofs.ShelfFacts.{reads-plan}
 
 -- a text that is made, by how it was put
 pub put-text : (Made : List ℕ → Type 0) (out : Stream) (text : List ℕ) → Made text → (put : Result ⊤ PutFault) → OnOk put (out.now ≡ also_took out.before text) → OnErr put (TookProperPrefix out.before out.now text) → OnErr put out.failed → IsPut Made out put

@@ -7,7 +7,7 @@ use Rattle.fx_top.specs.Outcome.{CanBeDone, CanDesign, CanStream, IsBadFor, Tell
 use Rattle.fx_top.specs.Output.{IsOfFiles, IsOutput}
 use Rattle.cmd_generate.specs.Streamed.{IsStreamedOf, IsWithoutStream, TellsStreamRule}
 use Rattle.fx_top.proofs.Commands.{IsGood}
-use Rattle.fx_top.proofs.Told.{HasDesign, design-good, design-is, design-planned, has-design, stream-design, told-is, told-plan}
+use Rattle.fx_top.proofs.ShelfFacts.{HasDesign, design-good, design-is, design-planned, has-design, stream-design, told-is, told-plan}
 
 -- where no rule of ports is broken there can be a design
 pub designable : {files : Files} {model : List ℕ} {plan : PlanWord} → CanStream files model plan → CanDesign files model plan

@@ -1,5 +1,5 @@
-pub mod Fetching
-pub mod Named
-pub mod Refusing
-pub mod Sampling
+pub mod Fetch
+pub mod FileCommands
+pub mod Refusals
+pub mod SampleFaults
 pub mod Tasks

@@ -1,6 +1,6 @@
 ghost use Rattle.fx_top.specs.Call.{stream_in};
 ghost use Rattle.fx_top.specs.CheckedText.{IsCheckOf};
-ghost use Rattle.fx_top.specs.inner.Refusing.{IsDesignFault};
+ghost use Rattle.fx_top.specs.inner.Refusals.{IsDesignFault};
 ghost use Rattle.fx_top.specs.inner.Tasks.{IsDone};
 
 use crate::fault::{Done, Fault, of_design};

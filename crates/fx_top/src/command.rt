@@ -1,7 +1,7 @@
 ghost use Rattle.std.specs.Prelude.{◌≡◌, ◌∷◌, [], ℕ, IfSome, List, map, string_bytes};
 ghost use Rattle.std.specs.Option.{option_map};
 ghost use Rattle.fx_top.specs.Command.{asked_of, number_of as number_of_word};
-ghost use Rattle.fx_top.specs.inner.Named.{HasRange, named, over_files};
+ghost use Rattle.fx_top.specs.inner.FileCommands.{HasRange, named, over_files};
 ghost use Rattle.fx_top.specs.inner.Tasks.{IsTask};
 
 use crate::task::Task;

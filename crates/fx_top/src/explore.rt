@@ -1,7 +1,7 @@
 ghost use Rattle.std.specs.Prelude.{IfErr, IfOk};
 ghost use Rattle.fx_top.specs.Call.{stream_in};
 ghost use Rattle.fx_top.specs.Explored.{IsExplorationOf};
-ghost use Rattle.fx_top.specs.inner.Refusing.{IsModelFault};
+ghost use Rattle.fx_top.specs.inner.Refusals.{IsModelFault};
 ghost use Rattle.fx_top.specs.inner.Tasks.{IsDone};
 ghost use Rattle.cmd_design.specs.Refused.{IsRefusedModel};
 ghost use Rattle.hw_explore.specs.Range.{IsRange};

@@ -6,7 +6,7 @@ ghost use Rattle.cmd_generate.specs.Streaming.{IsRefusedStream};
 ghost use Rattle.cmd_model.specs.Model.{IsModelOf};
 ghost use Rattle.cmd_replay.specs.Responding.{IsRefusedReplay};
 ghost use Rattle.cmd_simulate.specs.Simulating.{IsStimulusFault};
-ghost use Rattle.fx_top.specs.inner.Refusing.{IsDesignFault, IsModelFault, IsReplayFault, IsSimulationFault, IsStreamFault, answer_to};
+ghost use Rattle.fx_top.specs.inner.Refusals.{IsDesignFault, IsModelFault, IsReplayFault, IsSimulationFault, IsStreamFault, answer_to};
 
 use crate::answer::Answer;
 use cmd_design::{DesignFault, ModelRefusal};

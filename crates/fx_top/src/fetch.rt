@@ -2,7 +2,7 @@ ghost use Rattle.std.specs.Prelude.{◌≡◌, ◌≤◌, IfOk, IfErr};
 ghost use Rattle.fx_io.specs.Shelf.{Fetched};
 ghost use Rattle.fx_top.specs.Call.{file_limit, files_in};
 ghost use Rattle.fx_top.specs.Output.{IsPlanText};
-ghost use Rattle.fx_top.specs.inner.Fetching.{IsFetchAnswer, IsPairAnswer};
+ghost use Rattle.fx_top.specs.inner.Fetch.{IsFetchAnswer, IsPairAnswer};
 ghost use Rattle.fx_top.specs.inner.Tasks.{word_of};
 
 use crate::answer::Answer;

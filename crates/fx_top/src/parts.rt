@@ -5,7 +5,7 @@ ghost use Rattle.fx_top.specs.Call.{stream_in};
 ghost use Rattle.cmd_generate.specs.Generated.{IsVerilogOf};
 ghost use Rattle.cmd_generate.specs.Streamed.{IsStreamedOf};
 ghost use Rattle.cmd_generate.specs.Generating.{IsVerilogModule};
-ghost use Rattle.fx_top.specs.inner.Refusing.{IsDesignFault, IsStreamFault};
+ghost use Rattle.fx_top.specs.inner.Refusals.{IsDesignFault, IsStreamFault};
 ghost use Rattle.cmd_generate.specs.Streaming.{IsStreamModule};
 ghost use Rattle.fx_top.specs.inner.Tasks.{IsDone};
 ghost use Rattle.vl_ast.specs.Grammar.{Spells};

@@ -2,7 +2,7 @@
 ghost use Rattle.cmd_replay.specs.Replayed.{IsReplayOf};
 ghost use Rattle.fx_top.specs.Call.{stream_in};
 ghost use Rattle.fx_top.specs.Simulated.{IsSimulationOf};
-ghost use Rattle.fx_top.specs.inner.Refusing.{IsReplayFault, IsSimulationFault};
+ghost use Rattle.fx_top.specs.inner.Refusals.{IsReplayFault, IsSimulationFault};
 ghost use Rattle.fx_top.specs.inner.Tasks.{IsDone};
 
 use crate::fault::{Done, of_model, of_replay, of_stimulus};

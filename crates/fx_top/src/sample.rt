@@ -9,7 +9,7 @@ ghost use Rattle.fx_top.specs.Call.{stream_in};
 ghost use Rattle.fx_top.specs.Sampled.{EndsSample, HasSampleCause, HasSampleWritten};
 ghost use Rattle.fx_top.specs.Summarized.{IsSampleResponse, IsSummaryOf, latency_of_output};
 ghost use Rattle.cmd_generate.specs.Generating.{IsPlanOn};
-ghost use Rattle.fx_top.specs.inner.Sampling.{AreOutputs, IsOwed, IsSampleFault};
+ghost use Rattle.fx_top.specs.inner.SampleFaults.{AreOutputs, IsOwed, IsSampleFault};
 ghost use Rattle.hw_rules.specs.Times.{AreTimes, timing_in};
 
 use crate::answer::Answer;

@@ -11,7 +11,7 @@ use Rattle.hw_arcs.specs.Found.{AreKnown, IsIn}
 use Rattle.hw_arcs.specs.inner.Walk.{AreGiven, IsChain, IsWay, IsWalked, IsOut}
 use Rattle.math_list.proofs.Places.{get_left, last_at, push_cases}
 use Rattle.hw_arcs.proofs.Counts.{one_if}
-use Rattle.hw_arcs.proofs.Moving.{set_moves}
+use Rattle.hw_arcs.proofs.Moves.{set_moves}
 use Rattle.hw_arcs.proofs.Chains.{chain_joins}
 
 -- the blocks before one were met, and no others

@@ -5,7 +5,7 @@ use Rattle.std.proofs.lemmas.Bool.{cases_eq, cases_lt}
 use Rattle.std.proofs.lemmas.List.{get_or_past}
 use Rattle.hw_arcs.specs.declared.arc.Arc.{Arc}
 use Rattle.hw_arcs.specs.Latencies.{latency_at, IsFeasible, IsLeast}
-use Rattle.hw_arcs.proofs.Moving.{set_moves}
+use Rattle.hw_arcs.proofs.Moves.{set_moves}
 
 pub zero_there : (arcs : List Arc) (lat : List ℕ) (block : ℕ) → IsLeast arcs lat → ((number : ℕ) (arc : Arc) → slice_get arcs number ≡ Some arc → arc.counts ≡ true → arc.to ≡ block → ⊥) → latency_at lat block ≡ 0
 zero_there arcs lat block least none = ⊎_elim

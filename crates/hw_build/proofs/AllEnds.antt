@@ -23,10 +23,10 @@ use Rattle.hw_build.specs.declared.asks.Asks.{Asks}
 use Rattle.hw_build.specs.declared.operands.Span.{Span}
 use Rattle.hw_build.specs.declared.wants.Want.{Want}
 use Rattle.hw_build.specs.inner.EndAsks.{IsAskAt, edge_wants, IsEndPut, IsEndAt, AreEnds, AreEndsFor, control_edge, controls_left, lines_left, IsSpan, IsLinePut, IsControlEnd, IsControlPut}
-use Rattle.hw_build.specs.inner.Seeking.{IsNumber, AsksGrow}
+use Rattle.hw_build.specs.inner.EndSearch.{IsNumber, AsksGrow}
 use Rattle.hw_build.specs.inner.Wants.{AreWants}
-use Rattle.hw_build.proofs.Gathered.{ask_stays}
-use Rattle.hw_build.proofs.Searching.{line_into_is}
+use Rattle.hw_build.proofs.AskLists.{ask_stays}
+use Rattle.hw_build.proofs.LineSearch.{line_into_is}
 
 module _ (diagram : Diagram) (plan : Resolved) (times : Times) (firsts : List (List ℕ)) where
   -- ---- one end

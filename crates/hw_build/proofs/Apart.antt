@@ -12,7 +12,7 @@ use Rattle.dg_model.specs.Solves.{IsShown, shown_ports, shown_width}
 use Rattle.dg_tables.specs.Laws.{IsOrdered, TypesAreValid}
 use Rattle.hw_net.specs.Circuit.{Circuit}
 use Rattle.hw_build.specs.inner.HubPlaces.{before, is_input_role, own_hubs, port_size, owner_in, hub_at, HasHubs}
-use Rattle.hw_build.proofs.Beginning.{owner_is, place_other, place_input}
+use Rattle.hw_build.proofs.HubsOnly.{owner_is, place_other, place_input}
 use Rattle.std.proofs.lemmas.Bool.{cases_Bool}
 
 module _ (diagram : Diagram) (order : List ℕ) (earlier later : Circuit) (firsts : List (List ℕ)) (has : HasHubs diagram earlier later firsts) (listed : InputsAreListed) (valid : TypesAreValid) (ordered : IsOrdered diagram order) where

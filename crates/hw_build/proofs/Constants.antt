@@ -14,7 +14,7 @@ use Rattle.hw_net.specs.declared.netlist.NetOp.TheVariants.{Const}
 use Rattle.hw_net.specs.Circuit.{Circuit}
 use Rattle.hw_net.specs.Frames.{is_register, register_count}
 use Rattle.hw_net.specs.Growing.{Extends, with_net}
-use Rattle.hw_net.proofs.Growing.{longer, still-there, stood-there, appends-self, appends-one, appends-trans, differ-other, count-append, IsNamed}
+use Rattle.hw_net.proofs.Growth.{longer, still-there, stood-there, appends-self, appends-one, appends-trans, differ-other, count-append, IsNamed}
 use Rattle.math_list.proofs.Places.{last_at, split-last, get_right}
 use Rattle.hw_build.specs.inner.Factors.{AddsConstants, IsCoefficient, constant_net}
 use Rattle.fx_type.proofs.Ranges.{type-word}

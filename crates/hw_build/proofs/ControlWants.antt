@@ -33,13 +33,13 @@ use Rattle.hw_build.specs.inner.Asks.{IsEndWant}
 use Rattle.hw_build.specs.inner.EndAsks.{IsLawful, want_for, hub_for, control_edge, IsEndPut, IsControlEnd, IsControlPut}
 use Rattle.hw_build.specs.inner.HubPlaces.{hub_at}
 use Rattle.hw_build.specs.inner.Lines.{frame_behind}
-use Rattle.hw_build.specs.inner.Seeking.{unasked, hub_from, plain_want, AsksAll}
+use Rattle.hw_build.specs.inner.EndSearch.{unasked, hub_from, plain_want, AsksAll}
 use Rattle.hw_build.proofs.Ends.{end, own_some}
-use Rattle.hw_lines.proofs.Ended.{part-below}
-use Rattle.hw_build.proofs.Lined.{slack_is, plain_hub}
-use Rattle.hw_build.proofs.Putting.{no_places, timing, seen_by, wants_are, count_is, still_put, IsElement, moving_put, uses_are, use_is}
+use Rattle.hw_lines.proofs.LineEnds.{part-below}
+use Rattle.hw_build.proofs.LineAsks.{slack_is, plain_hub}
+use Rattle.hw_build.proofs.EndAsks.{no_places, timing, seen_by, wants_are, count_is, still_put, IsElement, moving_put, uses_are, use_is}
 use Rattle.hw_build.proofs.Sources.{IsControlOf, control_is, control_shown, enabled_show, repeated_own}
-use Rattle.hw_build.proofs.Wanting.{end_may_ask}
+use Rattle.hw_build.proofs.WantFacts.{end_may_ask}
 
 asked_control : (asks : Bool) (enable : Option ℕ) (control : ℕ) → cond asks enable None ≡ Some control → (enable ≡ Some control) × (asks ≡ true)
 asked_control true enable control e = (e, refl)

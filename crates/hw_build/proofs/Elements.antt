@@ -20,7 +20,7 @@ use Rattle.hw_shows.specs.Series.{span_at, IsProductAt}
 use Rattle.hw_shows.specs.Waves.{IsCarriedOut, IsServed}
 use Rattle.hw_build.specs.Places.{Places, waves_of}
 use Rattle.hw_build.specs.inner.Growth.{GoesOn, InLater}
-use Rattle.hw_build.specs.inner.Lowering.{IsLoweredIn, offered_args, operation_at, conversion_of}
+use Rattle.hw_build.specs.inner.OperationNets.{IsLoweredIn, offered_args, operation_at, conversion_of}
 use Rattle.hw_build.proofs.Growth.{goes_appended, in_call, word_later}
 use Rattle.hw_build.proofs.Words.{in_ranges}
 

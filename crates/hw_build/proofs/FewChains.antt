@@ -19,11 +19,11 @@ use Rattle.hw_build.specs.inner.EndAsks.{IsLawful, want_for}
 use Rattle.hw_build.specs.inner.Feeds.{is_same_feed}
 use Rattle.hw_build.specs.inner.HubPlaces.{HasHubs}
 use Rattle.hw_build.specs.inner.Wants.{source_by, uses_of_feed, AreFolded, class_registers, registers_below}
-use Rattle.hw_build.proofs.Counting.{Stands, filter_stands}
-use Rattle.hw_build.proofs.Feeding.{first_self, first_same, feed_is, feed_differs}
+use Rattle.hw_build.proofs.CounterFrames.{Stands, filter_stands}
+use Rattle.hw_build.proofs.FeedOrder.{first_self, first_same, feed_is, feed_differs}
 use Rattle.hw_build.proofs.Fewer.{asked_of, chain_registers}
 use Rattle.hw_build.proofs.FewLines.{IsRepresented, total, no_more, Every, every_none, every_first, every_more, every_filter, filter_same}
-use Rattle.hw_build.proofs.Injecting.{hubs_differ}
+use Rattle.hw_build.proofs.OwnHubs.{hubs_differ}
 use Rattle.hw_build.proofs.LineUses.{IsLineUse, every_use}
 use Rattle.math_list.proofs.Places.{map_there, get_some}
 

@@ -4,7 +4,7 @@ use Rattle.std.specs.Prelude.{slice_get}
 use Rattle.std.specs.List.{sum, flat_map}
 use Rattle.std.proofs.lemmas.Option.{none-some, same_Some}
 use Rattle.math_list.specs.Numbers.{numbers_from}
-use Rattle.hw_build.proofs.Counting.{Stands, without, still_stands}
+use Rattle.hw_build.proofs.CounterFrames.{Stands, without, still_stands}
 use Rattle.math_list.proofs.Places.{sum-cons}
 
 -- ---- sums over different representatives

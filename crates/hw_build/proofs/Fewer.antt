@@ -11,7 +11,7 @@ use Rattle.hw_lines.specs.declared.source.Use.{Use as Asked}
 use Rattle.hw_lines.specs.Chain.{reader_of, is_among, different_after, different, most_frames, is_whole as is_whole_asked, parted, parted_frames}
 use Rattle.math_list.specs.Numbers.{greatest}
 use Rattle.hw_sched.specs.Chained.{Use, distinct, is_same_use, is_whole, registers_of}
-use Rattle.hw_build.proofs.Counting.{Stands, filter_stands, without, one_less, still_stands}
+use Rattle.hw_build.proofs.CounterFrames.{Stands, filter_stands, without, one_less, still_stands}
 use Rattle.hw_net.proofs.Index.{same-self}
 
 -- ---- lists in which nothing stands twice

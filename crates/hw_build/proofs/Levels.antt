@@ -13,11 +13,11 @@ use Rattle.hw_net.specs.Circuit.{Circuit}
 use Rattle.hw_net.specs.Frames.{counted_frame, IsCounter}
 use Rattle.hw_net.specs.Netlist.{reads, reads_now, IsRanked}
 use Rattle.hw_net.specs.Growing.{Appends, MayReadNow, IsReopened, IsConnected}
-use Rattle.hw_net.proofs.Growing.{longer, stood-there}
+use Rattle.hw_net.proofs.Growth.{longer, stood-there}
 use Rattle.hw_net.specs.Growing.{IsNewReg}
 use Rattle.hw_build.specs.inner.Growth.{GoesOn}
 use Rattle.hw_build.specs.inner.Levels.{IsLevelled, level_of, net_at, level_behind}
-use Rattle.dg_tables.proofs.Laid.{set_there}
+use Rattle.dg_tables.proofs.EntryLayout.{set_there}
 
 -- what is read in the own clock is read
 reads_then : (P : ℕ → Type 0) (kind : NetKind) (i read : ℕ) → All P (reads kind) → slice_get (reads_now kind) i ≡ Some read → P read

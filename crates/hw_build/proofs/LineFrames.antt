@@ -19,17 +19,17 @@ use Rattle.hw_build.specs.declared.wants.Feed.{Feed}
 use Rattle.hw_build.specs.declared.wants.Want.{Want}
 use Rattle.hw_build.specs.inner.EndAsks.{IsLawful, want_for}
 use Rattle.hw_build.specs.inner.Feeds.{is_same_feed}
-use Rattle.hw_build.specs.inner.Framed.{IsFramed}
+use Rattle.hw_build.specs.inner.FrameCounts.{IsFramed}
 use Rattle.hw_build.specs.inner.Wants.{source_by, AreFolded}
-use Rattle.hw_build.proofs.Counting.{Stands}
+use Rattle.hw_build.proofs.CounterFrames.{Stands}
 use Rattle.hw_build.proofs.Fewer.{asked_of}
 use Rattle.hw_build.proofs.FewLines.{every_filter}
 use Rattle.math_list.proofs.Places.{map_there}
 use Rattle.hw_build.proofs.FewChains.{kept, feed_for, uses_are, filter_holds}
 use Rattle.hw_build.proofs.LineUses.{IsLineUse, every_use}
-use Rattle.hw_build.proofs.Feeding.{feed_same}
+use Rattle.hw_build.proofs.FeedOrder.{feed_same}
 use Rattle.math_list.proofs.Tests.{none_of}
-use Rattle.hw_build.proofs.Putting.{timing}
+use Rattle.hw_build.proofs.EndAsks.{timing}
 
 -- ---- where things stand
 

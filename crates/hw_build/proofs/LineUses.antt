@@ -26,10 +26,10 @@ use Rattle.hw_build.specs.inner.Operands.{first_at}
 use Rattle.hw_build.specs.inner.EndAsks.{IsLawful, control_edge}
 use Rattle.hw_build.proofs.ControlWants.{control_feeds, control_moves, control_frame}
 use Rattle.hw_build.proofs.FewLines.{Every, every_none, every_append, every_map, every_flat, numbers_below}
-use Rattle.hw_build.proofs.PutLine.{asked, late_facts, late_serves, plain_frame}
-use Rattle.hw_build.proofs.Putting.{timing, use_is}
-use Rattle.hw_build.proofs.Searching.{line_into_is}
-use Rattle.hw_build.proofs.Storing.{first_is_initial}
+use Rattle.hw_build.proofs.LineEnds.{asked, late_facts, late_serves, plain_frame}
+use Rattle.hw_build.proofs.EndAsks.{timing, use_is}
+use Rattle.hw_build.proofs.LineSearch.{line_into_is}
+use Rattle.hw_build.proofs.FirstValues.{first_is_initial}
 use Rattle.hw_build.proofs.Sources.{source_is, source_element, control_is, output_element}
 
 some_shown : (n : ℕ) → (n == 0) ≡ false → 1 ≤ n

@@ -12,7 +12,7 @@ use Rattle.hw_shows.specs.Series.{IsLineInto, IsOffered}
 use Rattle.hw_build.specs.inner.Growth.{InLater}
 use Rattle.hw_build.specs.inner.Lines.{frame_behind, shift_into, use_into}
 use Rattle.hw_build.proofs.Growth.{in_call}
-use Rattle.hw_lines.proofs.Ended.{part-below}
+use Rattle.hw_lines.proofs.LineEnds.{part-below}
 
 -- the frame of a reader as a chain has it, and as it is
 frame_same : (period latency other later : ℕ) → period ≡ other → latency ≡ later → ◌≡◌ {A = Frame} (record { period = period; latency = latency }) (record { period = other; latency = later })

@@ -16,19 +16,19 @@ use Rattle.hw_net.specs.declared.netlist.NetLabel.{NetLabel}
 use Rattle.hw_net.specs.Circuit.{Circuit}
 use Rattle.hw_net.specs.Frames.{counter_of, counted_frame, IsCounterAt}
 use Rattle.hw_net.specs.Growing.{Extends, IsCounted, IsConnected, with_net}
-use Rattle.hw_net.proofs.Growing.{stood-there}
+use Rattle.hw_net.proofs.Growth.{stood-there}
 use Rattle.math_list.proofs.Places.{split-last, get_front, get_right}
 use Rattle.hw_sched.specs.Slots.{Timing as Times}
 use Rattle.hw_shows.specs.Timing.{Timing}
 use Rattle.hw_build.specs.declared.pipelines.Piped.{Piped}
 use Rattle.hw_build.specs.Times.{timing_by}
-use Rattle.hw_build.specs.inner.Framed.{IsBlockFrame}
-use Rattle.hw_build.specs.inner.Marked.{AreApart, AreMarked, hub_of_mark}
-use Rattle.hw_build.specs.inner.Piping.{own_frame, wire_of, stage_net, stage_nets, stage_labels, AddsPipeline, IsPipedBy}
+use Rattle.hw_build.specs.inner.FrameCounts.{IsBlockFrame}
+use Rattle.hw_build.specs.inner.MarkNames.{AreApart, AreMarked, hub_of_mark}
+use Rattle.hw_build.specs.inner.PipelineNets.{own_frame, wire_of, stage_net, stage_nets, stage_labels, AddsPipeline, IsPipedBy}
 use Rattle.hw_build.specs.inner.Tally.{product_labels}
 use Rattle.hw_build.proofs.Levels.{given, connected_here, connected_elsewhere, connected_length}
-use Rattle.hw_build.proofs.Marking.{apart_none, apart_stages, apart_product}
-use Rattle.hw_build.proofs.Piping.{with_labels, count_stages}
+use Rattle.hw_build.proofs.LabelMarks.{apart_none, apart_stages, apart_product}
+use Rattle.hw_build.proofs.Stages.{with_labels, count_stages}
 
 -- ---- Counters of a pipeline
 

@@ -20,7 +20,7 @@ use Rattle.hw_net.specs.declared.netlist.Frame.{Frame}
 use Rattle.hw_net.specs.declared.netlist.NetPort.{NetPort}
 use Rattle.hw_net.specs.Circuit.{Circuit}
 use Rattle.hw_net.specs.Frames.{IsCounterAt}
-use Rattle.hw_net.proofs.Growing.{longer, extends-trans}
+use Rattle.hw_net.proofs.Growth.{longer, extends-trans}
 use Rattle.hw_sched.specs.Laws.{IsOperation, OperationsHavePeriods, UnitsAreThere, UnitsAreUsed}
 use Rattle.hw_sched.specs.Ready.{units_in_all}
 use Rattle.hw_sched.specs.Slots.{Timing as Times, Operation, operation, shared_operations, slot_of}
@@ -35,21 +35,21 @@ use Rattle.hw_build.specs.Times.{timing_by}
 use Rattle.hw_build.specs.inner.Factors.{OffersWords, IsSecond, GathersMore, AreFirsts, constant_net}
 use Rattle.hw_build.specs.inner.Growth.{InLater}
 use Rattle.hw_build.specs.inner.Levels.{level_behind}
-use Rattle.hw_build.specs.inner.Multiplying.{ArePlacedBy, ArePlacesBelow, HasNoUnits, IsSharedFrame, IsSharedWay, AddsProducts}
+use Rattle.hw_build.specs.inner.MultiplierStep.{ArePlacedBy, ArePlacesBelow, HasNoUnits, IsSharedFrame, IsSharedWay, AddsProducts}
 use Rattle.hw_build.specs.inner.ResultNets.{first_operation, product_net, AreProducts, IsSecondNet}
 use Rattle.hw_build.specs.inner.UnderWay.{IsUnderWay}
 use Rattle.hw_build.specs.inner.Units.{IsUnitFor}
 use Rattle.hw_build.proofs.Constants.{same_registers}
-use Rattle.hw_build.proofs.Factoring.{shared_multiplies}
-use Rattle.hw_build.proofs.Serving.{is_product, multiplies_input, product_inputs}
+use Rattle.hw_build.proofs.Factors.{shared_multiplies}
+use Rattle.hw_build.proofs.Multipliers.{is_product, multiplies_input, product_inputs}
 use Rattle.hw_build.proofs.Levels.{level_stays, register_level}
-use Rattle.hw_build.proofs.Listed.{AreUnitsFrom, multiplier_at, counted_units}
-use Rattle.hw_build.proofs.Multiplying.{no_units_mid, same_others, none_behind, counter_frame, quiet_low, operand_of}
-use Rattle.hw_build.proofs.Numbering.{operation_there}
-use Rattle.hw_build.proofs.Offered.{offered_word, offered_low}
+use Rattle.hw_build.proofs.MultiplierPlaces.{AreUnitsFrom, multiplier_at, counted_units}
+use Rattle.hw_build.proofs.MultiplierStep.{no_units_mid, same_others, none_behind, counter_frame, quiet_low, operand_of}
+use Rattle.hw_build.proofs.OperationNumbers.{operation_there}
+use Rattle.hw_build.proofs.PortOffers.{offered_word, offered_low}
 use Rattle.hw_build.proofs.Operations.{of_shared}
 use Rattle.hw_build.proofs.ResultNets.{no_asked, are_products, result_there, operations_count, asked_at, gathered_at, served_at, small_mid, second_at, asked_for, has_product}
-use Rattle.hw_build.proofs.Sharing.{IsAskedFor, units_from, in_left, in_right, one_above, units_are_all}
+use Rattle.hw_build.proofs.UnitCalls.{IsAskedFor, units_from, in_left, in_right, one_above, units_are_all}
 use Rattle.hw_build.proofs.UnderWay.{by_call}
 use Rattle.hw_build.proofs.Units.{HasAll, product_has, gain_has}
 use Rattle.math_list.proofs.Places.{held, get_some}

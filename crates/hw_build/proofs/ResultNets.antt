@@ -23,7 +23,7 @@ use Rattle.hw_latency.specs.Shared.{is_shared}
 use Rattle.hw_latency.specs.Weight.{samples}
 use Rattle.hw_net.specs.declared.netlist.Net.{Net}
 use Rattle.hw_net.specs.Circuit.{Circuit}
-use Rattle.hw_net.proofs.Growing.{longer, still-there}
+use Rattle.hw_net.proofs.Growth.{longer, still-there}
 use Rattle.hw_sched.specs.Laws.{IsOperation, OperationsHavePeriods}
 use Rattle.hw_sched.specs.Slots.{Timing as Times, Operation, operation, shared_operations, slot_of}
 use Rattle.hw_share.specs.declared.operation.Operation.{Operation as Asked}
@@ -35,14 +35,14 @@ use Rattle.hw_build.specs.Places.{Places}
 use Rattle.hw_build.specs.Times.{timing_by}
 use Rattle.hw_build.specs.inner.Factors.{OffersWords, IsSecond, IsCoefficient, IsGathered, GathersMore, AreFirsts, if_shared, constant_net}
 use Rattle.hw_build.specs.inner.Growth.{InLater}
-use Rattle.hw_build.specs.inner.Multiplying.{ArePlacedBy}
+use Rattle.hw_build.specs.inner.MultiplierStep.{ArePlacedBy}
 use Rattle.hw_build.specs.inner.ResultNets.{first_operation, product_by, product_at, product_net, number_or_zero, AreProducts, IsSecondNet, HasProduct}
-use Rattle.hw_build.proofs.Factoring.{left_word, right_word, shared_multiplies}
-use Rattle.hw_build.proofs.FullyTyped.{full_is_there}
+use Rattle.hw_build.proofs.Factors.{left_word, right_word, shared_multiplies}
+use Rattle.hw_build.proofs.FullTypes.{full_is_there}
 use Rattle.hw_build.proofs.Nets.{constant}
-use Rattle.hw_build.proofs.Numbering.{operation_there, operations_in_all}
-use Rattle.hw_build.proofs.Serving.{slot_is_told}
-use Rattle.hw_build.proofs.Sharing.{IsAskedFor, product_kept}
+use Rattle.hw_build.proofs.OperationNumbers.{operation_there, operations_in_all}
+use Rattle.hw_build.proofs.Multipliers.{slot_is_told}
+use Rattle.hw_build.proofs.UnitCalls.{IsAskedFor, product_kept}
 use Rattle.fx_type.proofs.Ranges.{type-word, range-word}
 
 abbrev pub no_asked : Asked

@@ -8,10 +8,10 @@ use Rattle.dg_model.specs.Library.{row_of}
 use Rattle.hw_net.specs.Circuit.{Circuit}
 use Rattle.hw_sched.proofs.Periods.{readable_at}
 use Rattle.hw_build.specs.inner.HubPlaces.{is_input_role, hub_at, HasHubs}
-use Rattle.hw_build.specs.inner.Porting.{AreInputFirsts, AreOutputFirsts}
-use Rattle.hw_build.proofs.Beginning.{place_other}
-use Rattle.hw_build.proofs.Ported.{output_shown}
-use Rattle.hw_build.proofs.Started.{role_is_input, one_port}
+use Rattle.hw_build.specs.inner.PortSteps.{AreInputFirsts, AreOutputFirsts}
+use Rattle.hw_build.proofs.HubsOnly.{place_other}
+use Rattle.hw_build.proofs.WithPorts.{output_shown}
+use Rattle.hw_build.proofs.HubStart.{role_is_input, one_port}
 
 module _ (diagram : Diagram) (earlier later : Circuit) (firsts : List (List ℕ)) (has : HasHubs diagram earlier later firsts) (checked : IsChecked diagram) where
   pub inputs_first : InputsAreListed → AreInputFirsts diagram firsts

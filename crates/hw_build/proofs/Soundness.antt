@@ -14,7 +14,7 @@ use Rattle.hw_net.specs.Circuit.{Circuit}
 use Rattle.hw_net.specs.Frames.{counted_frame, is_frame, counter_from, counter_of}
 use Rattle.hw_net.specs.Growing.{Appends, IsReopened, IsConnected}
 use Rattle.hw_net.specs.Netlist.{HasWord, HasBits, HasParts, HoldsProducts, IsKind, reads}
-use Rattle.hw_net.proofs.Growing.{stood-there}
+use Rattle.hw_net.proofs.Growth.{stood-there}
 use Rattle.math_list.proofs.Places.{held}
 use Rattle.hw_build.specs.inner.Growth.{GoesOn}
 use Rattle.hw_build.specs.inner.Soundness.{IsSoundNet, AreSound}

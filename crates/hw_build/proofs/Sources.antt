@@ -29,7 +29,7 @@ use Rattle.dg_tables.proofs.Sources.{is_control}
 use Rattle.hw_build.specs.inner.Asks.{SourcesAreShown, EnabledShow}
 use Rattle.hw_build.specs.inner.Facts.{count_by_lag, count_by, line_count, LateAreWide}
 use Rattle.hw_build.specs.inner.HubPlaces.{is_output_role}
-use Rattle.hw_build.proofs.Placing.{plain_ports}
+use Rattle.hw_build.proofs.HubSteps.{plain_ports}
 use Rattle.dg_tables.proofs.Ranks.{found_at}
 
 -- ---- elements

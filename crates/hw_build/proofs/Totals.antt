@@ -27,9 +27,9 @@ use Rattle.math_list.proofs.Places.{sum-cons, get_some}
 use Rattle.math_list.proofs.Sums.{sum_below, sum_below_next}
 use Rattle.hw_build.specs.inner.HubPlaces.{before, hubs_in_all, is_input_role, own_count, own_hubs, owner_of, port_size}
 use Rattle.hw_build.specs.inner.Tally.{hub_products, hub_registers, products_by, registers_by}
-use Rattle.hw_build.proofs.Beginning.{owner_is}
-use Rattle.hw_build.proofs.Ended.{multiplying_shows, multiplying_width}
-use Rattle.hw_build.proofs.Placing.{own_input, own_other}
+use Rattle.hw_build.proofs.HubsOnly.{owner_is}
+use Rattle.hw_build.proofs.LoopEnd.{multiplying_shows, multiplying_width}
+use Rattle.hw_build.proofs.HubSteps.{own_input, own_other}
 
 -- ---- sums
 

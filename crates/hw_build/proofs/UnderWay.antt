@@ -14,7 +14,7 @@ use Rattle.hw_net.specs.declared.netlist.NetOp.TheVariants.{Resize}
 use Rattle.hw_net.specs.Circuit.{Circuit}
 use Rattle.hw_net.specs.Frames.{counted_frame, IsCounterAt}
 use Rattle.hw_net.specs.Growing.{Appends, IsConnected}
-use Rattle.hw_net.proofs.Growing.{longer}
+use Rattle.hw_net.proofs.Growth.{longer}
 use Rattle.hw_shows.specs.Timing.{Timing}
 use Rattle.hw_build.specs.Places.{Places}
 use Rattle.hw_build.specs.inner.Growth.{GoesOn}

@@ -8,7 +8,7 @@ use Rattle.hw_net.specs.Circuit.{Circuit}
 use Rattle.hw_net.specs.Frames.{IsCounter}
 use Rattle.hw_net.specs.Growing.{Appends, MayRead, IsConnected}
 use Rattle.hw_net.specs.Netlist.{reads}
-use Rattle.hw_net.proofs.Growing.{stood-there}
+use Rattle.hw_net.proofs.Growth.{stood-there}
 use Rattle.math_list.proofs.Places.{held}
 use Rattle.hw_build.specs.inner.Unread.{AreReadInTurn}
 use Rattle.hw_build.proofs.Levels.{given, connected_here, connected_elsewhere}

@@ -7,8 +7,8 @@ use Rattle.hw_build.specs.Laws.{SchedulesAreTimed}
 use Rattle.hw_build.specs.Times.{timing_by}
 use Rattle.hw_build.specs.inner.Facts.{LateAreWide}
 use Rattle.hw_build.specs.inner.Done.{DoneIsBuilt}
-use Rattle.hw_build.proofs.Serving.{served_in}
-use Rattle.hw_build.proofs.Showing.{design, tables_shown}
+use Rattle.hw_build.proofs.Multipliers.{served_in}
+use Rattle.hw_build.proofs.Shows.{design, tables_shown}
 use Rattle.hw_build.proofs.Turns.{slot_fits}
 use Rattle.hw_build.proofs.Widths.{late_are_wide}
 

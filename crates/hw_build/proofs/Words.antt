@@ -12,7 +12,7 @@ use Rattle.hw_net.specs.Netlist.{HasWord}
 use Rattle.hw_net.specs.NetRows.{Inputs, Rows, NetRows}
 use Rattle.hw_lower.specs.Lowered.{AreArgs, values_at}
 use Rattle.hw_lower.proofs.Products.{word-range}
-use Rattle.hw_lower.proofs.Shown.{value-in}
+use Rattle.hw_lower.proofs.PlanWaves.{value-in}
 
 -- ---- ranges
 

@@ -1,7 +1,7 @@
 //! What the elements of ends ask: nets as they are, or shown later.
 ghost use Rattle.std.specs.Prelude.{◌+◌, ◌<◌, ◌≤◌, ◌^◌, None, Some, IfOk, OnOk, length};
-ghost use Rattle.hw_build.specs.inner.Seeking.{AreNets, AreNumbered, AsksAll, AsksOne, IsNetFor, IsNumber};
-ghost use Rattle.hw_build.specs.inner.Seeking.{hub_from, plain_want, unasked};
+ghost use Rattle.hw_build.specs.inner.EndSearch.{AreNets, AreNumbered, AsksAll, AsksOne, IsNetFor, IsNumber};
+ghost use Rattle.hw_build.specs.inner.EndSearch.{hub_from, plain_want, unasked};
 ghost use Rattle.hw_build.specs.inner.Wants.{ArePlaces, nets_at};
 
 use crate::wants::{Feed, Seat, Want};

@@ -4,9 +4,9 @@ ghost use Rattle.dg_model.specs.Library.{row_of};
 ghost use Rattle.dg_model.specs.Solves.{shown_ports as shown_ports_of};
 ghost use Rattle.hw_build.specs.inner.HubPlaces.{hub_at as hub_at_of, hub_start, is_input_role};
 ghost use Rattle.hw_build.specs.inner.Offers.{AreBare, AreReadBy, IsAtHand, IsBlockAt};
-ghost use Rattle.hw_build.specs.inner.Spotted.{Spots};
+ghost use Rattle.hw_build.specs.inner.Spots.{Spots};
 ghost use Rattle.hw_build.specs.inner.Tally.{product_labels};
-ghost use Rattle.hw_build.specs.inner.Looping.{HasElements, IsBegun, IsEntered, IsKnown, IsSet, Reaches, Stands, port_start};
+ghost use Rattle.hw_build.specs.inner.ElementLoop.{HasElements, IsBegun, IsEntered, IsKnown, IsSet, Reaches, Stands, port_start};
 
 use crate::block_inputs::{BlockAt, BlockInputs, put_inputs};
 use crate::design::Design;

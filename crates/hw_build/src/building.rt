@@ -4,9 +4,9 @@ ghost use Rattle.dg_model.specs.PlanOf.{IsPlanOf};
 ghost use Rattle.hw_latency.specs.Latency.{AreLatencies};
 ghost use Rattle.hw_sched.specs.Answer.{AreSlots};
 ghost use Rattle.hw_build.specs.Built.{IsBuiltBy, IsBuildFault};
-ghost use Rattle.hw_build.specs.inner.Building.{AreInputBlocks, CanBuild, IsDoneFor, IsEmptyFor, IsFilledFor, empty_circuit};
+ghost use Rattle.hw_build.specs.inner.BuildSteps.{AreInputBlocks, CanBuild, IsDoneFor, IsEmptyFor, IsFilledFor, empty_circuit};
 ghost use Rattle.hw_build.specs.inner.HubPlaces.{HasHubs};
-ghost use Rattle.hw_build.specs.inner.Outgoing.{AreOutputBlocks};
+ghost use Rattle.hw_build.specs.inner.RootOutputs.{AreOutputBlocks};
 
 use crate::blocks::{Setting, put_elements};
 use crate::design::Design;

@@ -1,7 +1,7 @@
 //! One chain of registers for all readers of a source.
 ghost use Rattle.std.specs.Prelude.{◌<◌, ◌≤◌, IfOk, length};
 ghost use Rattle.hw_build.specs.inner.Wants.{AreAnswered, AreClasses, AreWants};
-ghost use Rattle.hw_build.specs.inner.Seeking.{AreAsked, AreNumbered};
+ghost use Rattle.hw_build.specs.inner.EndSearch.{AreAsked, AreNumbered};
 ghost use Rattle.hw_build.specs.inner.Wants.{IsClass, IsClassAnswered};
 
 use crate::asks::{Asks, nets_of};

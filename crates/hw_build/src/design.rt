@@ -1,7 +1,7 @@
 //! What a netlist is built from, and in which frames its blocks show their entries.
 ghost use Rattle.std.specs.Prelude.{◌≡◌, ◌-◌, ◌^◌, ◌<◌, ◌≤◌, Some, length};
 ghost use Rattle.dg_model.specs.Attributes.{attributes_of};
-ghost use Rattle.hw_build.specs.inner.Designed.{IsDesigned, seen_at, timing_for};
+ghost use Rattle.hw_build.specs.inner.DesignTimes.{IsDesigned, seen_at, timing_for};
 ghost use Rattle.hw_build.specs.inner.Lines.{frame_behind};
 
 use dg_model::{Checked, Resolved};

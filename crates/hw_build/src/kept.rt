@@ -5,7 +5,7 @@ ghost use Rattle.dg_model.specs.Attributes.{attributes_of};
 ghost use Rattle.dg_model.specs.declared.row.Inherited.{Inherited};
 ghost use Rattle.dg_model.specs.Library.{row_of};
 ghost use Rattle.dg_model.specs.Wires.{period_into};
-ghost use Rattle.hw_build.specs.inner.Registering.{enables_by};
+ghost use Rattle.hw_build.specs.inner.Series.{enables_by};
 ghost use Rattle.hw_build.specs.inner.Sites.{CanKeep, HasEnabledOperands, HasOperands, IsKept, IsSite, PassesOut, Puts, TakesAs};
 
 use crate::entries::offered_entry;

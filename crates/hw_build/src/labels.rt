@@ -1,6 +1,6 @@
 //! The names of nets.
 ghost use Rattle.std.specs.Prelude.{◌≡◌, ◌++◌, IfOk, OnOk};
-ghost use Rattle.hw_build.specs.inner.Labelled.{place_name};
+ghost use Rattle.hw_build.specs.inner.NetNames.{place_name};
 
 use fx_io::{OutOfMemory, Text};
 use hw_names::put_number;

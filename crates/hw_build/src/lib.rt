@@ -1,7 +1,7 @@
 //! The netlist of a diagram.
 //!
 //! `specs/Built` says what it owes: what its nets show (`Shown`), which of its multiplications serve
-//! which operations when (`Serving`), its pipelines (`Pipelined`) and its ports (`Ports`, `Names`).
+//! which operations when (`Multipliers`), its pipelines (`Pipelined`) and its ports (`Ports`, `Names`).
 //! `laws` says why: the times of a schedule are such as waves need (`Times`), and what the steps of
 //! a building leave is all that is owed (`specs/inner/Done`).
 #![tactic(auto)]

@@ -2,7 +2,7 @@
 ghost use Rattle.std.specs.Prelude.{◌≡◌, ◌+◌, ◌^◌, ◌<◌, ℕ, Some, OnOk, slice_get};
 ghost use Rattle.dg_model.specs.Attributes.{attributes_of};
 ghost use Rattle.dg_model.specs.Wires.{repeated};
-ghost use Rattle.hw_build.specs.inner.Seeking.{AsksAll, hub_spread, late_want};
+ghost use Rattle.hw_build.specs.inner.EndSearch.{AsksAll, hub_spread, late_want};
 
 use crate::asks::{Asked, Asks, ask_later};
 use crate::firsts::first_entry;

@@ -2,8 +2,8 @@
 ghost use Rattle.std.specs.Prelude.{◌≡◌, ◌≤◌, IfOk, length};
 ghost use Rattle.dg_model.specs.Attributes.{attributes_of};
 ghost use Rattle.dg_model.specs.RootElements.{root_inputs};
-ghost use Rattle.hw_build.specs.inner.Designed.{IsDesigned, times_for};
-ghost use Rattle.hw_build.specs.inner.LinesPut.{AreLinesPut, StandHubs};
+ghost use Rattle.hw_build.specs.inner.DesignTimes.{IsDesigned, times_for};
+ghost use Rattle.hw_build.specs.inner.LineStep.{AreLinesPut, StandHubs};
 
 use crate::asks::Asks;
 use crate::chains::put_asks;

@@ -1,9 +1,9 @@
 //! The ports of root outputs.
 ghost use Rattle.std.specs.Prelude.{◌≡◌, ◌<◌, ◌≤◌, ◌^◌, [], IfOk, OnOk, length, slice_index_or};
-ghost use Rattle.hw_build.specs.inner.Building.{CanBuild};
+ghost use Rattle.hw_build.specs.inner.BuildSteps.{CanBuild};
 ghost use Rattle.hw_build.specs.inner.HubPlaces.{hub_at as hub_at_of};
-ghost use Rattle.hw_build.specs.inner.Outgoing.{clocks_to, AreOutputBlocks, IsOutputPort, AddsOutputs};
-ghost use Rattle.hw_build.specs.inner.Porting.{AreOutputFirsts};
+ghost use Rattle.hw_build.specs.inner.RootOutputs.{clocks_to, AreOutputBlocks, IsOutputPort, AddsOutputs};
+ghost use Rattle.hw_build.specs.inner.PortSteps.{AreOutputFirsts};
 
 use crate::design::Design;
 use crate::hubs::hub_at;

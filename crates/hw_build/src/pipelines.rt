@@ -1,8 +1,8 @@
 //! The registers of a plan behind an element.
 ghost use Rattle.std.specs.Prelude.{◌≡◌, ◌+◌, ◌-◌, ◌*◌, ◌<◌, ◌++◌, ◌^◌, IfOk, OnOk, Some, length};
 ghost use Rattle.dg_model.specs.Attributes.{attributes_of};
-ghost use Rattle.hw_build.specs.inner.Designed.{IsDesigned, timing_for};
-ghost use Rattle.hw_build.specs.inner.Piping.{own_frame, stage_labels, stage_net, stage_nets, IsPipedBy};
+ghost use Rattle.hw_build.specs.inner.DesignTimes.{IsDesigned, timing_for};
+ghost use Rattle.hw_build.specs.inner.PipelineNets.{own_frame, stage_labels, stage_net, stage_nets, IsPipedBy};
 
 use crate::design::Design;
 use crate::labels::label;

@@ -3,7 +3,7 @@ ghost use Rattle.std.specs.Prelude.{◌≡◌, ◌<◌, [], IfOk, OnOk, length};
 ghost use Rattle.dg_model.specs.Attributes.{attributes_of};
 ghost use Rattle.dg_model.specs.RootElements.{root_inputs};
 ghost use Rattle.dg_tables.specs.Listing.{AreBlocksOf};
-ghost use Rattle.hw_build.specs.inner.Porting.{IsPortOf, AddsInputPorts, AreInputFirsts};
+ghost use Rattle.hw_build.specs.inner.PortSteps.{IsPortOf, AddsInputPorts, AreInputFirsts};
 
 use dg_model::{Checked, PortWidths};
 use fx_io::OutOfMemory;

@@ -1,9 +1,9 @@
 //! The products of shared operations.
 ghost use Rattle.std.specs.Prelude.{◌≡◌, ◌<◌, IfOk, length};
-ghost use Rattle.hw_build.specs.inner.Building.{CanBuild};
-ghost use Rattle.hw_build.specs.inner.Designed.{times_for};
+ghost use Rattle.hw_build.specs.inner.BuildSteps.{CanBuild};
+ghost use Rattle.hw_build.specs.inner.DesignTimes.{times_for};
 ghost use Rattle.hw_build.specs.inner.Factors.{OffersWords};
-ghost use Rattle.hw_build.specs.inner.Multiplying.{AddsProducts};
+ghost use Rattle.hw_build.specs.inner.MultiplierStep.{AddsProducts};
 ghost use Rattle.hw_build.specs.inner.Operands.{offered_at};
 ghost use Rattle.hw_build.specs.inner.ResultNets.{AreProducts, product_at};
 

@@ -3,7 +3,7 @@ ghost use Rattle.std.specs.Prelude.{◌≡◌, ◌<◌, [], IfOk, OnOk, Some, le
 ghost use Rattle.dg_model.specs.Attributes.{attributes_of};
 ghost use Rattle.hw_latency.specs.Shared.{is_shared as is_shared_of};
 ghost use Rattle.hw_sched.specs.Slots.{operation};
-ghost use Rattle.hw_build.specs.inner.Building.{CanBuild};
+ghost use Rattle.hw_build.specs.inner.BuildSteps.{CanBuild};
 ghost use Rattle.hw_build.specs.inner.Factors.{AddsConstants, AreFirsts, GathersFor};
 ghost use Rattle.hw_build.specs.inner.Factors.{IsGatheredFor, IsNumbered, first_for};
 ghost use Rattle.hw_build.specs.inner.Factors.{if_shared};

@@ -1,6 +1,6 @@
 //! Registers one behind another, in which elements are kept.
 ghost use Rattle.std.specs.Prelude.{◌≡◌, ◌∷◌, ◌++◌, [], IfOk};
-ghost use Rattle.hw_build.specs.inner.Registering.{CanPutSeries, PutsSeries, enables_by, register_of};
+ghost use Rattle.hw_build.specs.inner.Series.{CanPutSeries, PutsSeries, enables_by, register_of};
 
 use crate::parts::Word;
 use fx_io::OutOfMemory;

@@ -1,7 +1,7 @@
 //! Elements that operations of their blocks give.
 ghost use Rattle.std.specs.Prelude.{◌≡◌, false, Some, IfOk, MatchOption};
 ghost use Rattle.dg_model.specs.declared.kind.Kind.{Kind};
-ghost use Rattle.hw_build.specs.inner.Designed.{timing_for};
+ghost use Rattle.hw_build.specs.inner.DesignTimes.{timing_for};
 ghost use Rattle.hw_build.specs.inner.Entries.{IsFullProductAt, PutsShared, works};
 ghost use Rattle.hw_build.specs.inner.Sites.{IsOpAt, IsReady, IsSite, Puts, types_at};
 

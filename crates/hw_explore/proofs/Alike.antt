@@ -16,7 +16,7 @@ use Rattle.hw_latency.specs.Weight.{samples, arc_into, arc_from, arc_of, latency
 use Rattle.hw_explore.specs.declared.timed.Timed.{Timed}
 use Rattle.hw_explore.specs.declared.timed.Timed.TheVariants.{Kept, Gaining}
 use Rattle.hw_explore.specs.Candidates.{plain_plan}
-use Rattle.hw_explore.specs.inner.Timed.{IsTimed}
+use Rattle.hw_explore.specs.inner.Latencies.{IsTimed}
 
 module _ (diagram : Diagram) (plan other : Resolved) (stages : plan.stages ≡ other.stages) (same : (period : ℕ) → shares plan (Some period) ≡ shares other (Some period)) where
   same_shares : (period : Option ℕ) → shares plan period ≡ shares other period

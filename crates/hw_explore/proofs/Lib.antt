@@ -1,5 +1,5 @@
 mod Alike
-mod Found
 mod Ranges
-mod Ranking
+mod Ranks
+mod WorkerFindings
 mod Worth

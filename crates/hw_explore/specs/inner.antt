@@ -1,3 +1,3 @@
 -- What only private contracts cite.
 pub mod Best
-pub mod Timed
+pub mod Latencies

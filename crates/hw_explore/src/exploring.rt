@@ -4,7 +4,7 @@ ghost use Rattle.hw_explore.specs.Candidates.{IsFinding};
 ghost use Rattle.hw_explore.specs.Findings.{AreFindings, IsLeast, IsRanked};
 ghost use Rattle.hw_explore.specs.declared.rank.Rank.{Rank};
 ghost use Rattle.hw_explore.specs.inner.Best.{IsBest};
-ghost use Rattle.hw_explore.specs.inner.Timed.{AreTimed, CanFind};
+ghost use Rattle.hw_explore.specs.inner.Latencies.{AreTimed, CanFind};
 ghost use Rattle.hw_explore.specs.Range.{IsRange, most_pairs, pairs_of};
 
 use crate::finding::{Finding, Judged};

@@ -3,7 +3,7 @@ ghost use Rattle.dg_model.specs.Faults.{IsRefusal};
 ghost use Rattle.dg_model.specs.PlanOf.{IsPlanOf};
 ghost use Rattle.hw_explore.specs.Candidates.{IsFinding, IsJudged};
 ghost use Rattle.hw_explore.specs.Range.{IsRange, pairs_of};
-ghost use Rattle.hw_explore.specs.inner.Timed.{AreTimed, IsTimed};
+ghost use Rattle.hw_explore.specs.inner.Latencies.{AreTimed, IsTimed};
 ghost use Rattle.hw_rules.specs.Rules.{BreaksTimes};
 ghost use Rattle.hw_rules.specs.Times.{AreTimes};
 

@@ -4,7 +4,7 @@ ghost use Rattle.dg_model.specs.Limits.{most_cycles};
 ghost use Rattle.dg_model.specs.PlanOf.{IsPlanOf};
 ghost use Rattle.dg_model.specs.declared.diagram.Diagram.{Diagram};
 ghost use Rattle.hw_explore.specs.Candidates.{plain_plan};
-ghost use Rattle.hw_explore.specs.inner.Timed.{AreTimed, IsTimed};
+ghost use Rattle.hw_explore.specs.inner.Latencies.{AreTimed, IsTimed};
 
 use crate::plain::without_pipelines;
 use dg_model::{Checked, Resolved};

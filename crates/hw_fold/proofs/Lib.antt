@@ -1,6 +1,6 @@
-pub mod Folded
+pub mod Fold
 pub mod Marks
-pub mod Numbered
+pub mod Numbers
 pub mod Repeats
 pub mod Result
-pub mod Settled
+pub mod Standings

@@ -3,7 +3,7 @@ use Rattle.std.proofs.Common.{◌≡◌, ℕ, ◌<◌, inl, inr, Bool, true, fal
 use Rattle.std.proofs.lemmas.Bool.{cases_eq}
 use Rattle.std.proofs.lemmas.List.{get_or-set_same, get_or-set_other}
 use Rattle.hw_net.specs.declared.netlist.Net.{Net}
-use Rattle.hw_fold.specs.inner.Pinned.{IsPinned, KeepsMarks, is_marked}
+use Rattle.hw_fold.specs.inner.Pins.{IsPinned, KeepsMarks, is_marked}
 
 pub keeps-none : (marks : List Bool) → KeepsMarks marks marks
 keeps-none marks = record { size = refl; kept = λ k e. e }

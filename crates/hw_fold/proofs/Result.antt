@@ -14,11 +14,11 @@ use Rattle.hw_refine.specs.Represents.{RepresentsRefine}
 use Rattle.math_list.proofs.Elements.{stands, all-from, all-in}
 use Rattle.hw_renumber.specs.Renumbered.{CanMove, place_in, renumbered}
 use Rattle.hw_renumber.specs.Sound.{RenumberedEmits, RenumberedRuns}
-use Rattle.hw_fold.specs.inner.Folded.{AreSettled, CanFold, IsFolded}
-use Rattle.hw_fold.specs.inner.Pinned.{IsPinned, KeepsMarks, is_marked}
+use Rattle.hw_fold.specs.inner.Fold.{AreSettled, CanFold, IsFolded}
+use Rattle.hw_fold.specs.inner.Pins.{IsPinned, KeepsMarks, is_marked}
 use Rattle.hw_fold.specs.inner.Roots.{fold_of}
-use Rattle.hw_fold.proofs.Folded.{can, represents}
-use Rattle.hw_fold.proofs.Numbered.{places-below, places-long}
+use Rattle.hw_fold.proofs.Fold.{can, represents}
+use Rattle.hw_fold.proofs.Numbers.{places-below, places-long}
 
 pub labels-below : (netlist : Circuit) → IsEmittable netlist → All (λ (label : NetLabel). label.net < length netlist.nets) netlist.labels
 labels-below netlist emits = all-from (λ (label : NetLabel). label.net < length netlist.nets) netlist.labels (λ k label is. emits.labels.there label (stands netlist.labels k label is))

@@ -1,4 +1,4 @@
 -- What only private contracts cite.
-pub mod Folded
-pub mod Pinned
+pub mod Fold
+pub mod Pins
 pub mod Roots

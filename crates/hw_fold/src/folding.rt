@@ -4,7 +4,7 @@ ghost use Rattle.hw_net.specs.Netlist.{IsNetlist};
 ghost use Rattle.hw_net.specs.Products.{places};
 ghost use Rattle.hw_refine.specs.Refines.{Refines};
 ghost use Rattle.hw_order.specs.Order.{IsOrder};
-ghost use Rattle.hw_fold.specs.inner.Folded.{AreSettled, CanFold, IsFolded, IsOpen};
+ghost use Rattle.hw_fold.specs.inner.Fold.{AreSettled, CanFold, IsFolded, IsOpen};
 ghost use Rattle.hw_fold.specs.inner.Roots.{fold_of, ArePinned, IsFolding};
 
 use crate::key::Key;

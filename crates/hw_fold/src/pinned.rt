@@ -3,7 +3,7 @@ ghost use Rattle.std.specs.Prelude.{◌≡◌, ◌<◌, ℕ, ℤ, All, Contains,
 ghost use Rattle.hw_net.specs.declared.netlist.Frame.{Frame};
 ghost use Rattle.hw_net.specs.declared.netlist.NetKind.TheVariants.{Reg};
 ghost use Rattle.hw_net.specs.Netlist.{reads};
-ghost use Rattle.hw_fold.specs.inner.Pinned.{IsPinned, KeepsMarks};
+ghost use Rattle.hw_fold.specs.inner.Pins.{IsPinned, KeepsMarks};
 
 use hw_net::{Net, NetKind, NetLabel};
 

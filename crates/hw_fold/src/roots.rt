@@ -1,8 +1,8 @@
 //! Which net stands for each.
 ghost use Rattle.std.specs.Prelude.{◌≡◌, ◌<◌, IfOk, true, false, length, MatchOption, ⊤};
 ghost use Rattle.hw_renumber.specs.Renumbered.{place_in};
-ghost use Rattle.hw_fold.specs.inner.Folded.{IsOpen};
-ghost use Rattle.hw_fold.specs.inner.Pinned.{is_marked};
+ghost use Rattle.hw_fold.specs.inner.Fold.{IsOpen};
+ghost use Rattle.hw_fold.specs.inner.Pins.{is_marked};
 ghost use Rattle.hw_fold.specs.inner.Roots.{fold_of, HasSizes, IsRoot, IsFound, StandsFor};
 
 use crate::alike::is_alike;

@@ -5,7 +5,7 @@ ghost use Rattle.dg_model.specs.Library.{row_of};
 ghost use Rattle.dg_model.specs.PlanOf.{IsPlanOf};
 ghost use Rattle.hw_latency.specs.Weight.{latency_arcs};
 ghost use Rattle.hw_latency.specs.Control.{control_ever};
-ghost use Rattle.hw_latency.specs.inner.Asked.{IsArcPut, IsControlPut};
+ghost use Rattle.hw_latency.specs.inner.ArcLists.{IsArcPut, IsControlPut};
 
 use crate::block::block_at;
 use crate::weight::arc_between;

@@ -1,6 +1,6 @@
-pub mod Chained
-pub mod Ended
+pub mod Chain
 pub mod Hits
+pub mod LineEnds
 pub mod Parts
 pub mod Steps
 pub mod Taps

@@ -14,7 +14,7 @@ use Rattle.hw_net.specs.Frames.{frame_of, counted_frame, counter_of, is_register
 use Rattle.hw_net.specs.Netlist.{IsKind, HasWord, reads, reads_now}
 use Rattle.hw_net.specs.NetRows.{Inputs, Rows, NetShows, span_of}
 use Rattle.hw_net.specs.Growing.{Extends, MayRead, MayReadNow, InRows, Appends, IsCounted, AddsCounter, with_net}
-use Rattle.hw_net.proofs.Growing.{longer, extends-one, still-there, stood-there, in-rows-one, in-rows-last, differ-other, appends-one, appends-trans, appends-counter, counter-stays, count-append}
+use Rattle.hw_net.proofs.Growth.{longer, extends-one, still-there, stood-there, in-rows-one, in-rows-last, differ-other, appends-one, appends-trans, appends-counter, counter-stays, count-append}
 use Rattle.math_list.proofs.Places.{last_at, split-last}
 use Rattle.hw_lines.specs.Chain.{IsPart}
 use Rattle.hw_lines.specs.Register.{Adds, Grows, SameWord, IsHeld}

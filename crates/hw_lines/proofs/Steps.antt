@@ -11,7 +11,7 @@ use Rattle.hw_net.specs.Netlist.{HasWord}
 use Rattle.hw_net.specs.NetRows.{span_of}
 use Rattle.hw_net.specs.Registers.{IsReg}
 use Rattle.hw_net.specs.Growing.{Extends}
-use Rattle.hw_net.proofs.Growing.{IsNamed, longer, still-there, stood-there, word-stays, in-rows-first, in-rows-last, in-rows-both, in-rows-all, appends-self, appends-trans}
+use Rattle.hw_net.proofs.Growth.{IsNamed, longer, still-there, stood-there, word-stays, in-rows-first, in-rows-last, in-rows-both, in-rows-all, appends-self, appends-trans}
 use Rattle.math_list.proofs.Places.{split-last}
 use Rattle.hw_lines.specs.declared.source.Source.{Source}
 use Rattle.hw_lines.specs.Chain.{IsSource, IsPart, IsAnswer}

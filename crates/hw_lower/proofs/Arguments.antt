@@ -17,11 +17,11 @@ use Rattle.hw_lower.specs.declared.plan.Step.{Step}
 use Rattle.hw_lower.specs.declared.plan.Operand.{Operand}
 use Rattle.hw_lower.specs.declared.plan.Plan.{Plan}
 use Rattle.hw_lower.specs.Lowered.{multiply_of}
-use Rattle.hw_lower.specs.inner.Planned.{Numbers, IsMade, IsPut, IsSwitched, word_of, step_of}
+use Rattle.hw_lower.specs.inner.PlanSteps.{Numbers, IsMade, IsPut, IsSwitched, word_of, step_of}
 use Rattle.hw_lower.specs.inner.Spread.{AreArguments, AreInputs, BeginsWith, HasArguments, OfArguments, IsPlanned, IsScaled}
 use Rattle.math_list.proofs.Places.{last_at}
-use Rattle.hw_lower.proofs.Made.{one-longer, still-at}
-use Rattle.hw_lower.proofs.Spreading.{made-plain}
+use Rattle.hw_lower.proofs.PlanSteps.{one-longer, still-at}
+use Rattle.hw_lower.proofs.Multiplies.{made-plain}
 use Rattle.fx_type.proofs.Ranges.{type-word}
 
 -- the range of an argument

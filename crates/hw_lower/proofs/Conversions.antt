@@ -7,7 +7,7 @@ use Rattle.fx_type.specs.declared.kind.FxType.TheVariants.{Num}
 use Rattle.fx_type.specs.declared.rounding.Rounding.{Rounding}
 use Rattle.fx_type.specs.FxType.{frac_of}
 use Rattle.fx_type.specs.Conversion.{Rounds, Settles, StoresQuotient, Converts}
-use Rattle.hw_lower.proofs.Rounded.{rounds-whole}
+use Rattle.hw_lower.proofs.Modes.{rounds-whole}
 
 times-one : (z : ℤ) → z *ℤ pos 1 ≡ z
 times-one z = omega (arith, ints)

@@ -9,8 +9,8 @@ use Rattle.math_num.proofs.Shifts.{shr-divided, shr_exact}
 use Rattle.fx_type.specs.declared.kind.FxType.TheVariants.{Num}
 use Rattle.fx_type.specs.Conversion.{Saturates}
 use Rattle.hw_lower.specs.declared.plan.Word.{Word}
-use Rattle.hw_lower.specs.inner.Planned.{IsChosen, IsHeldBelow, IsHeldAbove}
-use Rattle.hw_lower.proofs.Cut.{less-is}
+use Rattle.hw_lower.specs.inner.PlanSteps.{IsChosen, IsHeldBelow, IsHeldAbove}
+use Rattle.hw_lower.proofs.WordRests.{less-is}
 use Rattle.math_num.specs.Bits.{truth}
 use Rattle.std.specs.Prelude.{int_lt}
 use Rattle.math_num.proofs.Words.{wrapped-is}

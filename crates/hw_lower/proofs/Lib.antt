@@ -1,17 +1,17 @@
-mod Added
+mod Accumulator
 pub mod Arguments
-pub mod Chained
 pub mod Conversions
-pub mod Cut
 pub mod Ends
-pub mod Gated
+pub mod GateArguments
 pub mod LowBits
-pub mod Made
-pub mod Numbered
+pub mod Modes
+pub mod Multiplies
+pub mod PlanNets
+pub mod PlanSteps
+pub mod PlanWaves
 pub mod Products
-pub mod Related
-pub mod Rounded
-pub mod Shown
-pub mod Spreading
-pub mod Summed
+pub mod StepChains
+pub mod SumTerms
 pub mod Truths
+pub mod Unions
+pub mod WordRests

@@ -6,7 +6,7 @@ use Rattle.std.proofs.Math.Nat.{mod-eq_of_lt}
 use Rattle.math_num.specs.Word.{IsWord, InWord}
 use Rattle.math_num.proofs.Arithmetic.{double}
 use Rattle.math_num.specs.Bits.{low_bits, shifted_down}
-use Rattle.hw_lower.specs.inner.Planned.{bit_of}
+use Rattle.hw_lower.specs.inner.PlanSteps.{bit_of}
 use Rattle.math_num.proofs.Words.{size-below, size-half}
 use Rattle.hw_net.proofs.Words.{only-sign, split-low}
 

@@ -8,8 +8,8 @@ use Rattle.dg_model.specs.Operation.{stored_truth}
 use Rattle.math_num.specs.Bits.{truth}
 use Rattle.hw_lower.specs.declared.plan.Operand.{Operand}
 use Rattle.hw_lower.specs.declared.plan.Plan.{Plan}
-use Rattle.hw_lower.specs.inner.Planned.{Numbers, IsMade, IsChosen, IsSwitched, bit_word}
-use Rattle.hw_lower.proofs.Chained.{made-map}
+use Rattle.hw_lower.specs.inner.PlanSteps.{Numbers, IsMade, IsChosen, IsSwitched, bit_word}
+use Rattle.hw_lower.proofs.StepChains.{made-map}
 use Rattle.math_num.proofs.Words.{wrapped-is}
 use Rattle.math_num.proofs.Residues.{only-false, is-same}
 use Rattle.math_list.proofs.Tests.{lt-yes}

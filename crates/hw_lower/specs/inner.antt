@@ -1,4 +1,4 @@
 -- What only private contracts cite.
-pub mod Planned
+pub mod PlanNets
+pub mod PlanSteps
 pub mod Spread
-pub mod Placed

@@ -2,7 +2,7 @@
 ghost use Rattle.std.specs.Prelude.{◌≡◌, ◌<◌, ◌≤◌, length};
 ghost use Rattle.math_num.specs.Word.{IsWrapped};
 ghost use Rattle.fx_type.specs.FxType.{aligned};
-ghost use Rattle.hw_lower.specs.inner.Planned.{IsMade, word_of};
+ghost use Rattle.hw_lower.specs.inner.PlanSteps.{IsMade, word_of};
 ghost use Rattle.hw_lower.specs.inner.Spread.{CanAlign, argument_of, side_of};
 
 use crate::plan::{Operand, Plan, Word, word_of};

@@ -2,7 +2,7 @@
 ghost use Rattle.std.specs.Prelude.{◌≡◌, ◌≤◌, ◌<◌, ◌-◌, ◌↔◌, pos, ◌-ℤ◌};
 ghost use Rattle.fx_type.specs.Conversion.{IsTruthOf};
 ghost use Rattle.math_num.specs.Bits.{low_bits};
-ghost use Rattle.hw_lower.specs.inner.Planned.{IsAt, IsMade, IsChosen, bit_word, bit_of};
+ghost use Rattle.hw_lower.specs.inner.PlanSteps.{IsAt, IsMade, IsChosen, bit_word, bit_of};
 
 use crate::plan::{Operand, Plan, Word, choose, constant, slice, unary};
 use hw_net::NetOp;

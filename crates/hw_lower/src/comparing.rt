@@ -2,8 +2,8 @@
 ghost use Rattle.std.specs.Prelude.{◌≡◌, Bool, not};
 ghost use Rattle.dg_model.specs.Operation.{compares, meets, stored_truth};
 ghost use Rattle.math_num.specs.Bits.{truth};
-ghost use Rattle.hw_lower.specs.inner.Planned.{IsAt, IsMade, IsPlain, CanRead, IsSwitched};
-ghost use Rattle.hw_lower.specs.inner.Planned.{bit_word, of_two};
+ghost use Rattle.hw_lower.specs.inner.PlanSteps.{IsAt, IsMade, IsPlain, CanRead, IsSwitched};
+ghost use Rattle.hw_lower.specs.inner.PlanSteps.{bit_word, of_two};
 ghost use Rattle.hw_lower.specs.inner.Spread.{CanSwitch};
 
 use crate::bits::{bit_word, inverse};

@@ -1,7 +1,7 @@
 //! Gates over the truth of the arguments.
 ghost use Rattle.std.specs.Prelude.{◌≡◌, not};
 ghost use Rattle.dg_model.specs.Operation.{gate_of, stored_truth};
-ghost use Rattle.hw_lower.specs.inner.Planned.{IsAt, IsMade, bit_word};
+ghost use Rattle.hw_lower.specs.inner.PlanSteps.{IsAt, IsMade, bit_word};
 ghost use Rattle.hw_lower.specs.inner.Spread.{HasSome, OfArguments, IsJoined, truth_of};
 
 use crate::aligning::argument_of;

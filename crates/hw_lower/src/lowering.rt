@@ -2,9 +2,9 @@
 ghost use Rattle.std.specs.Prelude.{◌≡◌, ◌≤◌, ◌<◌, length, All, IfOk, OnOk};
 ghost use Rattle.dg_model.specs.Operation.{operation_of, CanPrepare};
 ghost use Rattle.hw_lower.specs.Lowered.{AreArgs, IsLowered, Lowers};
-ghost use Rattle.hw_lower.specs.inner.Planned.{reads_of};
+ghost use Rattle.hw_lower.specs.inner.PlanSteps.{reads_of};
 ghost use Rattle.hw_lower.specs.inner.Spread.{BeginsWith};
-ghost use Rattle.hw_lower.specs.inner.Placed.{AreNumbers, AreNets, CanPut, net_by};
+ghost use Rattle.hw_lower.specs.inner.PlanNets.{AreNumbers, AreNets, CanPut, net_by};
 
 use crate::plan::{Plan, Step, finish, put_alone, word_of};
 use crate::planning::plan_operation;

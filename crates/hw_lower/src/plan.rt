@@ -4,8 +4,8 @@ ghost use Rattle.math_num.specs.Word.{IsWord, InWord};
 ghost use Rattle.fx_type.specs.declared.kind.FxType.{FxType};
 ghost use Rattle.hw_net.specs.declared.netlist.NetOp.TheVariants.{Multiply};
 ghost use Rattle.math_num.specs.Bits.{low_bits};
-ghost use Rattle.hw_lower.specs.inner.Planned.{IsAt, IsPlain, IsPut, IsMade, CanRead, word_of};
-ghost use Rattle.hw_lower.specs.inner.Planned.{IsChosen, IsGiven, step_of};
+ghost use Rattle.hw_lower.specs.inner.PlanSteps.{IsAt, IsPlain, IsPut, IsMade, CanRead, word_of};
+ghost use Rattle.hw_lower.specs.inner.PlanSteps.{IsChosen, IsGiven, step_of};
 ghost use Rattle.std.specs.Prelude.{ℕ, ℤ, pos, false, ◌+◌, ◌-◌, ◌/◌, ◌^◌, ◌<◌, ◌≤◌};
 
 use fx_io::{OutOfMemory, Sequence};

@@ -8,7 +8,7 @@ ghost use Rattle.fx_type.specs.Conversion.{Converts};
 ghost use Rattle.dg_model.specs.Operation.{operation_of, without_frac, type_of, value_of};
 ghost use Rattle.dg_model.specs.declared.op.Op.TheVariants.{Convert, Sum};
 ghost use Rattle.dg_model.specs.Operation.{signed_sum, meets, Gives, IsConverted, IsStep, OpGives};
-ghost use Rattle.hw_lower.specs.inner.Planned.{IsAt, IsMade, word_of};
+ghost use Rattle.hw_lower.specs.inner.PlanSteps.{IsAt, IsMade, word_of};
 ghost use Rattle.hw_lower.specs.inner.Spread.{CanPlan, OfArguments, IsPlanned, IsScaled};
 ghost use Rattle.hw_lower.specs.Lowered.{multiply_of};
 

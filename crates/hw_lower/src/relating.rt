@@ -2,7 +2,7 @@
 ghost use Rattle.std.specs.Prelude.{◌≡◌};
 ghost use Rattle.fx_type.specs.FxType.{InRange, frac_of, aligned};
 ghost use Rattle.dg_model.specs.Operation.{compares_values, stored_truth, type_of, value_of};
-ghost use Rattle.hw_lower.specs.inner.Planned.{IsMade, bit_word, word_of};
+ghost use Rattle.hw_lower.specs.inner.PlanSteps.{IsMade, bit_word, word_of};
 ghost use Rattle.hw_lower.specs.inner.Spread.{CanCompare, CanWiden, OfArguments};
 
 use crate::aligning::{Side, align, side_of};

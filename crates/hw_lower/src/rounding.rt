@@ -4,8 +4,8 @@ ghost use Rattle.std.specs.Prelude.{◌≡◌, ◌-◌, ◌+ℤ◌, true};
 ghost use Rattle.fx_type.specs.declared.rounding.Rounding.TheVariants.{Ceiling, Zero, Round};
 ghost use Rattle.fx_type.specs.declared.rounding.Rounding.TheVariants.{Nearest, Convergent};
 ghost use Rattle.math_num.specs.Bits.{shifted_down, low_bits};
-ghost use Rattle.hw_lower.specs.inner.Planned.{IsAt, IsMade, IsPastTie, IsRounded, CanRaise, CanPassTie, CanRound};
-ghost use Rattle.hw_lower.specs.inner.Planned.{bit_word};
+ghost use Rattle.hw_lower.specs.inner.PlanSteps.{IsAt, IsMade, IsPastTie, IsRounded, CanRaise, CanPassTie, CanRound};
+ghost use Rattle.hw_lower.specs.inner.PlanSteps.{bit_word};
 
 use crate::bits::{bit, bit_word, both, lowest, truth};
 use crate::plan::{Operand, Plan, binary, choose, constant, unary};

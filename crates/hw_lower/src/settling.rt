@@ -5,7 +5,7 @@ ghost use Rattle.fx_type.specs.declared.kind.FxType.{FxType};
 ghost use Rattle.fx_type.specs.declared.kind.FxType.TheVariants.{Num};
 ghost use Rattle.fx_type.specs.FxType.{IsType, frac_of};
 ghost use Rattle.fx_type.specs.Conversion.{Settles, StoresQuotient, Converts};
-ghost use Rattle.hw_lower.specs.inner.Planned.{CanHold, HoldsAbove, HoldsBelow, IsAt, IsChosen, IsMade, word_of};
+ghost use Rattle.hw_lower.specs.inner.PlanSteps.{CanHold, HoldsAbove, HoldsBelow, IsAt, IsChosen, IsMade, word_of};
 
 use crate::bits::{bit_word, truth};
 use crate::plan::{Operand, Plan, Word, binary, choose, constant, unary, word_of};

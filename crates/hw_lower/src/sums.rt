@@ -4,7 +4,7 @@ ghost use Rattle.math_num.specs.Word.{IsWord, IsWrapped};
 ghost use Rattle.fx_type.specs.FxType.{frac_of, aligned};
 ghost use Rattle.fx_type.specs.FullType.{negated_if, IsFullSum};
 ghost use Rattle.dg_model.specs.Operation.{signed_sum};
-ghost use Rattle.hw_lower.specs.inner.Planned.{IsAt, IsMade, word_of};
+ghost use Rattle.hw_lower.specs.inner.PlanSteps.{IsAt, IsMade, word_of};
 ghost use Rattle.hw_lower.specs.inner.Spread.{AreTerms, CanAlign, OfArguments};
 
 use crate::aligning::{Side, align, side_of};

@@ -9,13 +9,13 @@ use Rattle.hw_sched.specs.Laws.{MovingHavePeriods, OperationsAreServed, Operatio
 use Rattle.hw_sched.specs.Scheduled.{IsScheduled}
 use Rattle.hw_sched.specs.Slots.{Timing}
 use Rattle.hw_module.specs.Laws.{BuiltModulesAreOf, RefinedModulesAreOf}
-use Rattle.hw_module.proofs.Carried.{InputsHavePeriods, carries}
-use Rattle.hw_module.proofs.Multiplied.{names-multiplications}
-use Rattle.hw_module.proofs.Offered.{offers}
-use Rattle.hw_module.proofs.Refined.{multiplied-still, offers-still}
-use Rattle.hw_module.proofs.Served.{owed, serves}
-use Rattle.hw_module.proofs.Staged.{pipelined, few-registers}
-use Rattle.hw_build.proofs.Delivered.{input_moves}
+use Rattle.hw_module.proofs.Carries.{InputsHavePeriods, carries}
+use Rattle.hw_module.proofs.MultiplicationNames.{names-multiplications}
+use Rattle.hw_module.proofs.Offers.{offers}
+use Rattle.hw_module.proofs.Refinement.{multiplied-still, offers-still}
+use Rattle.hw_module.proofs.Services.{owed, serves}
+use Rattle.hw_module.proofs.Pipelines.{pipelined, few-registers}
+use Rattle.hw_build.proofs.Delivery.{input_moves}
 
 inputs-have-periods : InputsAreListed → MovingHavePeriods → {diagram : Diagram} {plan : Resolved} {timing : Timing} → IsScheduled diagram plan timing → InputsHavePeriods diagram
 inputs-have-periods listed moving {diagram} scheduled place e is =

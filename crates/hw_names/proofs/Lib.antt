@@ -1,4 +1,4 @@
-mod Named
+pub mod NameSets
 pub mod Places
 mod Plain
-pub mod Taking
+mod RootNames

@@ -1,7 +1,7 @@
+pub mod Accumulator
 pub mod Clocks
-pub mod Extending
-pub mod Gathered
-pub mod Growing
+pub mod Extends
+pub mod Growth
 pub mod Index
 pub mod Steps
 pub mod Words

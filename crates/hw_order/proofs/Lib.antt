@@ -1,4 +1,4 @@
 pub mod Exists
-pub mod Ordering
+pub mod NetOrder
 pub mod Same
 pub mod Unique

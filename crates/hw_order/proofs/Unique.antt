@@ -15,7 +15,7 @@ use Rattle.hw_net.specs.Registers.{Wave, Span, IsReg, IsEnReg, IsBridge, IsCount
 use Rattle.hw_net.specs.NetRows.{Inputs, Rows, NetRows, NetShows, RowsAreOne, span_of, operands_at}
 use Rattle.hw_net.specs.Netlist.{IsNetlist, IsKind, reads, reads_now}
 use Rattle.math_list.proofs.Places.{held as at-place, slice_get_inside}
-use Rattle.hw_order.proofs.Ordering.{now-there}
+use Rattle.hw_order.proofs.NetOrder.{now-there}
 use Rattle.hw_order.proofs.Same.{same-operands}
 
 module _ (n : ℕ) (span : Span) where

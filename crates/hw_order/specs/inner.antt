@@ -1,2 +1,2 @@
 -- What only private contracts cite.
-pub mod Ordering
+pub mod NetOrder

@@ -4,8 +4,8 @@ ghost use Rattle.std.specs.Prelude.{OnOk, IfOk, All, true, false, Option, Some};
 ghost use Rattle.std.specs.Prelude.{None, IsSome, ℕ, ◌↔◌, IsTrue};
 ghost use Rattle.hw_net.specs.Netlist.{IsNetlist, IsRanked, reads, reads_now};
 ghost use Rattle.hw_order.specs.Order.{IsOrder};
-ghost use Rattle.hw_order.specs.inner.Ordering.{AreReadNow, IsPlaced, IsGrowing, Visits, Serves, Grows};
-ghost use Rattle.hw_order.specs.inner.Ordering.{IsReader, IsLinked, IsClosed, place_of};
+ghost use Rattle.hw_order.specs.inner.NetOrder.{AreReadNow, IsPlaced, IsGrowing, Visits, Serves, Grows};
+ghost use Rattle.hw_order.specs.inner.NetOrder.{IsReader, IsLinked, IsClosed, place_of};
 
 use fx_io::{OutOfMemory, Sizes};
 use hw_net::{Net, NetKind, Netlist};

@@ -1,6 +1,6 @@
 pub mod Alike
-pub mod Composed
-pub mod Dropped
+pub mod Composition
+pub mod Drops
 pub mod Lists
-pub mod Redirected
-pub mod Represented
+pub mod Redirects
+pub mod Represents

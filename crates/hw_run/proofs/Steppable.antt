@@ -9,7 +9,7 @@ use Rattle.hw_net.specs.declared.netlist.NetKind.TheVariants.{Comb, Reg, EnReg, 
 use Rattle.hw_net.specs.Circuit.{Circuit}
 use Rattle.hw_net.specs.Operation.{arity}
 use Rattle.hw_net.specs.Netlist.{IsNetlist, IsKind, HasParts, HasBits, reads}
-use Rattle.hw_run.specs.inner.Running.{CanGive, CanStep}
+use Rattle.hw_run.specs.inner.StepTests.{CanGive, CanStep}
 use Rattle.math_list.proofs.Places.{held, slice_get_inside}
 use Rattle.math_num.proofs.Words.{word-width}
 

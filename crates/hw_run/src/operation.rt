@@ -6,7 +6,7 @@ ghost use Rattle.math_num.specs.Word.{IsCongruent, IsWord, IsWrapped};
 ghost use Rattle.hw_net.specs.Operation.{given_by};
 ghost use Rattle.math_num.specs.Bits.{low_bits, shifted_down, truth};
 ghost use Rattle.std.specs.Ordering.{int_eq};
-ghost use Rattle.hw_run.specs.inner.Running.{CanGive};
+ghost use Rattle.hw_run.specs.inner.StepTests.{CanGive};
 ghost use Rattle.hw_run.specs.State.{row_of};
 
 use fx_num::wrap;

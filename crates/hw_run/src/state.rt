@@ -1,6 +1,6 @@
 ghost use Rattle.std.specs.Prelude.{◌≡◌, ◌+◌, ◌^◌, ◌<◌, length, All, IfOk};
 ghost use Rattle.hw_net.specs.Netlist.{IsNetlist};
-ghost use Rattle.hw_run.specs.inner.Running.{CanStep};
+ghost use Rattle.hw_run.specs.inner.StepTests.{CanStep};
 ghost use Rattle.hw_run.specs.State.{State, IsStateOf, row_of};
 ghost use Rattle.hw_order.specs.Order.{IsOrder};
 ghost use Rattle.hw_net.specs.Step.{Goes};

@@ -3,7 +3,7 @@ ghost use Rattle.std.specs.Prelude.{◌≡◌, ◌+◌, ◌*◌, ◌-◌, ◌<�
 ghost use Rattle.math_num.specs.Word.{IsWord, IsWrapped};
 ghost use Rattle.hw_net.specs.Operation.{given_by};
 ghost use Rattle.hw_net.specs.Netlist.{reads};
-ghost use Rattle.hw_run.specs.inner.Running.{CanGive, CanStep, Shows};
+ghost use Rattle.hw_run.specs.inner.StepTests.{CanGive, CanStep, Shows};
 ghost use Rattle.hw_net.specs.NetRows.{number_at, operands_at, span_of};
 ghost use Rattle.hw_run.specs.State.{row_of};
 ghost use Rattle.hw_net.specs.Step.{RegSteps, EnRegSteps, BridgeSteps, CounterSteps, NetGoes};

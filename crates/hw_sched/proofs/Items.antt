@@ -12,11 +12,11 @@ use Rattle.dg_sort.specs.Control.{control_now}
 use Rattle.hw_latency.specs.Shared.{is_shared}
 use Rattle.hw_sched.specs.Level.{depth_at, is_same_period}
 use Rattle.hw_sched.specs.inner.Greatest.{IsGreatest, IsFirstInto, IsLineFrom, IsReadLine, IsReadControl, own_depth, IsNextDepth}
-use Rattle.hw_sched.proofs.Standing.{period_is}
-use Rattle.hw_sched.proofs.Numbered.{taken_from}
+use Rattle.hw_sched.proofs.DepthLaw.{period_is}
+use Rattle.hw_sched.proofs.SlotNumbers.{taken_from}
 use Rattle.hw_sched.proofs.Paths.{take_length}
-use Rattle.hw_sched.proofs.Served.{same_period}
-use Rattle.hw_sched.proofs.Reading.{greatest_none, greatest_either, line_counts, line_skips}
+use Rattle.hw_sched.proofs.Service.{same_period}
+use Rattle.hw_sched.proofs.Depths.{greatest_none, greatest_either, line_counts, line_skips}
 use Rattle.math_list.proofs.Places.{get_drop}
 
 -- ---- what the code reads

@@ -1,30 +1,30 @@
-mod Lists
 mod Bases
-mod Served
-mod Units
-pub mod Periods
+mod CellNumbers
+mod ChainExample
+mod DepthLaw
+mod Depths
+mod DiagramSlots
 mod Edges
-mod Rates
-mod Paths
-mod Readiness
 mod InTime
-mod Roots
-mod Standing
-mod Reading
 mod Items
-mod Worked
-mod Chaining
-mod Models
-mod Numbered
-pub mod Widths
-mod Counting
-mod Sized
+mod KindNumbers
 mod Limits
-mod Entering
-mod Tied
-mod Numbering
-mod Celling
-mod Spanning
+mod Lists
+mod Models
 mod Outputs
-mod Serving
+mod Paths
+pub mod Periods
+mod PortLines
+mod Rates
+mod Readiness
+mod RegisterCounts
+mod Roots
+mod Service
+mod SizeExamples
+mod SlotExamples
+mod SlotNumbers
+mod SpanLines
+mod Tied
+mod Units
 mod Used
+pub mod Widths

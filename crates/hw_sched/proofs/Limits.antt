@@ -9,7 +9,7 @@ use Rattle.dg_model.specs.declared.rule.Rule.{Rule}
 use Rattle.dg_model.specs.Attributes.{attributes_of}
 use Rattle.dg_model.specs.Faults.{fault_of}
 use Rattle.hw_sched.specs.declared.sizing.Sizing.{Sizing}
-use Rattle.hw_sched.specs.inner.Counted.{are_within}
+use Rattle.hw_sched.specs.inner.Counts.{are_within}
 use Rattle.hw_sched.specs.Sizing.{IsSizeOf, IsKeptSize}
 use Rattle.hw_sched.specs.Slots.{Timing}
 use Rattle.hw_sched.specs.Storage.{most_latency, most_storage, storage, BreaksSize}

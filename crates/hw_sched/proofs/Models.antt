@@ -10,7 +10,7 @@ use Rattle.dg_model.specs.Signals.{Attributes}
 use Rattle.hw_sched.specs.Slots.{Timing, need_of, have_of, slot_of}
 use Rattle.hw_sched.specs.Ready.{ready_of, declared_latency}
 use Rattle.hw_sched.specs.Storage.{shift_of}
-use Rattle.hw_sched.proofs.Worked.{block_of, edge_of, scalars}
+use Rattle.hw_sched.proofs.SlotExamples.{block_of, edge_of, scalars}
 
 -- ---- a gain with a register, a product of it, and a delay of that, all of period 2 in two clocks a base sample
 

@@ -12,7 +12,7 @@ use Rattle.hw_slots.specs.Answer.{base_at}
 use Rattle.hw_sched.specs.Level.{depth_at}
 use Rattle.hw_sched.specs.Slots.{Timing, base_slot}
 use Rattle.hw_sched.specs.Ready.{AreReady, ready_of}
-use Rattle.hw_sched.specs.inner.Served.{AreBases}
+use Rattle.hw_sched.specs.inner.Service.{AreBases}
 use Rattle.math_list.proofs.Places.{get_front, last_at}
 
 module _ (diagram : Diagram) (plan : Resolved) (timing : Timing) where

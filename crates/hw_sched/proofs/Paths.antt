@@ -15,9 +15,9 @@ use Rattle.hw_latency.specs.Cone.{IsFed}
 use Rattle.hw_latency.specs.Shared.{is_shared}
 use Rattle.hw_sched.specs.Laws.{IsEdge}
 use Rattle.hw_sched.specs.Level.{is_same_period, shared_on, EndsWith, IsDepth}
-use Rattle.hw_sched.proofs.Served.{same_period}
+use Rattle.hw_sched.proofs.Service.{same_period}
 use Rattle.math_list.proofs.Places.{last_at, push_cases, get_taken}
-use Rattle.hw_sched.proofs.Numbered.{taken_from}
+use Rattle.hw_sched.proofs.SlotNumbers.{taken_from}
 
 pub take_length : {A : Type 0} (n : ℕ) (xs : List A) → n ≤ length xs → length (take n xs) ≡ n
 take_length zero xs few = refl

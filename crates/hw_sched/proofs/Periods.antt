@@ -10,7 +10,7 @@ use Rattle.std.proofs.lemmas.Nat.{le-div}
 use Rattle.std.proofs.lemmas.Option.{MatchOption-at_some, none-some, same_Some, slice_get_within, get_or_from_slice_get}
 use Rattle.fx_type.specs.declared.decimal.Decimal.{Decimal}
 use Rattle.dg_waves.specs.Rounds.{round}
-use Rattle.dg_waves.proofs.Waved.{round_at, length_after, length_round}
+use Rattle.dg_waves.proofs.WaveRounds.{round_at, length_after, length_round}
 use Rattle.dg_model.specs.declared.diagram.Diagram.{Diagram}
 use Rattle.dg_model.specs.declared.diagram.Block.{Block}
 use Rattle.dg_model.specs.declared.diagram.PeriodSpec.{PeriodSpec}
@@ -28,7 +28,7 @@ use Rattle.dg_model.specs.Rate.{KeepsDeclared}
 use Rattle.dg_model.specs.Wired.{IsWired}
 use Rattle.hw_sched.specs.Laws.{PeriodsAreAbove, PeriodsAreShort, is_moving, MovingHavePeriods}
 use Rattle.math_list.proofs.Places.{held}
-use Rattle.dg_rates.proofs.Declaring.{declared_above}
+use Rattle.dg_rates.proofs.BasePeriods.{declared_above}
 
 -- a number that is there is above 0
 abbrev pub IsAbove : Option ℕ → Type 0

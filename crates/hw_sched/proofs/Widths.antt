@@ -17,7 +17,7 @@ use Rattle.dg_model.specs.Wires.{driver_of, enters}
 use Rattle.dg_model.specs.Widths.{width_at, input_widths, are_open, share, list_length, taken, most_width, next_of, widths_of}
 use Rattle.dg_model.proofs.Ports.{joins}
 use Rattle.dg_sort.proofs.Lines.{matched, from_there, to_there, control_there}
-use Rattle.hw_sched.specs.inner.Counted.{IsThere}
+use Rattle.hw_sched.specs.inner.Counts.{IsThere}
 use Rattle.hw_sched.proofs.Edges.{found_there}
 use Rattle.hw_sched.proofs.Periods.{readable_at}
 use Rattle.math_list.proofs.Places.{get_some}

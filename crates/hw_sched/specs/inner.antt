@@ -1,6 +1,6 @@
-pub mod Greatest
-pub mod Counted
-pub mod Keys
 pub mod Cells
+pub mod Counts
+pub mod Greatest
+pub mod Keys
+pub mod Service
 pub mod Spans
-pub mod Served

@@ -5,7 +5,7 @@ ghost use Rattle.dg_model.specs.PlanOf.{IsPlanOf};
 ghost use Rattle.hw_sched.specs.Slots.{shared_operations};
 ghost use Rattle.hw_sched.specs.Storage.{kept_by_role as kept_by_role_of, keeps_own as keeps_own_of, registers_at as registers_at_of};
 ghost use Rattle.hw_sched.specs.Storage.{registers_in_all as registers_in_all_of};
-ghost use Rattle.hw_sched.specs.inner.Counted.{capped, results_at as results_at_of, values_kept as values_kept_of};
+ghost use Rattle.hw_sched.specs.inner.Counts.{capped, results_at as results_at_of, values_kept as values_kept_of};
 
 use crate::drivers::{own_width, period_into};
 use dg_model::{Checked, Kind, Resolved, Role};

@@ -3,7 +3,7 @@ ghost use Rattle.std.specs.Prelude.{◌≡◌, ◌<◌, ◌^◌, [], Some, lengt
 ghost use Rattle.dg_model.specs.Attributes.{attributes_of};
 ghost use Rattle.hw_sched.specs.Answer.{timing_of};
 ghost use Rattle.hw_sched.specs.Storage.{lines_in_all as lines_in_all_of, shift_of, width_of_edge};
-ghost use Rattle.hw_sched.specs.inner.Counted.{capped, CanCount, HasLatencies, IsThere, controls_line as controls_line_of, edge_of, line_at};
+ghost use Rattle.hw_sched.specs.inner.Counts.{capped, CanCount, HasLatencies, IsThere, controls_line as controls_line_of, edge_of, line_at};
 
 use crate::drivers::own_width;
 use crate::laws::periods_are_above;

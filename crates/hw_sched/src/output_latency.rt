@@ -3,7 +3,7 @@ ghost use Rattle.std.specs.Prelude.{◌≡◌, ◌<◌, Some, length, map};
 ghost use Rattle.math_list.specs.Numbers.{numbers_from, greatest};
 ghost use Rattle.dg_model.specs.Attributes.{attributes_of};
 ghost use Rattle.hw_latency.specs.Latency.{AreLatencies};
-ghost use Rattle.hw_sched.specs.inner.Counted.{capped, is_output as is_output_of, is_root_output as is_root_output_of, output_latency as output_latency_of};
+ghost use Rattle.hw_sched.specs.inner.Counts.{capped, is_output as is_output_of, is_root_output as is_root_output_of, output_latency as output_latency_of};
 
 use crate::drivers::width_into;
 use dg_model::{Block, Checked, Resolved};

@@ -3,7 +3,7 @@ ghost use Rattle.dg_model.specs.Attributes.{attributes_of};
 ghost use Rattle.dg_model.specs.declared.resolved.Resolved.{Resolved};
 ghost use Rattle.hw_sched.specs.Ready.{AreReady, ready_of as ready_of_block};
 ghost use Rattle.hw_sched.specs.Answer.{timing_of};
-ghost use Rattle.hw_sched.specs.inner.Served.{AreBases};
+ghost use Rattle.hw_sched.specs.inner.Service.{AreBases};
 
 use dg_model::Checked;
 use fx_io::{Longs, OutOfMemory};

@@ -2,7 +2,7 @@ ghost use Rattle.std.specs.Prelude.{◌≡◌, ℕ, IfErr, IfOk, length};
 ghost use Rattle.hw_latency.specs.Latency.{AreLatencies};
 ghost use Rattle.dg_model.specs.PlanOf.{IsPlanOf};
 ghost use Rattle.hw_sched.specs.Sizing.{ForTimes, IsKeptSize, IsSizeFault};
-ghost use Rattle.hw_sched.specs.inner.Counted.{are_within, capped};
+ghost use Rattle.hw_sched.specs.inner.Counts.{are_within, capped};
 
 use crate::block_registers::blocks_in_all;
 use crate::edge_lines::lines_in_all;

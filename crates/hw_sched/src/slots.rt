@@ -3,7 +3,7 @@ ghost use Rattle.hw_latency.specs.Latency.{AreLatencies};
 ghost use Rattle.dg_model.specs.PlanOf.{IsPlanOf};
 ghost use Rattle.hw_sched.specs.Answer.{AreSlots, IsBudgetFault, timing_of};
 ghost use Rattle.hw_sched.specs.Scheduled.{IsTimingOf};
-ghost use Rattle.hw_sched.specs.inner.Served.{IsServed};
+ghost use Rattle.hw_sched.specs.inner.Service.{IsServed};
 
 use crate::cells::cells_of;
 use crate::deepening::depths;

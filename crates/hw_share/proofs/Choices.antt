@@ -18,14 +18,14 @@ use Rattle.hw_net.specs.Registers.{IsCounter}
 use Rattle.hw_net.specs.Netlist.{HasWord}
 use Rattle.hw_net.specs.NetRows.{span_of}
 use Rattle.hw_net.specs.Growing.{Extends, InRows, IsCounted, MayReadNow, with_net}
-use Rattle.hw_net.proofs.Growing.{longer, still-there, extends-trans, is-counter-stays, in-rows-first, in-rows-last, in-rows-both, in-rows-one}
+use Rattle.hw_net.proofs.Growth.{longer, still-there, extends-trans, is-counter-stays, in-rows-first, in-rows-last, in-rows-both, in-rows-one}
 use Rattle.hw_lines.specs.Register.{IsThere}
 use Rattle.hw_share.specs.inner.Parts.{IsNamed, Grows, IsChoosing}
 use Rattle.hw_share.specs.inner.Choices.{Tests, Chooses, IsTestAt, IsChoiceAt, HaveOneWord}
 use Rattle.hw_share.proofs.Numbers.{bit-word, truth-is, chosen-on, chosen-off}
 use Rattle.math_num.proofs.Words.{wrapped-is}
-use Rattle.hw_share.proofs.Grown.{all-two, all-three, grows-then}
-use Rattle.hw_share.proofs.Put.{put-extends, put-there, comb-grows}
+use Rattle.hw_share.proofs.Growth.{all-two, all-three, grows-then}
+use Rattle.hw_share.proofs.OneNet.{put-extends, put-there, comb-grows}
 use Rattle.hw_share.proofs.Counters.{counter-of-at, counter-shows, counter-grows, tests-of}
 
 -- what is left of the frame behind the slot as a literal, and whether the counter shows that

@@ -15,7 +15,7 @@ use Rattle.hw_net.specs.NetRows.{NetShows, span_of}
 use Rattle.hw_net.specs.Growing.{Extends, InRows, IsCounted}
 use Rattle.hw_net.proofs.Index.{same-is}
 use Rattle.hw_lines.proofs.Parts.{counter-part, counter-count}
-use Rattle.hw_net.proofs.Growing.{still-there, appends-counter}
+use Rattle.hw_net.proofs.Growth.{still-there, appends-counter}
 use Rattle.hw_share.specs.inner.Parts.{Grows}
 use Rattle.hw_share.specs.inner.Choices.{Tests}
 use Rattle.math_num.proofs.Residues.{is-same, not-same}

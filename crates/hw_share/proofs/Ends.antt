@@ -9,15 +9,15 @@ use Rattle.hw_net.specs.Registers.{Span, Takes}
 use Rattle.hw_net.specs.Netlist.{HasWord}
 use Rattle.hw_net.specs.NetRows.{span_of}
 use Rattle.hw_net.specs.Growing.{Extends, InRows}
-use Rattle.hw_net.proofs.Growing.{longer, still-there, extends-self, in-rows-first, in-rows-both, in-rows-map, in-rows-all}
+use Rattle.hw_net.proofs.Growth.{longer, still-there, extends-self, in-rows-first, in-rows-both, in-rows-map, in-rows-all}
 use Rattle.hw_share.specs.declared.operation.Operation.{Operation}
 use Rattle.hw_share.specs.declared.joining.Ends.{Ends}
 use Rattle.hw_share.specs.Operations.{IsOperation, AreApart, CanShare, SameWord, operands_of, unit_count}
 use Rattle.hw_share.specs.Shared.{IsFrameOf}
 use Rattle.hw_share.specs.inner.Parts.{IsNamed, Grows, IsChoosing}
-use Rattle.hw_share.specs.inner.Joined.{Selects, Offers, AreOffered, CanJoin, HasJoined, IsJoined, AreEnds, own_ends, ends_at}
-use Rattle.hw_share.proofs.Grown.{grows-self, word-then, word-later, word-itself, word-from, named-later}
-use Rattle.hw_share.proofs.Named.{left-named, right-named, among, unit-below, none-at}
+use Rattle.hw_share.specs.inner.ChainEnds.{Selects, Offers, AreOffered, CanJoin, HasJoined, IsJoined, AreEnds, own_ends, ends_at}
+use Rattle.hw_share.proofs.Growth.{grows-self, word-then, word-later, word-itself, word-from, named-later}
+use Rattle.hw_share.proofs.OperationLists.{left-named, right-named, among, unit-below, none-at}
 
 -- ---- before the first operation
 

@@ -8,7 +8,7 @@ use Rattle.hw_net.specs.Circuit.{Circuit}
 use Rattle.hw_net.specs.Registers.{Wave, Span}
 use Rattle.hw_net.specs.NetRows.{span_of}
 use Rattle.hw_net.specs.Growing.{Extends, InRows}
-use Rattle.hw_net.proofs.Growing.{longer, still-there, extends-self, extends-trans, in-rows-first, in-rows-last, in-rows-both}
+use Rattle.hw_net.proofs.Growth.{longer, still-there, extends-self, extends-trans, in-rows-first, in-rows-last, in-rows-both}
 use Rattle.hw_share.specs.declared.operation.Operation.{Operation}
 use Rattle.hw_share.specs.declared.joining.Ends.{Ends}
 use Rattle.hw_share.specs.Operations.{SameWord}
@@ -16,8 +16,8 @@ use Rattle.hw_share.specs.Shared.{IsFrameOf}
 use Rattle.hw_lines.specs.Register.{IsThere}
 use Rattle.hw_share.specs.inner.Parts.{IsNamed, Grows, IsChoosing}
 use Rattle.hw_share.specs.inner.Choices.{Tests, Chooses, IsTestAt, IsChoiceAt, HaveOneWord}
-use Rattle.hw_share.specs.inner.Joined.{Selects, GrowsOn, CanJoin, HasJoined, IsJoined, own_ends}
-use Rattle.hw_share.proofs.Grown.{all-three, grows-then, choosing-wider, word-from, word-later, there-later, named-later}
+use Rattle.hw_share.specs.inner.ChainEnds.{Selects, GrowsOn, CanJoin, HasJoined, IsJoined, own_ends}
+use Rattle.hw_share.proofs.Growth.{all-three, grows-then, choosing-wider, word-from, word-later, there-later, named-later}
 
 -- a choice by a test
 selects-of : (n : ℕ) (span : Span) (slot : ℕ) (test operand other wave : Wave) → Tests n span slot test → Chooses n test operand other wave → Selects n span slot operand other wave

@@ -6,7 +6,7 @@ use Rattle.hw_net.specs.Netlist.{HasWord}
 use Rattle.hw_share.specs.declared.operation.Operation.{Operation}
 use Rattle.hw_share.specs.declared.joining.Ends.{Ends}
 use Rattle.hw_share.specs.Operations.{IsOperation, CanShare, IsUsed, unit_count}
-use Rattle.hw_share.specs.inner.Joined.{AreEnds, ends_at}
+use Rattle.hw_share.specs.inner.ChainEnds.{AreEnds, ends_at}
 use Rattle.hw_share.specs.inner.Steps.{CanMultiply, AreReady}
 
 module _ (before now : Circuit) (operations : List Operation) (ends : List (Option Ends)) (can : CanShare before operations) (are : AreEnds before now operations ends (length operations)) where

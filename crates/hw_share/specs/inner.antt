@@ -1,6 +1,6 @@
 -- What only private contracts cite.
-pub mod Parts
+pub mod ChainEnds
 pub mod Choices
-pub mod Joined
-pub mod KnownTests
+pub mod ClockTests
+pub mod Parts
 pub mod Steps

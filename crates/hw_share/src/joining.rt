@@ -3,8 +3,8 @@ ghost use Rattle.std.specs.Prelude.{◌≡◌, ◌<◌, IfOk, length};
 ghost use Rattle.hw_net.specs.Circuit.{Circuit};
 ghost use Rattle.hw_net.specs.Growing.{Extends};
 ghost use Rattle.hw_share.specs.Operations.{CanShare, unit_count};
-ghost use Rattle.hw_share.specs.inner.Joined.{AreEnds, CanJoin, IsJoined};
-ghost use Rattle.hw_share.specs.inner.KnownTests.{AreTests};
+ghost use Rattle.hw_share.specs.inner.ChainEnds.{AreEnds, CanJoin, IsJoined};
+ghost use Rattle.hw_share.specs.inner.ClockTests.{AreTests};
 
 use crate::choosing::choose;
 use crate::moments::{Moments, test_for};

@@ -4,7 +4,7 @@ ghost use Rattle.hw_net.specs.Circuit.{Circuit};
 ghost use Rattle.hw_net.specs.Growing.{Extends};
 ghost use Rattle.hw_share.specs.inner.Choices.{IsSlotOf};
 ghost use Rattle.hw_share.specs.inner.Parts.{Grows, IsChoosing};
-ghost use Rattle.hw_share.specs.inner.KnownTests.{IsTested};
+ghost use Rattle.hw_share.specs.inner.ClockTests.{IsTested};
 
 use crate::testing::test_at;
 use fx_io::OutOfMemory;

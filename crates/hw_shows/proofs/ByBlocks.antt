@@ -23,8 +23,8 @@ use Rattle.hw_shows.specs.Timed.{IsTimed}
 use Rattle.hw_shows.specs.Waves.{Waves, AreBuilt, AreDriven, IsMadeAs, IsPiped}
 use Rattle.hw_shows.specs.Laws.{IsDesign}
 use Rattle.hw_shows.proofs.ByPorts.{InTime}
-use Rattle.hw_shows.proofs.TriedRules.{Columns, IsTried, attributes_in, attributes_tried, each_passes, passes_at}
-use Rattle.hw_shows.proofs.Trying.{are_within, if_so, shows_test, so, tried_range, tried_shows}
+use Rattle.hw_shows.proofs.RuleTests.{Columns, IsTried, attributes_in, attributes_tried, each_passes, passes_at}
+use Rattle.hw_shows.proofs.WaveTests.{are_within, if_so, shows_test, so, tried_range, tried_shows}
 
 -- ---- times, by tests
 

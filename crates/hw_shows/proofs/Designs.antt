@@ -8,7 +8,7 @@ use Rattle.dg_model.specs.Attributes.{attributes_of}
 use Rattle.dg_model.specs.GainParam.{ParamTypeIsOne}
 use Rattle.dg_model.specs.Signals.{Stimulus, Table}
 use Rattle.dg_tables.specs.Laws.{IsOrdered}
-use Rattle.dg_tables.proofs.Grounded.{order_rank, ranked}
+use Rattle.dg_tables.proofs.Runnable.{order_rank, ranked}
 use Rattle.hw_net.specs.Closed.{RegisterIsClosed, EnRegIsClosed}
 use Rattle.hw_shows.specs.Timing.{Timing}
 use Rattle.hw_shows.specs.Waves.{Waves}

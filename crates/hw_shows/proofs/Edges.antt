@@ -4,7 +4,7 @@ use Rattle.hw_net.specs.Registers.{Wave}
 use Rattle.hw_lines.specs.Line.{Line, IsLine, IsRegistered}
 use Rattle.hw_shows.specs.Shows.{Shows}
 use Rattle.hw_shows.proofs.Hits.{multiple_of}
-use Rattle.hw_lines.proofs.Ended.{part-below}
+use Rattle.hw_lines.proofs.LineEnds.{part-below}
 
 -- the line of a source of period p and latency m to a reader of period q and latency l
 abbrev pub line_of : ℕ → ℕ → ℕ → ℕ → ℕ → Line

@@ -21,13 +21,13 @@ use Rattle.hw_shows.specs.Timed.{Feeds, IsInTime, IsTimed, lag_into}
 use Rattle.hw_shows.specs.Series.{span_at, IsEnabledSeries}
 use Rattle.hw_shows.specs.Waves.{Waves, IsOfferedAt, AreBuilt}
 use Rattle.hw_shows.specs.Laws.{IsDesign}
-use Rattle.hw_shows.proofs.Trying.{wave_of, tried_line, tried_same}
+use Rattle.hw_shows.proofs.WaveTests.{wave_of, tried_line, tried_same}
 use Rattle.dg_model.proofs.Examples.{stores_small}
 use Rattle.hw_shows.proofs.Small.{int8, int16, int16_full, kept, input_of, output, edge_of, each_by, order_of_six}
 use Rattle.hw_shows.proofs.ByBlocks.{AreMade, ArePiped, AreRight, DoStay, timed_by, given_by, designed, undesigned}
 use Rattle.hw_shows.proofs.ByPorts.{InTime, plain_in_time, no_ends_in_time, one_port_in_time, outside, port_offered, AreOfferedTo, no_ports_offered, one_port_offered}
-use Rattle.hw_shows.proofs.GainChecked.{test, gain, delay, blocks, columns, diagram, ordered, tried}
-use Rattle.hw_shows.proofs.TriedRules.{attributes_in}
+use Rattle.hw_shows.proofs.GainDiagram.{test, gain, delay, blocks, columns, diagram, ordered, tried}
+use Rattle.hw_shows.proofs.RuleTests.{attributes_in}
 use Rattle.hw_shows.proofs.GainIntoDelay.{gains, controls, delays, stage, control, enable, state, moved, pipeline, states, not_states}
 
 abbrev timing : Timing

@@ -4,7 +4,7 @@ use Rattle.std.proofs.lemmas.Int.{ints}
 use Rattle.hw_net.specs.Registers.{Wave, Span, IsReg, IsEnReg}
 use Rattle.hw_shows.specs.Shows.{Shows}
 use Rattle.hw_shows.specs.Series.{IsSeries, IsEnabledSeries}
-use Rattle.hw_shows.proofs.Trying.{wave_of, tried_shows, tried_reg, tried_en}
+use Rattle.hw_shows.proofs.WaveTests.{wave_of, tried_shows, tried_reg, tried_en}
 
 -- the entries of the Gain, of the control and of the Delay
 abbrev pub gains : ℕ → ℤ

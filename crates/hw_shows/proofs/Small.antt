@@ -20,7 +20,7 @@ use Rattle.fx_type.specs.FxType.{InRange}
 use Rattle.fx_type.specs.FullType.{IsFullProduct}
 use Rattle.fx_type.specs.Conversion.{Converts}
 use Rattle.fx_type.specs.StoredOf.{is_in_range}
-use Rattle.fx_type.proofs.Stored.{Decides-in_range}
+use Rattle.fx_type.proofs.Decimals.{Decides-in_range}
 use Rattle.math_list.specs.Numbers.{numbers_from}
 use Rattle.dg_model.specs.declared.diagram.Diagram.{Diagram}
 use Rattle.dg_model.specs.declared.diagram.Block.{Block}
@@ -40,7 +40,7 @@ use Rattle.dg_model.specs.Widths.{Widths, width_at, widths_of}
 use Rattle.dg_model.specs.TypeRounds.{Types, types_of}
 use Rattle.dg_model.specs.Periods.{known_at, periods_of, period_at}
 use Rattle.math_list.proofs.ByRecursion.{EachByRecursion, all_of, each_of}
-use Rattle.hw_shows.proofs.Trying.{each_below, each_holds}
+use Rattle.hw_shows.proofs.WaveTests.{each_below, each_holds}
 
 -- ---- types and numbers
 abbrev pub int8 : FxType

@@ -10,7 +10,7 @@ use Rattle.math_list.specs.Numbers.{greatest}
 use Rattle.hw_slots.specs.declared.operation.Operation.{Operation}
 use Rattle.hw_slots.specs.Slots.{shared_out, needed, level_after, turn_of, beside}
 use Rattle.hw_slots.specs.inner.Tally.{tally_at}
-use Rattle.hw_slots.specs.inner.Made.{AreCounts, AreTurns, AreWidths, AreLevels, AreMost}
+use Rattle.hw_slots.specs.inner.Counts.{AreCounts, AreTurns, AreWidths, AreLevels, AreMost}
 use Rattle.math_list.proofs.Places.{count_cons, get_front, last_at}
 use Rattle.math_list.proofs.Sums.{greatest_next}
 

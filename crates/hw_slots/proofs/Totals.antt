@@ -11,7 +11,7 @@ use Rattle.hw_slots.specs.declared.operation.Span.{Span}
 use Rattle.hw_slots.specs.Slots.{count_at, shared_out, needed, level_width, level_after, levels_of, base_slot, need_of, turn_of, slot_of, units_of_kind, first_unit, unit_of}
 use Rattle.hw_slots.specs.Answer.{AreStarts, AreUnits, AreBaseSlots, HasSlots, IsShort}
 use Rattle.hw_slots.specs.inner.Tally.{tally_at}
-use Rattle.hw_slots.specs.inner.Made.{AreWidths, AreLevels, AreMost, AreTurns, AreBases, AreBasesBy, AreFirst, AreFirstBy, AreLaid, IsElsewhere, base_by, first_by}
+use Rattle.hw_slots.specs.inner.Counts.{AreWidths, AreLevels, AreMost, AreTurns, AreBases, AreBasesBy, AreFirst, AreFirstBy, AreLaid, IsElsewhere, base_by, first_by}
 use Rattle.math_list.proofs.Sums.{greatest_at, sums_same, sum_below, sum_below_next}
 use Rattle.hw_slots.proofs.Steps.{grown, grown_size}
 

@@ -1,5 +1,5 @@
 ghost use Rattle.std.specs.Prelude.{IfOk};
-ghost use Rattle.hw_slots.specs.inner.Made.{AreFirstBy};
+ghost use Rattle.hw_slots.specs.inner.Counts.{AreFirstBy};
 
 use crate::tally::{Tally, total};
 use fx_io::OutOfMemory;

@@ -1,6 +1,6 @@
 ghost use Rattle.std.specs.Prelude.{◌≡◌, ◌+◌, IfOk, IfErr, OnOk, length};
 ghost use Rattle.hw_slots.specs.Answer.{IsSlotFault};
-ghost use Rattle.hw_slots.specs.inner.Made.{AreLaid, AreLevels, AreWidths, AreBasesBy, IsElsewhere, base_by};
+ghost use Rattle.hw_slots.specs.inner.Counts.{AreLaid, AreLevels, AreWidths, AreBasesBy, IsElsewhere, base_by};
 
 use crate::operation::{Operation, Span};
 use crate::slots::SlotFault;

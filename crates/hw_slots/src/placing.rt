@@ -1,6 +1,6 @@
 ghost use Rattle.std.specs.Prelude.{IfOk, length};
 ghost use Rattle.hw_slots.specs.Answer.{AreStarts, AreUnits};
-ghost use Rattle.hw_slots.specs.inner.Made.{AreFirst, AreLaid, CanPlace};
+ghost use Rattle.hw_slots.specs.inner.Counts.{AreFirst, AreLaid, CanPlace};
 
 use crate::operation::{Operation, Span};
 use crate::tally::{Tally, total};

@@ -1,6 +1,6 @@
 ghost use Rattle.std.specs.Prelude.{◌<◌, IfErr, IfOk, length};
 ghost use Rattle.hw_slots.specs.Answer.{AreSlots, AreUnits, IsSlotFault};
-ghost use Rattle.hw_slots.specs.inner.Made.{AreCounts, AreLaid, AreLevels, CanServe};
+ghost use Rattle.hw_slots.specs.inner.Counts.{AreCounts, AreLaid, AreLevels, CanServe};
 
 use crate::bases::Bases;
 use crate::firsts::firsts_of;

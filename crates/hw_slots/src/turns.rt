@@ -1,5 +1,5 @@
 ghost use Rattle.std.specs.Prelude.{IfOk, length};
-ghost use Rattle.hw_slots.specs.inner.Made.{AreCounts, AreTurns};
+ghost use Rattle.hw_slots.specs.inner.Counts.{AreCounts, AreTurns};
 
 use crate::operation::Operation;
 use crate::tally::{Tally, total};

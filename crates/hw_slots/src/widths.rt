@@ -1,5 +1,5 @@
 ghost use Rattle.std.specs.Prelude.{◌≡◌, ◌<◌, IfOk};
-ghost use Rattle.hw_slots.specs.inner.Made.{AreCounts, AreLevels, AreMost, AreWidths};
+ghost use Rattle.hw_slots.specs.inner.Counts.{AreCounts, AreLevels, AreMost, AreWidths};
 
 use crate::operation::Operation;
 use crate::tally::{Tally, total};

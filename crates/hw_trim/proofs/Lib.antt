@@ -1,5 +1,5 @@
-pub mod Kept
-pub mod Marked
+pub mod MarkCounts
+pub mod Marks
+pub mod NoProducts
 pub mod Result
-pub mod Trimmed
-pub mod Unmultiplied
+pub mod Trim

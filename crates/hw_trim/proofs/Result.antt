@@ -13,10 +13,10 @@ use Rattle.hw_refine.specs.Refines.{Refines}
 use Rattle.math_list.proofs.Elements.{stands, all-at, all-from}
 use Rattle.hw_renumber.specs.Renumbered.{CanMove, place_in, renumbered}
 use Rattle.hw_renumber.specs.Sound.{CanStay, RenumberedEmits, RenumberedRuns}
-use Rattle.hw_trim.specs.inner.Keeping.{ArePlaces, kept_of}
-use Rattle.hw_trim.specs.inner.Marking.{IsNeeded}
-use Rattle.hw_trim.proofs.Kept.{kept-is}
-use Rattle.hw_trim.proofs.Trimmed.{can, drops}
+use Rattle.hw_trim.specs.inner.MarkPlaces.{ArePlaces, kept_of}
+use Rattle.hw_trim.specs.inner.Marks.{IsNeeded}
+use Rattle.hw_trim.proofs.MarkCounts.{kept-is}
+use Rattle.hw_trim.proofs.Trim.{can, drops}
 
 module _ (old : Circuit) (runs : IsNetlist old) (emits : IsEmittable old) (marks : List Bool) (needed : IsNeeded old marks) (kept list : List ℕ) (kept-are : kept ≡ kept_of marks (length marks)) (are : ArePlaces marks list (length marks)) where
   long : length list ≡ length old.nets

@@ -1,3 +1,3 @@
 -- What only private contracts cite.
-pub mod Keeping
-pub mod Marking
+pub mod MarkPlaces
+pub mod Marks

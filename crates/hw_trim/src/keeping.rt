@@ -1,6 +1,6 @@
 //! The numbers of nets that are marked, and what their numbers become.
 ghost use Rattle.std.specs.Prelude.{◌≡◌, [], OnOk, length};
-ghost use Rattle.hw_trim.specs.inner.Keeping.{kept_of, ArePlaces};
+ghost use Rattle.hw_trim.specs.inner.MarkPlaces.{kept_of, ArePlaces};
 
 use fx_io::OutOfMemory;
 

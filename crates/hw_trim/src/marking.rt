@@ -3,7 +3,7 @@ ghost use Rattle.std.specs.Prelude.{◌≡◌, ◌<◌, ℕ, OnOk, All, Some, sl
 ghost use Rattle.hw_net.specs.Frames.{counter_of};
 ghost use Rattle.hw_net.specs.Netlist.{reads};
 ghost use Rattle.hw_net.specs.declared.netlist.Net.{Net};
-ghost use Rattle.hw_trim.specs.inner.Marking.{is_marked, multiplies, IsMarking, Marks, IsServed};
+ghost use Rattle.hw_trim.specs.inner.Marks.{is_marked, multiplies, IsMarking, Marks, IsServed};
 
 use fx_io::OutOfMemory;
 use hw_net::{Frame, Net, NetKind, NetLabel, NetOp, NetPort, Netlist};

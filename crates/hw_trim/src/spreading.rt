@@ -2,7 +2,7 @@
 ghost use Rattle.std.specs.Prelude.{◌≡◌, OnOk, IfOk, length};
 ghost use Rattle.hw_net.specs.Netlist.{IsNetlist};
 ghost use Rattle.hw_net.specs.Emittable.{IsEmittable};
-ghost use Rattle.hw_trim.specs.inner.Marking.{IsMarking, Marks, IsRooted, AreServed, IsNeeded};
+ghost use Rattle.hw_trim.specs.inner.Marks.{IsMarking, Marks, IsRooted, AreServed, IsNeeded};
 
 use crate::marking;
 use fx_io::OutOfMemory;

@@ -2,7 +2,7 @@ ghost use Rattle.std.specs.Prelude.{IfOk};
 ghost use Rattle.hw_net.specs.Emittable.{IsEmittable};
 ghost use Rattle.hw_net.specs.Netlist.{IsNetlist};
 ghost use Rattle.hw_refine.specs.Refines.{Refines};
-ghost use Rattle.hw_trim.specs.inner.Marking.{IsNeeded};
+ghost use Rattle.hw_trim.specs.inner.Marks.{IsNeeded};
 
 use crate::keeping::keep;
 use crate::spreading::needed;

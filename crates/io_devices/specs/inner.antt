@@ -1,2 +1,2 @@
 -- What only private contracts cite.
-pub mod Fetching
+pub mod Fetch

@@ -1,7 +1,7 @@
 ghost use Rattle.std.specs.Prelude.{◌≡◌, ℕ, ◌<◌, ◌≤◌, take, Err, None, IfOk, IfSome, IsErrOf, OnOk};
 ghost use Rattle.std.specs.IoError.{error_kind};
 ghost use Rattle.io_devices.specs.Files.{IsOfFile};
-ghost use Rattle.io_devices.specs.inner.Fetching.{IsAnswerTo, IsOwed};
+ghost use Rattle.io_devices.specs.inner.Fetch.{IsAnswerTo, IsOwed};
 ghost use Rattle.fx_io.specs.Cause.{Rose, counted};
 ghost use Rattle.fx_io.specs.Shelf.{AnswersSteadily, Fetched, IsOverlong};
 

@@ -18,12 +18,12 @@ use Rattle.dg_model.specs.Laws.{InputsAreListed}
 use Rattle.dg_model.specs.RootElements.{RootElement, root_inputs, root_outputs}
 use Rattle.dg_model.specs.Wired.{IsWired}
 use Rattle.dg_response.specs.Response.{column_of as column_in, input_columns, output_columns, step_of as step_in}
-use Rattle.cmd_generate.proofs.Ported.{input-at, input-period, inputs-many, output-numbers, output-of, outputs-are, outputs-many}
+use Rattle.cmd_generate.proofs.Ports.{input-at, input-period, inputs-many, output-numbers, output-of, outputs-are, outputs-many}
 use Rattle.cmd_simulate.specs.Simulating.{output_periods}
 use Rattle.hw_module.specs.Carries.{Carries}
 use Rattle.hw_module.specs.Interface.{NamedElement, input_data, input_elements, output_data, output_elements}
 use Rattle.hw_sched.specs.Slots.{Timing}
-use Rattle.st_wrap.proofs.Columned.{got-in}
+use Rattle.st_wrap.proofs.ColumnPorts.{got-in}
 use Rattle.vl_ast.specs.declared.modules.Module.{Module}
 use Rattle.vl_ast.specs.declared.modules.Port.{Port}
 use Rattle.vl_ast.specs.Attributes.{step_of}

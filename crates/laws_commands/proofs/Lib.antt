@@ -1,9 +1,9 @@
 pub mod Columns
 pub mod Numbers
 pub mod Orders
-pub mod Planned
 pub mod Ready
 pub mod Replays
 pub mod Samples
+pub mod Schedules
 pub mod Texts
 pub mod Walks

@@ -22,9 +22,9 @@ use Rattle.dg_tables.specs.Laws.{IsOrdered, SolvedIsInRange, TypesAreValid}
 use Rattle.dg_response.specs.Response.{input_columns, number_in, shown, stimulus_of}
 use Rattle.math_list.proofs.Indices.{by-places}
 use Rattle.dg_response.proofs.Single.{is-shown}
-use Rattle.dg_response.proofs.Stimulated.{are-columns}
+use Rattle.dg_response.proofs.Stimuli.{are-columns}
 use Rattle.laws_commands.proofs.Ready.{Schedules, ready-in, some-step}
-use Rattle.cmd_generate.proofs.Ported.{cycles-told, input-at, output-numbers, output-of, outputs-are, outputs-many, stalls}
+use Rattle.cmd_generate.proofs.Ports.{cycles-told, input-at, output-numbers, output-of, outputs-are, outputs-many, stalls}
 use Rattle.math_list.proofs.Places.{there_map, there_within}
 use Rattle.hw_arcs.specs.Latencies.{latency_at}
 use Rattle.hw_module.specs.Carries.{Carries, IsDrivenRun}
@@ -38,7 +38,7 @@ use Rattle.vl_ast.specs.Driven.{Driven, output_ports}
 use Rattle.vl_ast.specs.Header.{output_port}
 use Rattle.vl_ast.specs.Value.{bits_of, number_of}
 use Rattle.vl_ast.specs.Windows.{Window, row_at}
-use Rattle.vl_ast.proofs.Unstalled.{AllCount, place-clock}
+use Rattle.vl_ast.proofs.FullCounts.{AllCount, place-clock}
 use Rattle.vl_emit.proofs.Numbers.{number-is}
 use Rattle.vl_replay.specs.Sampled.{Sampled, hit_at, numbers_of, window_of}
 use Rattle.vl_replay.proofs.Times.{hit-below, last-is-hit}

@@ -15,11 +15,11 @@ use Rattle.dg_tables.specs.Laws.{IsOrdered}
 use Rattle.cmd_model.specs.Model.{IsAccepted}
 use Rattle.cmd_model.specs.Verdict.{Verdict}
 use Rattle.laws_commands.specs.Laws.{BadReplayedIsSimulated, BadSimulatedIsReplayed, ReplayedIsSimulated, ReplaysAreResponses, ReplaysAreSimulations, SimulatedIsReplayed, SimulationsAreReplays}
-use Rattle.laws_commands.specs.inner.Known.{AreKnown}
+use Rattle.laws_commands.specs.inner.LawsBelow.{AreKnown}
 use Rattle.laws_commands.proofs.Columns.{columns-are, outputs-count, periods-are}
 use Rattle.laws_commands.proofs.Numbers.{Laws, lines_are}
 use Rattle.laws_commands.proofs.Orders.{some-order}
-use Rattle.laws_commands.proofs.Planned.{scheduled-of}
+use Rattle.laws_commands.proofs.Schedules.{scheduled-of}
 use Rattle.laws_commands.proofs.Texts.{rows-fit, same-response}
 use Rattle.cmd_generate.specs.Generated.{IsVerilogOf}
 use Rattle.cmd_replay.specs.Replayed.{AreRowsFor, CanBeReplayed, IsReplayOf, IsSoundText, fault_for}

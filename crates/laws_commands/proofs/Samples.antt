@@ -1,7 +1,7 @@
 -- What is told of the module of a sample is the response that it is compared with.
 use Rattle.std.proofs.Common.{◌≡◌, ◌≤◌, inl, inr, ℕ, List, length, refl, sym, ◌∙◌}
 use Rattle.laws_commands.specs.Laws.{SamplesAgree}
-use Rattle.laws_commands.specs.inner.Known.{AreKnown}
+use Rattle.laws_commands.specs.inner.LawsBelow.{AreKnown}
 use Rattle.laws_commands.proofs.Replays.{replayed-simulates, same-text, simulation-replays}
 use Rattle.cmd_generate.specs.Generated.{IsVerilogOf}
 use Rattle.cmd_replay.specs.Benched.{IsTold}

@@ -1,2 +1,2 @@
 -- What private contracts cite.
-pub mod Known
+pub mod LawsBelow

@@ -1,6 +1,6 @@
 //! What the definitions together say. Each law is a function that does nothing.
 ghost use Rattle.laws_commands.specs.Laws.{BadReplayedIsSimulated, BadSimulatedIsReplayed, ReplayedIsSimulated, ReplaysAreResponses, ReplaysAreSimulations, SamplesAgree, SimulatedIsReplayed, SimulationsAreReplays};
-ghost use Rattle.laws_commands.specs.inner.Known.{AreKnown};
+ghost use Rattle.laws_commands.specs.inner.LawsBelow.{AreKnown};
 
 /// What the crates below say together.
 fn all_are_known()

@@ -1,5 +1,5 @@
-mod Convolved
-mod Fitting
+mod Convolution
+mod FilterFits
 mod Rates
 mod Types
 mod Widths

@@ -12,7 +12,7 @@ use Rattle.fx_type.specs.FullType.{IsFullProduct}
 use Rattle.fx_type.specs.FullTypeOf.{full_product_of}
 use Rattle.fx_type.specs.Laws.{FullProductIsOne}
 use Rattle.math_list.proofs.Places.{held, get_some, there_map}
-use Rattle.dg_waves.proofs.Waved.{round_at, length_after}
+use Rattle.dg_waves.proofs.WaveRounds.{round_at, length_after}
 use Rattle.dg_model.specs.declared.diagram.Block.{Block}
 use Rattle.dg_model.specs.declared.diagram.Diagram.{Diagram}
 use Rattle.dg_model.specs.declared.diagram.Edge.{Edge}

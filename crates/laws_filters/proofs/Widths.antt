@@ -5,7 +5,7 @@ use Rattle.std.proofs.lemmas.List.{length-map, length-replicate}
 use Rattle.std.proofs.lemmas.Option.{none-some, same_Some, slice_get_within, get_or_from_slice_get}
 use Rattle.fx_type.specs.declared.spec.TypeSpec.TheVariants.{Internal}
 use Rattle.math_list.proofs.Places.{held, get_some, there_map, map_there}
-use Rattle.dg_waves.proofs.Waved.{round_at, length_after}
+use Rattle.dg_waves.proofs.WaveRounds.{round_at, length_after}
 use Rattle.dg_model.specs.declared.diagram.Block.{Block}
 use Rattle.dg_model.specs.declared.diagram.Diagram.{Diagram}
 use Rattle.dg_model.specs.declared.diagram.Edge.{Edge}

@@ -18,7 +18,7 @@ use Rattle.fir_block.specs.declared.filter.FirBlock.{FirBlock}
 use Rattle.fir_block.specs.Expanded.{IsFir, blocks_of, delay_block, gain_blocks, sum_block, port_block, plain_block, numbered}
 use Rattle.mdl_build.specs.declared.expanding.DrawnBlock.{DrawnBlock}
 use Rattle.mdl_build.specs.Expanded.{inner_blocks, filling, with_filling, moved_block, expanded_blocks}
-use Rattle.mdl_build.proofs.ExpandedDrawn.{IsDrawnModel}
+use Rattle.mdl_build.proofs.FilterSketch.{IsDrawnModel}
 
 module _ (one other : Decimal) (fir : Fir) (is : IsFir fir) where
   within : (k : ℕ) → 1 ≤ k → k < length fir.coefficients → repeated (length fir.initial) (k - 1) < length fir.initial

@@ -5,31 +5,34 @@ pub mod CountLemmas
 pub mod Ends
 mod Examples
 pub mod ExtentLemmas
-mod ExpandedDrawn
-mod ExpandedEdges
-mod ExpandedLists
-mod ExpandedModel
-mod ExpandedPlaces
-mod ExpandedPorts
-mod ExpandedSound
+pub mod Fillings
+mod FilterEdges
+mod FilterLists
+mod FilterModel
+mod FilterPlaces
+mod FilterPorts
+mod FilterSketch
+mod FilterSound
 pub mod FindSteps
 pub mod FirstDefaults
-pub mod Found
-pub mod Fillings
-pub mod KnownLemmas
 pub mod LineLemmas
-pub mod MakingLemmas
+pub mod MakerLemmas
+pub mod ModelNumbers
 pub mod NameNumbers
-pub mod Numbered
+pub mod OneFault
+pub mod OneNested
+pub mod OneSetting
+pub mod ParameterLemmas
 pub mod PartRanges
 pub mod Places
 pub mod Ranges
 pub mod Readable
 mod ReadableFilter
-pub mod ReadingLemmas
+pub mod Readings
 pub mod RoleLemmas
 pub mod RoleSteps
 pub mod SettingRanges
+pub mod SomeNested
 pub mod Sound
 pub mod SoundBlocks
 mod SoundFilters
@@ -39,9 +42,6 @@ pub mod SoundParts
 pub mod SoundPorts
 pub mod SoundSearch
 pub mod SoundTree
+pub mod StructureLemmas
 pub mod TypeNumbers
 mod Zeros
-pub mod OneSetting
-pub mod OneNested
-pub mod OneFault
-pub mod SomeNested

@@ -21,7 +21,7 @@ use Rattle.mdl_build.specs.Blocks.{AreRead, HasSettings, first_text}
 use Rattle.mdl_build.specs.Library.{ParameterRow, parameters_of}
 use Rattle.mdl_build.specs.Lookup.{text_of}
 use Rattle.mdl_build.specs.Settings.{ReadsAs, IsTypeOr, IsTypeOrFirst, IsGivenType, IsCoefficient, IsChosen, IsListOrEmpty, IsPartsText, IsOperands, IsTapType, unset, with_setting}
-use Rattle.mdl_build.proofs.Found.{differ}
+use Rattle.mdl_build.proofs.Readings.{differ}
 use Rattle.std.proofs.lemmas.Option.{same_Some}
 
 -- ---- words that are no types

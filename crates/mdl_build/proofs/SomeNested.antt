@@ -29,7 +29,7 @@ use Rattle.mdl_build.specs.Settings.{unset, with_setting, zero_decimal}
 use Rattle.mdl_build.proofs.ExtentLemmas.{some_extents}
 use Rattle.mdl_build.proofs.Fillings.{same_expanded, are_filters}
 use Rattle.mdl_build.proofs.Sound.{drawn_model, sound}
-use Rattle.mdl_build.proofs.KnownLemmas.{structure_kept, name_kept, type_kept}
+use Rattle.mdl_build.proofs.StructureLemmas.{structure_kept, name_kept, type_kept}
 use Rattle.mdl_build.proofs.OneFault.{readable}
 use Rattle.std.proofs.lemmas.Option.{same_Some}
 use Rattle.math_list.proofs.Tests.{some_of}

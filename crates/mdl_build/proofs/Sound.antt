@@ -18,9 +18,9 @@ use Rattle.mdl_build.specs.Lines.{lines_of}
 use Rattle.mdl_build.specs.Nested.{IsBlockAt, IsDrawnAt, IsNestedOf}
 use Rattle.mdl_build.specs.Roles.{blocks_of}
 use Rattle.mdl_build.specs.Settings.{zero_decimal}
-use Rattle.mdl_build.specs.inner.Drawn.{AreDrawn}
-use Rattle.mdl_build.proofs.ExpandedDrawn.{IsDrawnModel}
-use Rattle.mdl_build.proofs.ExpandedModel.{expanded_sound}
+use Rattle.mdl_build.specs.inner.Sketch.{AreDrawn}
+use Rattle.mdl_build.proofs.FilterSketch.{IsDrawnModel}
+use Rattle.mdl_build.proofs.FilterModel.{expanded_sound}
 use Rattle.mdl_build.proofs.Readable.{readable}
 use Rattle.mdl_build.proofs.SoundBlocks.{block_here, has_parent, have_levels, level_of}
 use Rattle.mdl_build.proofs.SoundFilters.{drawn_here, filter_sub, filter_reads, filters_bare, extents_zip}

@@ -24,8 +24,8 @@ use Rattle.mdl_build.specs.Parts.{part_of, filter_of}
 use Rattle.mdl_build.specs.Roles.{role_of, is_block, blocks_of}
 use Rattle.mdl_build.proofs.BlockNumbers.{one_number}
 use Rattle.mdl_build.proofs.BlockPlaces.{block_of}
-use Rattle.mdl_build.proofs.ExpandedDrawn.{extent_of}
-use Rattle.mdl_build.proofs.ExpandedLists.{none_some}
+use Rattle.mdl_build.proofs.FilterSketch.{extent_of}
+use Rattle.mdl_build.proofs.FilterLists.{none_some}
 use Rattle.mdl_build.proofs.ReadableFilter.{taps_are, readable_fir}
 use Rattle.mdl_build.proofs.SoundBlocks.{fir_role, role_fir}
 use Rattle.mdl_build.proofs.SoundParts.{no_filter, filter_type}

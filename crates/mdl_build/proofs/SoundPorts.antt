@@ -16,7 +16,7 @@ use Rattle.mdl_build.specs.Nested.{IsBlockAt}
 use Rattle.mdl_build.specs.Parts.{in_part, out_part, part_of}
 use Rattle.mdl_build.specs.Roles.{role_of, blocks_of, says}
 use Rattle.mdl_build.specs.Sections.{holder_of}
-use Rattle.mdl_build.specs.inner.Known.{is_enable_in}
+use Rattle.mdl_build.specs.inner.ItemFacts.{is_enable_in}
 use Rattle.mdl_build.proofs.SoundBlocks.{block_here, block_there}
 use Rattle.mdl_build.proofs.SoundParts.{says_type, type_says, enable_type}
 use Rattle.std.proofs.lemmas.Map.Keys.{any_passes_from_place}

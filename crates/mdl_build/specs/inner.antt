@@ -1,10 +1,10 @@
-pub mod Drawn
-pub mod Known
+pub mod ItemFacts
 pub mod Layout
 pub mod Lines
 pub mod Makers
 pub mod Names
 pub mod Paths
 pub mod Readings
+pub mod Sketch
 pub mod Structure
 pub mod Texts

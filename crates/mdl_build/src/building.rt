@@ -6,8 +6,8 @@ ghost use Rattle.dg_model.specs.Sound.{IsSound};
 ghost use Rattle.mdl_build.specs.Nested.{IsDrawnAt, IsNestedOf};
 ghost use Rattle.mdl_build.specs.Roles.{blocks_of};
 ghost use Rattle.mdl_build.specs.Rules.{structure_fault, library_fault, IsWrongFirst, Breaks};
-ghost use Rattle.mdl_build.specs.inner.Drawn.{AreDrawn};
-ghost use Rattle.mdl_build.specs.inner.Known.{IsKnown, keeps_sizes};
+ghost use Rattle.mdl_build.specs.inner.Sketch.{AreDrawn};
+ghost use Rattle.mdl_build.specs.inner.ItemFacts.{IsKnown, keeps_sizes};
 ghost use Rattle.mdl_build.specs.inner.Makers.{IsMaker, extents_of, items_of};
 
 use crate::expanding::{DrawnBlocks, put_expanded};

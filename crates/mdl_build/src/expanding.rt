@@ -4,7 +4,7 @@ ghost use Rattle.std.specs.Option.{ForSome};
 ghost use Rattle.fx_type.specs.declared.decimal.Decimal.{Decimal};
 ghost use Rattle.fir_block.specs.Expanded.{IsFir};
 ghost use Rattle.mdl_build.specs.Expanded.{inner_part, inner_block as inner_block_of, inner_blocks, inner_line, filling, filling_lines, moved, moved_block, moved_line, with_filling, expanded_blocks, expanded_lines};
-ghost use Rattle.mdl_build.specs.inner.Drawn.{IsPlaced, AreNumbersOf};
+ghost use Rattle.mdl_build.specs.inner.Sketch.{IsPlaced, AreNumbersOf};
 
 use dg_model::{
     Block, Edge, Nested, NestedBlock, NestedBlocks, NestedLine, NestedLines, Part, Target,

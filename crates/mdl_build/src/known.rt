@@ -7,7 +7,7 @@ ghost use Rattle.dg_model.specs.Faults.{fault_of};
 ghost use Rattle.mdl_build.specs.Blocks.{path_of};
 ghost use Rattle.mdl_build.specs.Roles.{role_of, is_block, blocks_of};
 ghost use Rattle.mdl_build.specs.Rules.{keeps_structure};
-ghost use Rattle.mdl_build.specs.inner.Known.{IsKnown, IsKnownOf};
+ghost use Rattle.mdl_build.specs.inner.ItemFacts.{IsKnown, IsKnownOf};
 
 use crate::extents::{are_few, extents_of};
 use crate::layout::Layout;
@@ -77,7 +77,7 @@ pub fn known_of<'a>(alloc: Global, items: &'a [Item]) -> Result<Option<Known<'a>
 impl<'a> Known<'a> {
     ghost use Rattle.mdl_build.specs.Extents.{AreExtents};
     ghost use Rattle.mdl_build.specs.Roles.{roles_of};
-    ghost use Rattle.mdl_build.specs.inner.Known.{IsFound, keeps_sizes};
+    ghost use Rattle.mdl_build.specs.inner.ItemFacts.{IsFound, keeps_sizes};
     ghost use Rattle.mdl_build.specs.inner.Names.{AreNumbered};
 
     /// Whether the model has its root, is shallow, and has no more blocks than it may.

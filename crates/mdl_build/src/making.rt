@@ -7,7 +7,7 @@ ghost use Rattle.mdl_build.specs.Nested.{IsDrawnAt};
 ghost use Rattle.mdl_build.specs.Roles.{role_of, is_block, blocks_of};
 ghost use Rattle.mdl_build.specs.Sections.{holder_of, value_of};
 ghost use Rattle.mdl_build.specs.Settings.{unset};
-ghost use Rattle.mdl_build.specs.inner.Known.{IsKnown, AreEnabled, AreNumbersTo, AreNumbers, IsWrongAt};
+ghost use Rattle.mdl_build.specs.inner.ItemFacts.{IsKnown, AreEnabled, AreNumbersTo, AreNumbers, IsWrongAt};
 
 use crate::blocks::read_block;
 use crate::expanding::DrawnBlock;

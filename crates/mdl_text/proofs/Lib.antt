@@ -1,10 +1,10 @@
-pub mod PlainRuns
 pub mod After
-pub mod Bounded
+pub mod BracketBounds
 pub mod Classes
 pub mod Complete
 pub mod LineLaws
 pub mod Pieces
+pub mod PlainRuns
 pub mod Quotes
 pub mod Scans
 pub mod Sound

@@ -1,3 +1,3 @@
 pub mod Content
 pub mod Plain
-pub mod Stored
+pub mod ValueBytes

@@ -48,7 +48,7 @@ pub struct Said<'a> {
 
 impl<'a> Model for Said<'a> {
     ghost use Rattle.std.specs.Prelude.{List, ℕ};
-    ghost use Rattle.mdl_text.specs.inner.Stored.{stored_bytes};
+    ghost use Rattle.mdl_text.specs.inner.ValueBytes.{stored_bytes};
 
     ghost Value = { List ℕ };
 

@@ -2,6 +2,7 @@ mod Beside
 mod BracketLemmas
 mod DecimalForms
 mod DecimalLemmas
+mod EitherLemmas
 mod ElementLemmas
 mod ListLemmas
 pub mod OneNumber
@@ -9,7 +10,6 @@ pub mod OneType
 mod OneValue
 mod PeriodLemmas
 mod PieceLemmas
-mod ReadLemmas
 mod SignLemmas
 mod TypeLemmas
 mod WordLemmas

@@ -4,7 +4,7 @@ use Rattle.std.specs.Prelude.{IfOk}
 use Rattle.std.specs.List.{AllZip}
 use Rattle.mdl_values.specs.Reads.{Finds}
 use Rattle.mdl_values.specs.Lists.{IsListOf}
-use Rattle.mdl_values.specs.inner.Sized.{AreSized}
+use Rattle.mdl_values.specs.inner.Sizes.{AreSized}
 use Rattle.mdl_values.proofs.ZipLemmas.{zip_at, zip_length}
 
 pub some_same : (xs ys : List (List ℕ)) → Some xs ≡ Some ys → xs ≡ ys

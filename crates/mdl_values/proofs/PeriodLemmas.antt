@@ -8,7 +8,7 @@ use Rattle.mdl_values.specs.Reads.{Finds}
 use Rattle.mdl_values.specs.Pieces.{bracket_elements}
 use Rattle.mdl_values.specs.Numbers.{IsNumberText}
 use Rattle.mdl_values.specs.Periods.{IsZeroText, IsAboveZero, IsWithOffset, IsBracketedNumber}
-use Rattle.mdl_values.specs.inner.Sized.{AreSized}
+use Rattle.mdl_values.specs.inner.Sizes.{AreSized}
 use Rattle.mdl_values.proofs.DecimalLemmas.{one_decimal}
 use Rattle.mdl_values.proofs.OneValue.{first_same}
 use Rattle.mdl_values.proofs.TypeLemmas.{only_same}

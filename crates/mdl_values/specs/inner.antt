@@ -1,3 +1,3 @@
 -- Definitions that only private contracts cite.
 pub mod Runs
-pub mod Sized
+pub mod Sizes

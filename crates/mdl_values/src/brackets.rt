@@ -2,7 +2,7 @@
 ghost use Rattle.std.specs.Prelude.{◌≡◌, None, Some, IfOk, MatchOption};
 ghost use Rattle.mdl_values.specs.Reads.{Finds};
 ghost use Rattle.mdl_values.specs.Pieces.{pieces_at, words_of, two_of, opens, bracketed, bracket_elements, alone, list_elements};
-ghost use Rattle.mdl_values.specs.inner.Sized.{AreSized};
+ghost use Rattle.mdl_values.specs.inner.Sizes.{AreSized};
 
 use crate::pieces::{cut, elements, first_word, push_words, trim_start};
 use fx_io::{OutOfMemory, Texts};

@@ -26,8 +26,8 @@ use Rattle.st_wrap.specs.declared.pace.Counters.{Counters}
 use Rattle.st_wrap.specs.inner.Columns.{held_declared, held_driven, late_declared, late_driven, moving, plain, stage_declared, stage_driven, stage_name}
 use Rattle.st_wrap.specs.inner.Control.{both, control_declared, control_driven, is_due_now, is_last, is_zero, next_phase, next_wait, number, unless}
 use Rattle.st_wrap.specs.inner.Names.{begin_name, end_name, due_name, fed_name, open_name, enable_name, held_name, inner_name, is_shared, late_name, phase_name, wait_name}
-use Rattle.st_wrap.specs.inner.Renamed.{core_items, wires_for, wires_of}
-use Rattle.st_wrap.specs.inner.Wrapped.{declared_items, driven_items, items_of, made_of}
+use Rattle.st_wrap.specs.inner.CoreNames.{core_items, wires_for, wires_of}
+use Rattle.st_wrap.specs.inner.Wrapper.{declared_items, driven_items, items_of, made_of}
 use Rattle.st_wrap.proofs.Products.{items-alike}
 
 -- nothing in one part and nothing in another

@@ -12,7 +12,7 @@ use Rattle.vl_ast.specs.Header.{output_port}
 use Rattle.vl_ast.specs.Nets.{Declared, InputPort, OutputPort, PlainWire, Mention, Declares, Drives, Reads, declaration_of, item_mentions, mentions, port_declared}
 use Rattle.vl_ast.proofs.Facts.{Declaration, OfPort, OfReg, OfWire, declaration-by, driven-declared, is-declared, may-drive}
 use Rattle.math_list.proofs.Elements.{flat-in, head-in, map-in}
-use Rattle.vl_ast.proofs.Thinned.{bit-port}
+use Rattle.vl_ast.proofs.StallFree.{bit-port}
 use Rattle.st_wrap.specs.declared.columns.Column.{Column}
 use Rattle.st_wrap.specs.declared.pace.Counters.{Counters}
 use Rattle.st_wrap.specs.Header.{flag}
@@ -20,12 +20,12 @@ use Rattle.st_wrap.specs.Names.{AreColumnNames}
 use Rattle.st_wrap.specs.inner.Columns.{column_port, stage_declared, stage_name}
 use Rattle.st_wrap.specs.inner.Control.{control_declared}
 use Rattle.st_wrap.specs.inner.Names.{enable_name, inner_name, is_shared}
-use Rattle.st_wrap.specs.inner.Wrapped.{declared_items, inputs_of, items_of, outputs_of, ports_of, wrapped}
+use Rattle.st_wrap.specs.inner.Wrapper.{declared_items, inputs_of, items_of, outputs_of, ports_of, wrapped}
 use Rattle.st_wrap.proofs.Apart.{doubly-none, one-declaration}
-use Rattle.st_wrap.proofs.Driven.{all-driven-once, column-port}
+use Rattle.st_wrap.proofs.SingleDrivers.{all-driven-once, column-port}
 use Rattle.st_wrap.proofs.Once.{all-declared-once}
-use Rattle.st_wrap.proofs.Placed.{EachDrives, core_part, declared-alone, declared_part, drives-alone, drives-append, drives-at, drives-flat, drives-ports, drives-renamed, helds, late_mentions, lates, mentions-are, output-unshared, ports_part}
-use Rattle.st_wrap.proofs.Reading.{control_mentions, held_mentions, stage_mentions}
+use Rattle.st_wrap.proofs.NamePlaces.{EachDrives, core_part, declared-alone, declared_part, drives-alone, drives-append, drives-at, drives-flat, drives-ports, drives-renamed, helds, late_mentions, lates, mentions-are, output-unshared, ports_part}
+use Rattle.st_wrap.proofs.NameReads.{control_mentions, held_mentions, stage_mentions}
 use Rattle.st_wrap.proofs.Structure.{core-there, declared-there, flag-there, output-port, wire-of, wire-there}
 
 module _ (core : Module) (sound : BreaksNone core) (stallable : is_stallable core ≡ true) (names : List (List ℕ)) (named : AreColumnNames core names) (counters : Counters) where

@@ -11,7 +11,7 @@ use Rattle.vl_ast.specs.declared.expressions.Expr.TheVariants.{rolls-Name, rolls
 use Rattle.vl_ast.specs.declared.expressions.Expr.TheViews.{roll-Expr, out-Expr, roll-out-Expr, out-roll-Expr}
 use Rattle.vl_ast.specs.declared.expressions.Expr.TheFolds.{fold-roll-Expr}
 use Rattle.st_wrap.specs.inner.Names.{inner_name}
-use Rattle.st_wrap.specs.inner.Renamed.{renamed, renamed_step, with_name, with_part}
+use Rattle.st_wrap.specs.inner.CoreNames.{renamed, renamed_step, with_name, with_part}
 
 pub of-name : (name : List ℕ) (e : Expr) → e ≡ Name name → Name (inner_name name) ≡ renamed e
 of-name name e is = sym (ap renamed (is ∙ sym (rolls-Name name)) ∙ fold-roll-Expr Expr renamed_step (Expr-F.Name name))

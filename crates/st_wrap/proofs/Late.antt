@@ -20,11 +20,11 @@ use Rattle.st_wrap.specs.Pace.{latest_in}
 use Rattle.st_wrap.specs.Transfers.{IsTransfer, out_side}
 use Rattle.st_wrap.specs.inner.Columns.{column_port, moving, plain, stage_declared, stage_driven, stage_name}
 use Rattle.st_wrap.specs.inner.Names.{end_name, inner_name, late_name}
-use Rattle.st_wrap.proofs.Controlled.{end-moves, ends, moves}
-use Rattle.st_wrap.proofs.Held.{assigned-Name, word_of}
-use Rattle.st_wrap.proofs.Moving.{Setting, ends-is, out-clock}
+use Rattle.st_wrap.proofs.ControlSignals.{end-moves, ends, moves}
+use Rattle.st_wrap.proofs.CoreInputs.{assigned-Name, word_of}
+use Rattle.st_wrap.proofs.Handovers.{Setting, ends-is, out-clock}
 use Rattle.st_wrap.proofs.Samples.{next-same, next-sample, zero-sample}
-use Rattle.st_wrap.proofs.Shaking.{some-cycles}
+use Rattle.st_wrap.proofs.Handshakes.{some-cycles}
 
 -- what a module has of an output
 pub record HasOutput (m : Module) (column : Column) : Type 0 where

@@ -24,17 +24,17 @@ use Rattle.st_wrap.specs.Names.{AreColumnNames, own_names}
 use Rattle.st_wrap.specs.inner.Columns.{column_port, stage_driven, stage_name}
 use Rattle.st_wrap.specs.inner.Control.{both, control_driven, is_due_now, is_last, is_zero, unless}
 use Rattle.st_wrap.specs.inner.Names.{begin_name, end_name, due_name, fed_name, open_name, enable_name, held_name, inner_name, is_shared, late_name, phase_name, wait_name}
-use Rattle.st_wrap.specs.inner.Renamed.{renamed}
-use Rattle.st_wrap.specs.inner.Wrapped.{inputs_of, outputs_of, ports_of, wrapped}
+use Rattle.st_wrap.specs.inner.CoreNames.{renamed}
+use Rattle.st_wrap.specs.inner.Wrapper.{inputs_of, outputs_of, ports_of, wrapped}
 use Rattle.st_wrap.proofs.Apart.{driven_names}
-use Rattle.st_wrap.proofs.Columned.{range-in}
-use Rattle.st_wrap.proofs.Controlled.{in_flag, out_flag}
-use Rattle.st_wrap.proofs.Driven.{control_drives, core_drives, core-letter, driven-list, held_pair, in-drives, in-lates, in-pair, late_drives, mention-of, output-letter}
-use Rattle.st_wrap.proofs.Lettered.{inner-letter, inner-same, inner-shared, letter, shared-cases, shared-letter}
-use Rattle.st_wrap.proofs.Named.{in-range, output-name}
+use Rattle.st_wrap.proofs.ColumnPorts.{range-in}
+use Rattle.st_wrap.proofs.ControlSignals.{in_flag, out_flag}
+use Rattle.st_wrap.proofs.SingleDrivers.{control_drives, core_drives, core-letter, driven-list, held_pair, in-drives, in-lates, in-pair, late_drives, mention-of, output-letter}
+use Rattle.st_wrap.proofs.Letters.{inner-letter, inner-same, inner-shared, letter, shared-cases, shared-letter}
+use Rattle.st_wrap.proofs.NamesOnce.{in-range, output-name}
 use Rattle.st_wrap.proofs.Once.{late_names}
-use Rattle.vl_ast.proofs.Copied.{reads-Name}
-use Rattle.st_wrap.proofs.Reading.{reads-both, reads-chosen, reads-counted, reads-due, reads-renamed, reads-unless, reads-zero}
+use Rattle.vl_ast.proofs.Copies.{reads-Name}
+use Rattle.st_wrap.proofs.NameReads.{reads-both, reads-chosen, reads-counted, reads-due, reads-renamed, reads-unless, reads-zero}
 use Rattle.st_wrap.proofs.Structure.{core-there, driven-there, flag-there, front-there, input-port}
 
 module _ (core : Module) (sound : BreaksNone core) (stallable : is_stallable core ≡ true) (names : List (List ℕ)) (named : AreColumnNames core names) (counters : Counters)

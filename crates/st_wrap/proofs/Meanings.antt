@@ -11,7 +11,7 @@ use Rattle.vl_ast.specs.Value.{assigned, is_true}
 use Rattle.vl_ast.proofs.Layers.{value_by_layer}
 use Rattle.vl_ast.proofs.NetsAgree.{assigned-renamed as assigned-by, relabelled as relabelled_by, true-renamed as true-by}
 use Rattle.st_wrap.specs.inner.Names.{inner_name}
-use Rattle.st_wrap.specs.inner.Renamed.{renamed, renamed_step}
+use Rattle.st_wrap.specs.inner.CoreNames.{renamed, renamed_step}
 
 -- a layer with the wrapper's names
 abbrev pub relabelled : Expr-F Expr → Expr-F Expr

@@ -28,15 +28,15 @@ use Rattle.st_wrap.specs.Pace.{latest_in}
 use Rattle.st_wrap.specs.inner.Columns.{column_port, held_driven, input_column, late_driven, moving, output_column, stage_declared, stage_driven, stage_name}
 use Rattle.st_wrap.specs.inner.Control.{CountFor, both, control_driven, is_due_now, is_last, is_zero, next_phase, next_wait, number, unless}
 use Rattle.st_wrap.specs.inner.Names.{begin_name, end_name, due_name, fed_name, open_name, enable_name, held_name, inner_name, is_shared, late_name, phase_name, wait_name}
-use Rattle.st_wrap.specs.inner.Renamed.{renamed_item, wires_for}
-use Rattle.st_wrap.specs.inner.Wrapped.{declared_items, inputs_of, items_of, outputs_of, wrapped}
-use Rattle.st_wrap.proofs.Having.{EachHas, declared-have, have-append, have-at, have-flat, have-map, items-have}
-use Rattle.st_wrap.proofs.Columned.{from-filter, range-in, zip-left}
-use Rattle.st_wrap.proofs.Controlled.{HasControl, begin-net, due-net, enable-net, end-net, fed-net, in_flag, net-port, open-net, out_flag, phase-net, wait-net}
-use Rattle.st_wrap.proofs.Embedded.{read-net}
+use Rattle.st_wrap.specs.inner.CoreNames.{renamed_item, wires_for}
+use Rattle.st_wrap.specs.inner.Wrapper.{declared_items, inputs_of, items_of, outputs_of, wrapped}
+use Rattle.st_wrap.proofs.EachItem.{EachHas, declared-have, have-append, have-at, have-flat, have-map, items-have}
+use Rattle.st_wrap.proofs.ColumnPorts.{from-filter, range-in, zip-left}
+use Rattle.st_wrap.proofs.ControlSignals.{HasControl, begin-net, due-net, enable-net, end-net, fed-net, in_flag, net-port, open-net, out_flag, phase-net, wait-net}
+use Rattle.st_wrap.proofs.CoreRows.{read-net}
 use Rattle.st_wrap.proofs.Fine.{IsFine, double, fine-Binary, fine-Choose, fine-Name, fine-both, fine-number, fine-sound, fine-zero, is-number, is-width}
-use Rattle.st_wrap.proofs.Named.{in-range}
-use Rattle.st_wrap.proofs.Placed.{output-of}
+use Rattle.st_wrap.proofs.NamesOnce.{in-range}
+use Rattle.st_wrap.proofs.NamePlaces.{output-of}
 use Rattle.st_wrap.proofs.Sound.{item-sound}
 use Rattle.st_wrap.proofs.Structure.{declared-there, embeds, has-control, input-port, wire-of, wire-there}
 

@@ -23,19 +23,19 @@ use Rattle.st_wrap.specs.Names.{AreColumnNames}
 use Rattle.st_wrap.specs.inner.Columns.{column_port, input_column, stage_driven}
 use Rattle.st_wrap.specs.inner.Control.{control_driven}
 use Rattle.st_wrap.specs.inner.Names.{begin_name, end_name, due_name, fed_name, open_name, enable_name, held_name, inner_name, is_shared, late_name, phase_name, wait_name}
-use Rattle.st_wrap.specs.inner.Wrapped.{inputs_of, outputs_of, ports_of, wrapped}
+use Rattle.st_wrap.specs.inner.Wrapper.{inputs_of, outputs_of, ports_of, wrapped}
 use Rattle.math_list.proofs.Places.{seen}
 use Rattle.st_wrap.proofs.Apart.{declared_names}
-use Rattle.st_wrap.proofs.Columned.{got-in, paired, to-filter}
-use Rattle.st_wrap.proofs.Controlled.{in_flag, out_flag}
+use Rattle.st_wrap.proofs.ColumnPorts.{got-in, paired, to-filter}
+use Rattle.st_wrap.proofs.ControlSignals.{in_flag, out_flag}
 use Rattle.st_wrap.proofs.Drivers.{declared-is, item-mention, port-mention}
-use Rattle.st_wrap.proofs.Known.{undriven-none}
-use Rattle.st_wrap.proofs.Named.{column_name, declared_in, in-each}
+use Rattle.st_wrap.proofs.FirstCondition.{undriven-none}
+use Rattle.st_wrap.proofs.NamesOnce.{column_name, declared_in, in-each}
 use Rattle.st_wrap.proofs.Once.{control_names, declared-list, flag_names, front_names, held_names, in-control, in-wire, in_names, late_names, out_names, own_declared, port_name, wire_names, wires}
-use Rattle.st_wrap.proofs.Placed.{are-known, core_part, declared_part, mentions-are, own_part, ports_part}
-use Rattle.st_wrap.proofs.Reading.{renamed_mention}
+use Rattle.st_wrap.proofs.NamePlaces.{are-known, core_part, declared_part, mentions-are, own_part, ports_part}
+use Rattle.st_wrap.proofs.NameReads.{renamed_mention}
 use Rattle.st_wrap.proofs.Structure.{driven-there, flag-there, front-there, input-port}
-use Rattle.st_wrap.proofs.Worded.{named-mention}
+use Rattle.st_wrap.proofs.NameWords.{named-mention}
 
 declared-kind : (d e : Declared) → Declares d ≡ Declares e → d.kind ≡ e.kind
 declared-kind d e p = ap (λ x. (or_this d x).kind) p where

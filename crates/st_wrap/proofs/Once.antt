@@ -22,13 +22,13 @@ use Rattle.st_wrap.specs.Names.{AreColumnNames, IsColumnName, own_names}
 use Rattle.st_wrap.specs.inner.Columns.{column_port, held_declared, held_driven, late_declared, late_driven, stage_declared, stage_driven, stage_name}
 use Rattle.st_wrap.specs.inner.Control.{control_declared, control_driven}
 use Rattle.st_wrap.specs.inner.Names.{begin_name, end_name, due_name, fed_name, open_name, held_name, inner_name, is_shared, late_name, phase_name, wait_name}
-use Rattle.st_wrap.specs.inner.Renamed.{core_items, wires_for, wires_of}
-use Rattle.st_wrap.specs.inner.Wrapped.{declared_items, driven_items, inputs_of, items_of, outputs_of, ports_of, wrapped}
+use Rattle.st_wrap.specs.inner.CoreNames.{core_items, wires_for, wires_of}
+use Rattle.st_wrap.specs.inner.Wrapper.{declared_items, driven_items, inputs_of, items_of, outputs_of, ports_of, wrapped}
 use Rattle.st_wrap.proofs.Apart.{Apart, apart-append, apart-between, apart-flat, apart-left, apart-map, apart-right, declared-once, declared_names}
-use Rattle.st_wrap.proofs.Determined.{clk-port}
-use Rattle.st_wrap.proofs.Lettered.{column-letter, held-same, inner-letter, inner-same, late-same, letter, off, shared-cases}
-use Rattle.st_wrap.proofs.Named.{apart-range, by-test, column_name, columns-apart, declared-renamed, declared_in, flat-empty, in-each, in-range, input-name, items-renamed, late-small, map-twice, names-append, names-flat, names-map, output-name}
-use Rattle.st_wrap.proofs.Reading.{control-mentions, held-mentions, shown-mentions, stage-mentions}
+use Rattle.st_wrap.proofs.OneRun.{clk-port}
+use Rattle.st_wrap.proofs.Letters.{column-letter, held-same, inner-letter, inner-same, late-same, letter, off, shared-cases}
+use Rattle.st_wrap.proofs.NamesOnce.{apart-range, by-test, column_name, columns-apart, declared-renamed, declared_in, flat-empty, in-each, in-range, input-name, items-renamed, late-small, map-twice, names-append, names-flat, names-map, output-name}
+use Rattle.st_wrap.proofs.NameReads.{control-mentions, held-mentions, shown-mentions, stage-mentions}
 
 -- ---- parts, by names
 

@@ -10,7 +10,7 @@ use Rattle.vl_ast.specs.declared.modules.ModItem.{ModItem}
 use Rattle.vl_ast.specs.declared.modules.ModItem.TheVariants.{Wire, Reg, Assign, Always}
 use Rattle.vl_ast.specs.Context.{Net, Place, InWhole, Together, Alone, Operand, alone, operand_at, unary_place, binary_place}
 use Rattle.vl_ast.specs.Multiplications.{Multiplication, condition_multiplications, item_multiplications, multiplications_in, multiplications_step, product_of}
-use Rattle.st_wrap.specs.inner.Renamed.{renamed, renamed_condition, renamed_item}
+use Rattle.st_wrap.specs.inner.CoreNames.{renamed, renamed_condition, renamed_item}
 use Rattle.st_wrap.proofs.Meanings.{relabelled, renamed-rolls}
 
 -- an operator is a multiplication or none, whatever its operands

@@ -22,9 +22,9 @@ use Rattle.st_wrap.specs.declared.pace.Counters.{Counters}
 use Rattle.st_wrap.specs.inner.Columns.{held_driven, late_driven, moving, plain, stage_declared, stage_driven, stage_name}
 use Rattle.st_wrap.specs.inner.Control.{both, control_driven, is_due_now, is_last, is_zero, next_phase, next_wait, number, unless}
 use Rattle.st_wrap.specs.inner.Names.{begin_name, end_name, due_name, fed_name, open_name, enable_name, held_name, inner_name, is_shared, phase_name, wait_name}
-use Rattle.st_wrap.specs.inner.Renamed.{renamed, renamed_condition, renamed_item, wires_for}
-use Rattle.st_wrap.specs.inner.Wrapped.{items_of}
-use Rattle.st_wrap.proofs.Having.{EachHas, declared-have, have-append, have-at, have-flat, have-map, items-have}
+use Rattle.st_wrap.specs.inner.CoreNames.{renamed, renamed_condition, renamed_item, wires_for}
+use Rattle.st_wrap.specs.inner.Wrapper.{items_of}
+use Rattle.st_wrap.proofs.EachItem.{EachHas, declared-have, have-append, have-at, have-flat, have-map, items-have}
 use Rattle.st_wrap.proofs.Meanings.{relabelled, renamed-rolls}
 
 -- ---- the core's expressions

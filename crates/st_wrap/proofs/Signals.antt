@@ -9,7 +9,7 @@ use Rattle.vl_ast.specs.Context.{Net, own_length, is_signed}
 use Rattle.vl_ast.specs.Value.{assigned, assigned_number, extended, is_true, truth, value_in}
 use Rattle.st_wrap.specs.inner.Columns.{plain}
 use Rattle.st_wrap.specs.inner.Control.{is_zero, number}
-use Rattle.vl_ast.proofs.Copied.{extended-same, one-width}
+use Rattle.vl_ast.proofs.Copies.{extended-same, one-width}
 use Rattle.vl_ast.proofs.Forms.{length-Name, length-Literal, length-Binary, length-Choose, sign-Name, sign-Literal, sign-Binary, sign-Choose, value-Name, value-Literal, value-Unary, value-Binary, value-Choose}
 
 -- ---- truth

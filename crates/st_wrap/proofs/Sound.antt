@@ -10,7 +10,7 @@ use Rattle.vl_ast.specs.Nets.{condition_names, names_read}
 use Rattle.vl_ast.proofs.Layers.{value_by_layer}
 use Rattle.vl_ast.proofs.SoundAgree.{sound-renamed as sound-by}
 use Rattle.st_wrap.specs.inner.Names.{inner_name}
-use Rattle.st_wrap.specs.inner.Renamed.{renamed, renamed_condition, renamed_item}
+use Rattle.st_wrap.specs.inner.CoreNames.{renamed, renamed_condition, renamed_item}
 use Rattle.st_wrap.proofs.Meanings.{renamed-rolls}
 
 module _ (nets other : List ℕ → Net) where

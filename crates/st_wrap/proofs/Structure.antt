@@ -14,19 +14,19 @@ use Rattle.vl_ast.specs.Context.{Net}
 use Rattle.vl_ast.specs.Header.{bit_input, input_port, output_port}
 use Rattle.vl_ast.specs.Nets.{Declared, Declares, Kind, PlainWire, Register, declaration_of, mentions, place_of, port_declared}
 use Rattle.vl_ast.proofs.Facts.{Declaration, OfPort, OfReg, OfWire, declaration-by, in-port, is-declared, listed-mention, mention-listed, reg-declared, wire-declared}
-use Rattle.vl_ast.proofs.GatedSound.{neither}
+use Rattle.vl_ast.proofs.GatesSound.{neither}
 use Rattle.math_list.proofs.Elements.{flat-in, head-in, map-in}
-use Rattle.vl_ast.proofs.Thinned.{bit-port}
+use Rattle.vl_ast.proofs.StallFree.{bit-port}
 use Rattle.st_wrap.specs.declared.columns.Column.{Column}
 use Rattle.st_wrap.specs.declared.pace.Counters.{Counters}
 use Rattle.st_wrap.specs.Header.{flag}
 use Rattle.st_wrap.specs.inner.Columns.{column_port, held_declared, held_driven, late_declared, late_driven}
 use Rattle.st_wrap.specs.inner.Control.{control_declared, control_driven}
 use Rattle.st_wrap.specs.inner.Names.{enable_name, inner_name, is_shared}
-use Rattle.st_wrap.specs.inner.Renamed.{core_items, renamed_item, wires_for, wires_of}
-use Rattle.st_wrap.specs.inner.Wrapped.{declared_items, driven_items, made_of, ports_of}
-use Rattle.st_wrap.proofs.Controlled.{HasControl, in_flag, out_flag}
-use Rattle.st_wrap.proofs.Embedded.{Embeds, IsThere}
+use Rattle.st_wrap.specs.inner.CoreNames.{core_items, renamed_item, wires_for, wires_of}
+use Rattle.st_wrap.specs.inner.Wrapper.{declared_items, driven_items, made_of, ports_of}
+use Rattle.st_wrap.proofs.ControlSignals.{HasControl, in_flag, out_flag}
+use Rattle.st_wrap.proofs.CoreRows.{Embeds, IsThere}
 
 -- a module has some items, and those that are made of each column of two lists
 pub record HasParts (m : Module) (inputs outputs : List Column) (first : List ModItem) (of_input of_output : Column → List ModItem) : Type 0 where

@@ -11,17 +11,17 @@ use Rattle.st_wrap.specs.declared.pace.Counters.{Counters}
 use Rattle.st_wrap.specs.Carried.{CarriesTransfers, FollowsCore, ShakesHands}
 use Rattle.st_wrap.specs.Names.{AreColumnNames}
 use Rattle.st_wrap.specs.inner.Control.{CountFor}
-use Rattle.st_wrap.specs.inner.Wrapped.{IsWrapped, inputs_of, outputs_of, wrapped}
-use Rattle.st_wrap.proofs.Attributed.{attributed, clocked}
+use Rattle.st_wrap.specs.inner.Wrapper.{IsWrapped, inputs_of, outputs_of, wrapped}
+use Rattle.st_wrap.proofs.Attributes.{attributed, clocked}
 use Rattle.st_wrap.proofs.Bare.{same-products}
-use Rattle.st_wrap.proofs.Carrying.{CountedRun, carried, followed}
-use Rattle.st_wrap.proofs.Determined.{OneRun}
+use Rattle.st_wrap.proofs.Carries.{CountedRun, carried, followed}
+use Rattle.st_wrap.proofs.OneRun.{OneRun}
 use Rattle.st_wrap.proofs.Drivers.{once}
 use Rattle.st_wrap.proofs.Loopless.{no-loop}
 use Rattle.st_wrap.proofs.Narrow.{narrow}
 use Rattle.st_wrap.proofs.Needs.{driven}
-use Rattle.st_wrap.proofs.Shaking.{shakes}
-use Rattle.st_wrap.proofs.Spelled.{SoundSpell, spelled}
+use Rattle.st_wrap.proofs.Handshakes.{shakes}
+use Rattle.st_wrap.proofs.SomeText.{SoundSpell, spelled}
 use Rattle.st_wrap.proofs.Structure.{has-control}
 
 module _ (core : Module) (names : List (List ℕ)) (counters : Counters) (counts : CountFor core counters) (sound : BreaksNone core) (stallable : is_stallable core ≡ true) where

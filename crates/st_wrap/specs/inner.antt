@@ -1,6 +1,6 @@
 -- What only private contracts cite.
-pub mod Names
-pub mod Renamed
 pub mod Columns
 pub mod Control
-pub mod Wrapped
+pub mod CoreNames
+pub mod Names
+pub mod Wrapper

@@ -2,7 +2,7 @@
 ghost use Rattle.std.specs.Prelude.{map};
 ghost use Rattle.vl_ast.specs.Listing.{Holds, Lists};
 ghost use Rattle.st_wrap.specs.inner.Columns.{port_of};
-ghost use Rattle.st_wrap.specs.inner.Wrapped.{ports_of};
+ghost use Rattle.st_wrap.specs.inner.Wrapper.{ports_of};
 
 use crate::columns::Column;
 use std::alloc::Global;

@@ -3,7 +3,7 @@ ghost use Rattle.std.specs.Prelude.{◌≡◌, ◌∷◌, [], ℕ, List, map, If
 ghost use Rattle.vl_ast.specs.declared.expressions.Expr.{Expr};
 ghost use Rattle.vl_ast.specs.declared.expressions.Expr.TheViews.{out-Expr};
 ghost use Rattle.vl_ast.specs.Listing.{Holds, Lists};
-ghost use Rattle.st_wrap.specs.inner.Renamed.{core_items, renamed, renamed_condition, renamed_item, wires_of, with_name, with_part};
+ghost use Rattle.st_wrap.specs.inner.CoreNames.{core_items, renamed, renamed_condition, renamed_item, wires_of, with_name, with_part};
 
 use crate::names::{inner_name, is_shared};
 use fx_io::Text;

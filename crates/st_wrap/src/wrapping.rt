@@ -2,7 +2,7 @@
 ghost use Rattle.std.specs.Prelude.{◌≡◌, List, ℕ, true, IfOk, length};
 ghost use Rattle.vl_ast.specs.Listing.{Holds};
 ghost use Rattle.st_wrap.specs.Promised.{AreColumnNames, BreaksNone, CarriesTransfers, FollowsCore, HasStreamHeader, KeepsBits, ShakesHands, Spells, is_stallable, multiplications, spelling};
-ghost use Rattle.st_wrap.specs.inner.Wrapped.{items_of, IsWrapped};
+ghost use Rattle.st_wrap.specs.inner.Wrapper.{items_of, IsWrapped};
 
 use crate::columns::{Column, columns};
 use crate::control;

@@ -1,2 +1,2 @@
-mod Emitted
-mod Tried
+mod BareNetlists
+mod TestOperations

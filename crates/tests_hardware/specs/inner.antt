@@ -1,3 +1,3 @@
 -- What tests ask, of netlists and of operations.
-pub mod Emitted
-pub mod Tried
+pub mod NetTests
+pub mod OperationTests

@@ -1,7 +1,7 @@
 //! Modules of netlists without ports and labels.
 ghost use Rattle.std.specs.Prelude.{◌≡◌, true, All};
 ghost use Rattle.hw_net.specs.Emittable.{IsEmittable};
-ghost use Rattle.tests_hardware.specs.inner.Emitted.{IsCounted};
+ghost use Rattle.tests_hardware.specs.inner.NetTests.{IsCounted};
 
 use anyhow::{Error, Result};
 use fx_io::{OpenGate, Text};

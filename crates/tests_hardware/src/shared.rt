@@ -1,7 +1,7 @@
 //! Shared multipliers.
 ghost use Rattle.std.specs.Prelude.{◌≡◌, ◌<◌, All, IfOk, true, length};
 ghost use Rattle.hw_share.specs.Operations.{IsOperation, SameWord, AreApart, CanShare, IsUsed};
-ghost use Rattle.tests_hardware.specs.inner.Tried.{AreUsed, IsApartAt};
+ghost use Rattle.tests_hardware.specs.inner.OperationTests.{AreUsed, IsApartAt};
 
 use crate::nets::frame_of;
 use crate::reading::{Told, told_in};

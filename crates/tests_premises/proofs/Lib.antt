@@ -1,12 +1,12 @@
 pub mod Neighbours
 pub mod Three
-pub mod WholeChecked
 pub mod WholeDesign
 pub mod WholeNames
 pub mod WholeOwed
 pub mod WholePaths
 pub mod WholePlan
+pub mod WholeRules
 pub mod WholeRuns
-pub mod WholeShown
 pub mod WholeTable
 pub mod WholeText
+pub mod WholeWaves

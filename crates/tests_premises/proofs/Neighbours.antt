@@ -11,7 +11,7 @@ use Rattle.hw_build.specs.Serving.{clock_of}
 use Rattle.hw_module.specs.Design.{IsModuleOf}
 use Rattle.hw_sched.specs.Laws.{IsOperation}
 use Rattle.hw_sched.specs.Slots.{operation, slot_of, unit_of}
-use Rattle.hw_shows.proofs.TriedRules.{Columns, IsTried, attributes_in, attributes_tried}
+use Rattle.hw_shows.proofs.RuleTests.{Columns, IsTried, attributes_in, attributes_tried}
 use Rattle.vl_ast.specs.declared.expressions.Expr.TheOpen.{Expr-F}
 use Rattle.vl_ast.specs.declared.expressions.Expr.TheFolds.{fold-roll-Expr}
 use Rattle.vl_ast.specs.declared.expressions.Expr.TheVariants.{Name, rolls-Name}

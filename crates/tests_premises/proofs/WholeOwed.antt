@@ -15,7 +15,7 @@ use Rattle.vl_ast.specs.Items.{IsWire, registers}
 use Rattle.vl_emit.specs.Items.{IsMultiplied}
 use Rattle.tests_premises.specs.Owed.{IsHeldOnce, IsHeldTwice, OwesOnce, OwesPlain, OwesTwice, WholeModulesOwe, plain, plain_timing, twice, twice_timing}
 use Rattle.tests_premises.specs.Whole.{diagram, resolved, timing}
-use Rattle.tests_premises.proofs.WholeChecked.{attributes, attributes_known, gain_block, gain_period, gain_shown}
+use Rattle.tests_premises.proofs.WholeRules.{attributes, attributes_known, gain_block, gain_period, gain_shown}
 
 -- ---- registers
 few_by : (plan : Resolved) (times : Timing) (bound : ℕ) (m : Module) → IsModuleOf m diagram plan times → chained diagram attributes plan times ≡ bound → length (registers m) ≤ bound

@@ -10,7 +10,7 @@ use Rattle.hw_latency.specs.Cone.{AreFed, IsFed, is_marked}
 use Rattle.hw_latency.specs.Shared.{is_shared}
 use Rattle.hw_sched.specs.Level.{AreDepths, IsDepth, depth_at, is_same_period}
 use Rattle.tests_premises.specs.Whole.{diagram, edge_of, resolved, timing}
-use Rattle.tests_premises.proofs.WholeChecked.{attributes}
+use Rattle.tests_premises.proofs.WholeRules.{attributes}
 
 -- ---- an instant edge leads to the next block
 leads_next : (from to : ℕ) → LeadsNow diagram attributes from to → to ≡ suc from

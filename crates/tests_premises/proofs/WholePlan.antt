@@ -22,7 +22,7 @@ use Rattle.math_list.proofs.ByRecursion.{all_of}
 use Rattle.hw_shows.proofs.Small.{each_by}
 use Rattle.tests_premises.specs.Sharing.{AreSharedByOne}
 use Rattle.tests_premises.specs.Whole.{diagram, pipeline, plan, resolved, timing}
-use Rattle.tests_premises.proofs.WholeChecked.{attributes, attributes_known, checked, gain_block}
+use Rattle.tests_premises.proofs.WholeRules.{attributes, attributes_known, checked, gain_block}
 use Rattle.tests_premises.proofs.WholePaths.{depths, fed}
 
 -- ---- the path of the plan is that of the Gain, behind which registers may stand

@@ -15,12 +15,12 @@ use Rattle.vl_ast.specs.Room.{HasRoom, HasRows, StartFits}
 use Rattle.vl_ast.specs.Runs.{Row, Rows}
 use Rattle.vl_ast.specs.Value.{bits_of}
 use Rattle.vl_ast.specs.Windows.{AtHits, Shows, row_at}
-use Rattle.vl_ast.proofs.Unstalled.{enabled-count, shows-clocks}
+use Rattle.vl_ast.proofs.FullCounts.{enabled-count, shows-clocks}
 use Rattle.math_list.proofs.ByRecursion.{all_of}
 use Rattle.hw_shows.proofs.Small.{each_by}
 use Rattle.tests_premises.specs.Running.{RunsWhole, WholeModulesRun, column, input_of, input_ports, output_of, output_ports, window}
 use Rattle.tests_premises.specs.Whole.{firsts, seconds}
-use Rattle.vl_ast.proofs.Stimulated.{bits-fit}
+use Rattle.vl_ast.proofs.SomeInputs.{bits-fit}
 
 -- ---- a module with these ports
 abbrev ports : List Port

@@ -20,7 +20,7 @@ use Rattle.dg_model.specs.Wired.{root_input}
 use Rattle.dg_model.proofs.Examples.{stores_small}
 use Rattle.hw_shows.proofs.Small.{int16_full, each_by}
 use Rattle.tests_premises.specs.Whole.{diagram, int8, int16, given, stimulus, table}
-use Rattle.tests_premises.proofs.WholeChecked.{attributes, attributes_known, gain_block}
+use Rattle.tests_premises.proofs.WholeRules.{attributes, attributes_known, gain_block}
 
 -- a number of an int16 stays what it is
 same : (v : ℤ) → InWord 16 true v → Converts v int16 int16 Floor false v

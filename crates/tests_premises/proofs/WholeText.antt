@@ -26,7 +26,7 @@ use Rattle.math_list.proofs.ByRecursion.{pairs_of}
 use Rattle.hw_shows.proofs.Small.{each_by}
 use Rattle.tests_premises.specs.Whole.{model_text, diagram, input, gain, output, int8, int16, three, five, coefficients}
 use Rattle.tests_premises.proofs.Three.{section, bare, quoted, line_items, as_drawn, three_nested, three_wired, whole_number}
-use Rattle.tests_premises.proofs.WholeChecked.{checked}
+use Rattle.tests_premises.proofs.WholeRules.{checked}
 
 -- ---- the tree that the text stands for
 

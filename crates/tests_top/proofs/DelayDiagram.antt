@@ -17,7 +17,7 @@ use Rattle.dg_model.specs.Widths.{Widths}
 use Rattle.dg_model.specs.Wired.{IsWired, NamesControl, MayStand}
 use Rattle.math_list.proofs.ByRecursion.{all_of}
 use Rattle.hw_shows.proofs.Small.{int8_valid, each_by, none_driven, one_driven, one_fits, one_repeats, none_known, one_known, no_loop, attributes_by, attributes_are, AreDrivenOnce}
-use Rattle.hw_shows.proofs.KeptRules.{all_join, in_order, one_number, dimensions_kept, types_kept, rates_kept}
+use Rattle.hw_shows.proofs.RuleFacts.{all_join, in_order, one_number, dimensions_kept, types_kept, rates_kept}
 use Rattle.tests_premises.specs.Whole.{int8}
 use Rattle.tests_top.proofs.DelayModel.{diagram, inport, delay, outport, three}
 

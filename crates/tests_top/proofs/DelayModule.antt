@@ -9,7 +9,7 @@ use Rattle.vl_ast.specs.Context.{Net}
 use Rattle.vl_ast.specs.Header.{DataPort, attribute_of, bit_input, input_port, output_port}
 use Rattle.vl_ast.specs.Nets.{Declared, Kind, InputPort, OutputPort, Register, declarations}
 use Rattle.vl_ast.specs.Value.{Bits, bits_of, is_negative, assigned}
-use Rattle.vl_ast.proofs.Copied.{reads-Name}
+use Rattle.vl_ast.proofs.Copies.{reads-Name}
 use Rattle.tests_top.proofs.Names.{own_length-name, is_signed-name, value_in-name, register}
 
 -- the names of its ports, and what it shows first

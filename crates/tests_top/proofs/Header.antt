@@ -4,7 +4,7 @@ use Rattle.vl_ast.specs.declared.modules.Port.{Port}
 use Rattle.vl_ast.specs.Conditions.{BreaksNone, undriven, doubly, too_wide, no_reset, lacks_attribute, no_attribute}
 use Rattle.vl_ast.specs.Control.{is_stallable}
 use Rattle.tests_top.proofs.DelayModule.{OneDelay, delay_module}
-use Rattle.vl_ast.proofs.Copied.{reads-Name}
+use Rattle.vl_ast.proofs.Copies.{reads-Name}
 use Rattle.tests_top.proofs.Names.{AreDifferent, sound-name, own_length-name}
 use Rattle.tests_top.proofs.Bits.{bits-are_number}
 use Rattle.tests_top.proofs.Loop.{no-loop}

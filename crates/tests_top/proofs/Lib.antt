@@ -2,11 +2,11 @@ mod Bits
 mod DelayDiagram
 mod DelayModel
 mod DelayModule
+mod DelayReplay
+mod DelaySimulation
+mod DelayText
 mod Header
 mod Loop
 mod Names
 mod Outcomes
-mod ReplayedDelay
-mod SimulatedDelay
-mod Spelled
 mod UnitDelay

@@ -7,7 +7,7 @@ use Rattle.vl_ast.specs.declared.modules.ModItem.TheVariants.{Assign}
 use Rattle.vl_ast.specs.Nets.{names_read}
 use Rattle.vl_ast.specs.Conditions.{IsLoop, AssignmentReads}
 use Rattle.tests_top.proofs.DelayModule.{OneDelay, delay_module}
-use Rattle.vl_ast.proofs.Copied.{reads-Name}
+use Rattle.vl_ast.proofs.Copies.{reads-Name}
 use Rattle.tests_top.proofs.Names.{AreDifferent, register}
 
 assigned-at : (d : OneDelay) (name : List ℕ) (value : Expr) (k : ℕ) → k < 3

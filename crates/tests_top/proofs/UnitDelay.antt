@@ -15,7 +15,7 @@ use Rattle.vl_ast.specs.Context.{Net}
 use Rattle.vl_ast.specs.Runs.{Row, Rows, Runs, next_bits}
 use Rattle.vl_ast.specs.Value.{bits_of, assigned, assigned_number}
 use Rattle.vl_ast.specs.Windows.{PortNumbers, Window}
-use Rattle.vl_ast.proofs.Unstalled.{AllCount, shows-clocks, unstallable-count}
+use Rattle.vl_ast.proofs.FullCounts.{AllCount, shows-clocks, unstallable-count}
 use Rattle.vl_ast.specs.Header.{input_port}
 use Rattle.tests_top.proofs.DelayModule.{OneDelay, assigned-byte, bit_net, byte_net, byte_port, declarations-are, declared_as, delay_module}
 use Rattle.tests_top.proofs.Names.{register}

@@ -4,7 +4,7 @@ mod NetlistRows
 mod Netlists
 mod Paths
 mod Sizes
-mod Worked
-mod WorkedChecked
-mod WorkedPlan
-mod WorkedTimes
+mod TwoRates
+mod TwoRatesPlans
+mod TwoRatesRules
+mod TwoRatesTimes

@@ -20,7 +20,7 @@ use Rattle.vl_ast.specs.Room.{AreSame}
 use Rattle.vl_ast.proofs.Agree.{ByLayer, values-agree}
 use Rattle.vl_ast.proofs.Chains.{owed-of-none}
 use Rattle.vl_ast.proofs.Facts.{has-driver, read-declared, in-port, Driver, ByAssign, ByAlways, driver-of, reads-of-assign, reads-of-always, Declaration, OfPort, OfWire, OfReg, declaration-by, listed-mention, reg-declared}
-use Rattle.vl_ast.proofs.Settled.{assigned-agree, may-not, differs}
+use Rattle.vl_ast.proofs.OneRun.{assigned-agree, may-not, differs}
 
 -- the port of `reset`, where condition five holds
 pub reset-port : (m : Module) → no_reset m ≡ None → (port : Port) × Contains m.ports port × (port.name ≡ codes "reset") × (port.input ≡ true) × (port.width ≡ 1)

@@ -16,7 +16,7 @@ use Rattle.vl_ast.proofs.Agree.{ByLayer}
 use Rattle.vl_ast.proofs.Facts.{in-item, listed-mention, mention-listed, read-declared, driven-declared, assign-drives, always-drives, reads-of-assign, reads-of-always}
 use Rattle.vl_ast.proofs.NetsAgree.{assigned-same, true-same}
 use Rattle.math_list.proofs.Elements.{map-in, from-map, from-flat}
-use Rattle.vl_ast.proofs.Settled.{net-is}
+use Rattle.vl_ast.proofs.OneRun.{net-is}
 
 abbrev next-by : Row → List ℕ → ℕ → Sized → Bool → ℕ → ℕ
 next-by row name width first takes given = if row (codes "reset") == 1 then assigned_number width first else (if takes then given else row name)

@@ -8,7 +8,7 @@
 //! `Nets` (what is declared and where names stand), `Runs` (the rows of a module), `Steps` (a row,
 //! and an edge to the next), `Room` (what fits), `Conditions` (the six conditions), `Attributes`,
 //! `Control` (ports that carry no numbers), `Windows` (which rows count, and what a name shows over
-//! them), `Driven` (how a module is reset and driven), `Stalls` (rows that don't count), `Gated`
+//! them), `Driven` (how a module is reset and driven), `Stalls` (rows that don't count), `Gates`
 //! (registers that stand still), `Listing` (lists that grow at their end), `Multiplications`, `Layouts`
 //! (a layout cut behind a token), `Drivers` (which item drives a name) and `Copies` (what the assignment
 //! of a name gives).

@@ -17,10 +17,10 @@ use Rattle.math_list.proofs.Elements.{cons-cases, none-in}
 use Rattle.vl_check.specs.declared.scope.Scope.{Scope}
 use Rattle.vl_check.specs.Scope.{IsScopeOf, names_in, number_in}
 use Rattle.vl_check.specs.declared.mentions.Mention.{Mention as MentionHere}
-use Rattle.vl_check.specs.inner.Mentioned.{mention_of, shown}
-use Rattle.vl_check.specs.inner.Looped.{name_of, AreMarked, if_marked, marked_number, marked_at, first_some, AreNamed, IsBeginning}
-use Rattle.vl_check.proofs.Scoped.{at-number, number-at}
-use Rattle.vl_ast.proofs.Opened.{or-true}
+use Rattle.vl_check.specs.inner.Mentions.{mention_of, shown}
+use Rattle.vl_check.specs.inner.CycleMarks.{name_of, AreMarked, if_marked, marked_number, marked_at, first_some, AreNamed, IsBeginning}
+use Rattle.vl_check.proofs.ScopeNames.{at-number, number-at}
+use Rattle.vl_ast.proofs.ClockEnable.{or-true}
 use Rattle.math_list.proofs.Tests.{bytes_same}
 
 -- a mention of a name

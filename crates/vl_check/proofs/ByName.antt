@@ -13,9 +13,9 @@ use Rattle.std.proofs.lemmas.Map.Text.{btree_map_updates_str}
 use Rattle.std.proofs.lemmas.Option.{slice_get-get_or}
 use Rattle.std.proofs.lemmas.Slice.Eq.{bytes_eq-Decides}
 use Rattle.vl_check.specs.Names.{with_name}
-use Rattle.vl_check.specs.inner.Mentioned.{texts}
+use Rattle.vl_check.specs.inner.Mentions.{texts}
 use Rattle.vl_check.specs.inner.Names.{HasPlaces}
-use Rattle.vl_check.proofs.Scoped.{at-number}
+use Rattle.vl_check.proofs.ScopeNames.{at-number}
 
 -- the place of the first that passes, with one more element
 abbrev pushed : Bool → ℕ → Option ℕ → Option ℕ

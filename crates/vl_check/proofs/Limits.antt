@@ -3,7 +3,7 @@ use Rattle.std.proofs.Common.{◌≡◌, ◌<◌, ◌≤◌, ◌+◌, ◌-◌, �
 use Rattle.std.specs.Prelude.{fold}
 use Rattle.vl_check.specs.inner.Walks.{size, State, total, IsStep}
 use Rattle.vl_check.specs.inner.Order.{IsOrder}
-use Rattle.vl_check.proofs.Walked.{begun, ordered}
+use Rattle.vl_check.proofs.DepthSearch.{begun, ordered}
 use Rattle.math_list.proofs.Elements.{none-in}
 use Rattle.std.proofs.lemmas.List.{length-replicate, get_or-replicate}
 

@@ -19,12 +19,12 @@ use Rattle.vl_check.specs.declared.scope.Scope.{Scope}
 use Rattle.vl_check.specs.Scope.{IsScopeOf, names_in, number_at, number_in}
 use Rattle.vl_check.specs.inner.Order.{AreKnown, IsCycle, IsOrder}
 use Rattle.fx_io.specs.Rows.{row_at}
-use Rattle.vl_check.specs.inner.Assigned.{IsNoted}
-use Rattle.vl_check.specs.inner.Looped.{name_of, AreNamed, IsBeginning, IsTurned}
+use Rattle.vl_check.specs.inner.Assignments.{IsNoted}
+use Rattle.vl_check.specs.inner.CycleMarks.{name_of, AreNamed, IsBeginning, IsTurned}
 use Rattle.vl_check.specs.Ordering.{IsOrdering}
-use Rattle.vl_check.proofs.Numbering.{one-place}
-use Rattle.vl_check.proofs.Noting.{number-below, number-is}
-use Rattle.vl_check.proofs.Scoped.{at-number}
+use Rattle.vl_check.proofs.NameNumbers.{one-place}
+use Rattle.vl_check.proofs.ItemNotes.{number-below, number-is}
+use Rattle.vl_check.proofs.ScopeNames.{at-number}
 
 index-in : (xs : List ℕ) (k : ℕ) → k < length xs → Contains xs (slice_index xs k)
 index-in xs k below = (k, below, get_or_default xs k (slice_index xs k) 0 below)

@@ -8,7 +8,7 @@ use Rattle.vl_check.specs.inner.Order.{IsCycle}
 use Rattle.fx_io.specs.Rows.{row_at}
 use Rattle.vl_check.specs.inner.Walks.{size, Done, Walk, State, IsStep}
 use Rattle.vl_check.proofs.Stages.{still-done, own-stage, total-set, higher-by-one, most-by-one, met-before}
-use Rattle.vl_check.proofs.Walked.{opened, advanced, closed, cycle-found}
+use Rattle.vl_check.proofs.DepthSearch.{opened, advanced, closed, cycle-found}
 
 last-or-front : (rest : List ℕ) (v u : ℕ) → u ≢ v → Contains (rest ++ v ∷ []) u → Contains rest u
 last-or-front rest v u other c = ⊎_elim (λ l. l) (λ e. absurd (other (sym e))) (Contains-push_cases rest v u c)

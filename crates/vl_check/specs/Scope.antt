@@ -8,7 +8,7 @@ use Rattle.vl_ast.specs.Context.{Net}
 use Rattle.vl_ast.specs.Nets.{Declared, declaration_of, mentions, net_or_none}
 use Rattle.vl_check.specs.Names.{names_of}
 use Rattle.vl_check.specs.declared.scope.Scope.{Scope}
-use Rattle.vl_check.specs.inner.Mentioned.{declared_of, texts}
+use Rattle.vl_check.specs.inner.Mentions.{declared_of, texts}
 
 -- the names in order
 abbrev pub names_in : Scope → List (List ℕ)

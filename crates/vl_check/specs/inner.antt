@@ -1,12 +1,12 @@
 -- What private contracts cite.
-pub mod Mentioned
-pub mod Names
+pub mod Assignments
+pub mod ClockNames
+pub mod CycleMarks
 pub mod Marks
+pub mod Mentions
+pub mod NameFacts
+pub mod Names
 pub mod Order
-pub mod Sorted
-pub mod Walks
-pub mod Clocked
-pub mod Assigned
-pub mod Looped
 pub mod Rest
-pub mod Known
+pub mod SortAnswer
+pub mod Walks

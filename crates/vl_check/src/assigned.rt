@@ -1,7 +1,7 @@
 ghost use Rattle.std.specs.Prelude.{◌≡◌, IfOk, OnOk, map};
 ghost use Rattle.vl_ast.specs.Nets.{names_read};
 ghost use Rattle.vl_check.specs.Scope.{number_at};
-ghost use Rattle.vl_check.specs.inner.Assigned.{IsNoted, places_after, reads_after};
+ghost use Rattle.vl_check.specs.inner.Assignments.{IsNoted, places_after, reads_after};
 
 use crate::mentions::{Mentions, all_of, push_names};
 use crate::names::{mentioned_name, put_at};

@@ -5,8 +5,8 @@ ghost use Rattle.vl_ast.specs.Nets.{mentions};
 ghost use Rattle.vl_check.specs.Cause.{IsCause};
 ghost use Rattle.vl_check.specs.Ordering.{IsOrdering};
 ghost use Rattle.vl_check.specs.Scope.{IsScopeOf};
-ghost use Rattle.vl_check.specs.inner.Known.{IsKnown, IsSoundOrder};
-ghost use Rattle.vl_check.specs.inner.Mentioned.{shown};
+ghost use Rattle.vl_check.specs.inner.NameFacts.{IsKnown, IsSoundOrder};
+ghost use Rattle.vl_check.specs.inner.Mentions.{shown};
 ghost use Rattle.vl_check.specs.inner.Rest.{IsFirstOfRest, fault_in};
 
 use crate::attributes::no_attribute;

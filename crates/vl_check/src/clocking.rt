@@ -3,8 +3,8 @@ ghost use Rattle.std.specs.List.{list_any};
 ghost use Rattle.vl_ast.specs.Conditions.{is_read_of, no_reset};
 ghost use Rattle.vl_ast.specs.Control.{is_bit_input};
 ghost use Rattle.vl_ast.specs.Nets.{is_mention_of, mentions};
-ghost use Rattle.vl_check.specs.inner.Clocked.{first_of_both, name_at_fault, place_in};
-ghost use Rattle.vl_check.specs.inner.Mentioned.{mention_of, shown};
+ghost use Rattle.vl_check.specs.inner.ClockNames.{first_of_both, name_at_fault, place_in};
+ghost use Rattle.vl_check.specs.inner.Mentions.{mention_of, shown};
 
 use crate::mentions::Mention;
 use vl_ast::{Module, Port};

@@ -2,7 +2,7 @@ ghost use Rattle.std.specs.Prelude.{◌≡◌, ◌<◌, IfOk, Option, Some, None
 ghost use Rattle.vl_ast.specs.declared.modules.Module.{Module};
 ghost use Rattle.vl_ast.specs.Nets.{mentions};
 ghost use Rattle.vl_ast.specs.Conditions.{doubly, first_fault, is_double, is_driver_of, is_undriven, may_drive_it, mentioned, needs_driver, undriven};
-ghost use Rattle.vl_check.specs.inner.Mentioned.{declared_of, kind_of, mention_of, shown};
+ghost use Rattle.vl_check.specs.inner.Mentions.{declared_of, kind_of, mention_of, shown};
 ghost use Rattle.vl_check.specs.inner.Marks.{AreFirst, AreNumbered, Marks, declares, double_where, drives, first_after, undriven_where};
 
 use crate::mentions::{Declared, Kind, Mention};

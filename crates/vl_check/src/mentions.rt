@@ -1,6 +1,6 @@
 ghost use Rattle.std.specs.Prelude.{◌≡◌, ◌∷◌, [], false, map, if◌then◌else◌, IfOk};
 ghost use Rattle.vl_ast.specs.Nets.{condition_names, item_mentions, mentions, names_read, Declares, Drives, InputPort, OutputPort, Reads};
-ghost use Rattle.vl_check.specs.inner.Mentioned.{Puts, kind_of, mention_of, net_declared, shown};
+ghost use Rattle.vl_check.specs.inner.Mentions.{Puts, kind_of, mention_of, net_declared, shown};
 
 use crate::names::put;
 use fx_io::OutOfMemory;

@@ -1,6 +1,6 @@
 ghost use Rattle.std.specs.Prelude.{◌≡◌, ◌++◌, ◌∷◌, [], OnOk, slice_set};
 ghost use Rattle.vl_ast.specs.Conditions.{mentioned};
-ghost use Rattle.vl_check.specs.inner.Mentioned.{mention_of, texts};
+ghost use Rattle.vl_check.specs.inner.Mentions.{mention_of, texts};
 ghost use Rattle.vl_check.specs.inner.Names.{HasPlaces, Numbered};
 
 use crate::mentions::Mention;

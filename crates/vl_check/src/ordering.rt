@@ -3,9 +3,9 @@ ghost use Rattle.vl_ast.specs.declared.modules.Module.{Module};
 ghost use Rattle.vl_ast.specs.Nets.{mentions};
 ghost use Rattle.vl_check.specs.Cause.{IsCause};
 ghost use Rattle.vl_check.specs.Scope.{IsScopeOf, names_in};
-ghost use Rattle.vl_check.specs.inner.Known.{IsFound, IsOrderable};
-ghost use Rattle.vl_check.specs.inner.Looped.{AreMarked, AreNamed, IsBeginning, IsTurned, first_some, marked_at, marked_number};
-ghost use Rattle.vl_check.specs.inner.Mentioned.{mention_of, shown};
+ghost use Rattle.vl_check.specs.inner.NameFacts.{IsFound, IsOrderable};
+ghost use Rattle.vl_check.specs.inner.CycleMarks.{AreMarked, AreNamed, IsBeginning, IsTurned, first_some, marked_at, marked_number};
+ghost use Rattle.vl_check.specs.inner.Mentions.{mention_of, shown};
 
 use crate::assigned::{Assigned, assignments_of};
 use crate::fault::VlFault;

@@ -1,5 +1,5 @@
 ghost use Rattle.std.specs.Prelude.{◌≡◌, ◌<◌, [], Some, None, length, option_map, slice_index_or};
-ghost use Rattle.vl_check.specs.inner.Mentioned.{declared_of};
+ghost use Rattle.vl_check.specs.inner.Mentions.{declared_of};
 ghost use Rattle.vl_check.specs.inner.Names.{HasPlaces};
 
 use crate::mentions::Declared;

@@ -1,7 +1,7 @@
 ghost use Rattle.std.specs.Prelude.{◌≡◌, ◌<◌, ◌+◌, ◌-◌, ◌^◌, ℕ, [], IfOk, length, option_map, slice_index};
 ghost use Rattle.vl_check.specs.inner.Order.{AreKnown};
 ghost use Rattle.fx_io.specs.Rows.{row_at};
-ghost use Rattle.vl_check.specs.inner.Sorted.{IsSorted};
+ghost use Rattle.vl_check.specs.inner.SortAnswer.{IsSorted};
 ghost use Rattle.vl_check.specs.inner.Walks.{IsSearched, IsTurned, State, size};
 
 use crate::names::put;

@@ -5,7 +5,7 @@ use Rattle.hw_net.specs.declared.netlist.NetOp.TheVariants.{Input, Const, Resize
 use Rattle.hw_net.specs.Operation.{arity}
 use Rattle.vl_emit.specs.Names.{Wire}
 use Rattle.vl_emit.specs.inner.Operators.{expression_of}
-use Rattle.vl_emit.specs.inner.Spelled.{at_width}
+use Rattle.vl_emit.specs.inner.Pieces.{at_width}
 use Rattle.vl_emit.specs.inner.Spoken.{IsWithin, triple}
 
 module _ (w : ℕ) (ports : ℕ → Wire) (own : Wire) (a : ℕ → Wire) (x y z : Wire) where

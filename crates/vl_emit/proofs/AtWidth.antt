@@ -13,11 +13,11 @@ use Rattle.vl_ast.specs.Context.{Net, own_length, is_signed}
 use Rattle.vl_ast.specs.Value.{beside, extended, is_negative, value_in, assigned}
 use Rattle.vl_ast.specs.Value.{bits_of}
 use Rattle.vl_emit.specs.Names.{Wire}
-use Rattle.vl_emit.specs.inner.Spelled.{zeros, fill, inside, piece, at_width}
-use Rattle.vl_emit.specs.inner.Written.{IsWritten, Shows}
+use Rattle.vl_emit.specs.inner.Pieces.{zeros, fill, inside, piece, at_width}
+use Rattle.vl_emit.specs.inner.AtWidth.{IsWritten, Shows}
 use Rattle.math_num.specs.Bits.{shifted_down}
 use Rattle.vl_ast.proofs.Forms.{sign-Name, sign-Part, sign-Concat, sign-Literal, length-Name, length-Bit, length-Part, length-Literal, length-Concat, length-Repeat, value-Name, value-Bit, value-Part, value-Literal, value-Concat, value-Repeat}
-use Rattle.vl_ast.proofs.Stimulated.{bits-fit}
+use Rattle.vl_ast.proofs.SomeInputs.{bits-fit}
 use Rattle.vl_emit.proofs.Twos.{bits-congruent, bits-unique, bits-mod}
 use Rattle.math_num.proofs.Words.{size-below, size-half, sign_of, size_of}
 use Rattle.hw_net.proofs.Words.{only-sign, split-low}

@@ -8,11 +8,11 @@ use Rattle.vl_ast.specs.declared.expressions.Expr.{Expr}
 use Rattle.vl_ast.specs.declared.expressions.Expr.TheVariants.{Unary, Binary}
 use Rattle.vl_ast.specs.Context.{Net, own_length}
 use Rattle.vl_ast.specs.Value.{bits_of}
-use Rattle.vl_emit.specs.inner.Written.{IsWritten}
+use Rattle.vl_emit.specs.inner.AtWidth.{IsWritten}
 use Rattle.math_num.specs.Bits.{low_bits}
 use Rattle.vl_ast.proofs.Forms.{length-Unary, length-Binary, value-Unary, value-Binary}
 use Rattle.vl_emit.proofs.AtWidth.{cut-bits}
-use Rattle.vl_ast.proofs.Stimulated.{bits-fit}
+use Rattle.vl_ast.proofs.SomeInputs.{bits-fit}
 
 pub low-bits : (w : ℕ) (z : ℤ) → low_bits w z ≡ bits_of w z
 low-bits w (pos n) = refl

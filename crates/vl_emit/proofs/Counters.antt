@@ -22,19 +22,19 @@ use Rattle.hw_net.specs.Closed.{CounterTells, CounterIsTelling}
 use Rattle.hw_net.specs.NetRows.{span_of}
 use Rattle.hw_net.specs.Registers.{Takes as TakesAt, IsLive, IsCounter}
 use Rattle.vl_emit.specs.Names.{Wire}
-use Rattle.vl_emit.specs.inner.Spelled.{zeros}
+use Rattle.vl_emit.specs.inner.Pieces.{zeros}
 use Rattle.vl_emit.specs.inner.Operators.{test_of}
-use Rattle.vl_emit.specs.inner.Written.{IsWritten, Shows}
-use Rattle.vl_emit.specs.inner.Emitted.{plain_number, counts, slot_test, live_test}
+use Rattle.vl_emit.specs.inner.AtWidth.{IsWritten, Shows}
+use Rattle.vl_emit.specs.inner.NetItems.{plain_number, counts, slot_test, live_test}
 use Rattle.vl_emit.specs.inner.Sound.{IsCounted}
 use Rattle.vl_emit.proofs.Sections.{Run, run_of}
-use Rattle.vl_emit.proofs.Counting.{count_of, count-most, counts-down}
-use Rattle.vl_emit.proofs.Found.{here}
+use Rattle.vl_emit.proofs.CounterNumbers.{count_of, count-most, counts-down}
+use Rattle.vl_emit.proofs.ModuleNets.{here}
 use Rattle.vl_emit.proofs.AtWidth.{as-name, zeros-written}
 use Rattle.vl_emit.proofs.OfOperations.{test-tells, width-at-least}
 use Rattle.vl_emit.proofs.Operations.{subtract-written, choose-written}
 use Rattle.vl_emit.proofs.Registers.{next-value, number-written, counts-written, at_least-written, both-some}
-use Rattle.vl_emit.proofs.InRun.{Running, known, value-is, first-bits, released, edge, item-of, names-of}
+use Rattle.vl_emit.proofs.NetBits.{Running, known, value-is, first-bits, released, edge, item-of, names-of}
 
 counter-step : (q top : ℕ) → (if int_eq (pos q) (pos 0) then pos top else pos q -ℤ pos 1) ≡ pos (if q == 0 then top else q - 1)
 counter-step zero top = refl

@@ -17,13 +17,13 @@ use Rattle.hw_net.specs.declared.netlist.NetPort.{NetPort}
 use Rattle.hw_net.specs.declared.netlist.NetKind.{NetKind}
 use Rattle.hw_net.specs.declared.netlist.NetKind.TheVariants.{Comb, Reg, EnReg, Bridge, Unit, Counter}
 use Rattle.hw_net.specs.Products.{places}
-use Rattle.vl_emit.specs.inner.Emitted.{Naming, drivers, declarers, unit_drivers, other_drivers, output_item, module_items}
+use Rattle.vl_emit.specs.inner.NetItems.{Naming, drivers, declarers, unit_drivers, other_drivers, output_item, module_items}
 use Rattle.vl_emit.specs.inner.Sound.{IsEmitted}
 use Rattle.vl_emit.proofs.Sections.{Items, items_in}
-use Rattle.vl_emit.proofs.Found.{no-element, first-or-later, here, later, in-one, of-one, of-mapped, DeclaredBy, declared-item, declared-port, place-below, below-place, one-of, two-of}
+use Rattle.vl_emit.proofs.ModuleNets.{no-element, first-or-later, here, later, in-one, of-one, of-mapped, DeclaredBy, declared-item, declared-port, place-below, below-place, one-of, two-of}
 use Rattle.vl_emit.proofs.Lists.{pairs-cons, pairs-append, pairs-places, map-pairs, empty-list, flat_map-twice, flat_map-same}
 use Rattle.vl_emit.proofs.NetItems.{drivers-silent, units-drive, others-drive, hold_driver, hold_declarer}
-use Rattle.vl_emit.proofs.DeclaredFirst.{item_drives}
+use Rattle.vl_emit.proofs.DeclarationOrder.{item_drives}
 use Rattle.vl_emit.proofs.NoDouble.{driven_by, DifferD, DifferN, MayBe, no-double, declared-as, driven-of, ports-drive, item_declared, silent-none}
 
 module _ (cycles count : ℕ) (naming : Naming) (net : ℕ → Net) (outputs : List NetPort) (m : Module)

@@ -21,13 +21,13 @@ use Rattle.hw_net.specs.declared.netlist.NetOp.TheVariants as operation
 use Rattle.hw_net.specs.declared.netlist.NetKind.{NetKind}
 use Rattle.hw_net.specs.declared.netlist.NetKind.TheVariants.{Comb, Reg, EnReg, Bridge, Unit, Counter}
 use Rattle.vl_emit.specs.Names.{Wire}
-use Rattle.vl_emit.specs.inner.Spelled.{zeros}
+use Rattle.vl_emit.specs.inner.Pieces.{zeros}
 use Rattle.vl_emit.specs.inner.Operators.{product, test_of}
 use Rattle.vl_emit.specs.inner.Clean.{IsClean, IsCleanItem}
-use Rattle.vl_emit.specs.inner.Emitted.{Naming, wire_of, plain_number, constant, counts, slot_test, live_test, drivers}
-use Rattle.vl_emit.proofs.Found.{first-or-later, no-element}
-use Rattle.vl_ast.proofs.Stimulated.{bits-fit}
-use Rattle.vl_emit.proofs.Cleaned.{Readable, narrow, sound, literal-clean, binary-clean, choose-clean, net-clean, no-bits, test-clean, word-most, op-clean, product-length, product-sound, product-reads}
+use Rattle.vl_emit.specs.inner.NetItems.{Naming, wire_of, plain_number, constant, counts, slot_test, live_test, drivers}
+use Rattle.vl_emit.proofs.ModuleNets.{first-or-later, no-element}
+use Rattle.vl_ast.proofs.SomeInputs.{bits-fit}
+use Rattle.vl_emit.proofs.CleanForms.{Readable, narrow, sound, literal-clean, binary-clean, choose-clean, net-clean, no-bits, test-clean, word-most, op-clean, product-length, product-sound, product-reads}
 use Rattle.vl_emit.specs.inner.Operators.{expression_of}
 use Rattle.vl_emit.specs.inner.Sound.{NamedBy, IsSound, IsSoundKind, IsCounted}
 use Rattle.vl_emit.proofs.OfOperations.{width-at-least}

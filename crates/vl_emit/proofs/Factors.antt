@@ -17,9 +17,9 @@ use Rattle.hw_net.specs.declared.netlist.NetOp.{NetOp}
 use Rattle.hw_net.specs.declared.netlist.NetOp.TheVariants as operation
 use Rattle.hw_net.specs.Operation.{arity, given_by}
 use Rattle.vl_emit.specs.inner.Operators.{by_sign, expression_of, factor, product, product_signed, signed_width}
-use Rattle.vl_emit.specs.inner.Spelled.{at_width}
+use Rattle.vl_emit.specs.inner.Pieces.{at_width}
 use Rattle.vl_emit.specs.inner.Spoken.{IsWithin}
-use Rattle.vl_emit.specs.inner.Written.{Shows}
+use Rattle.vl_emit.specs.inner.AtWidth.{Shows}
 use Rattle.vl_emit.proofs.AtWidth.{alone-written, assigned-written, extended-same, operand-written, piece-plain}
 use Rattle.vl_emit.proofs.OfOperations.{fits-signed, op-written, operands, width-at-least}
 use Rattle.vl_emit.proofs.Operations.{multiply-bits}

@@ -17,11 +17,11 @@ use Rattle.vl_ast.specs.Header.{bit_input}
 use Rattle.vl_emit.specs.Header.{input_port, output_port}
 use Rattle.vl_emit.specs.Names.{net_name, hold_name, port_at, name_by}
 use Rattle.hw_net.specs.Products.{net_at}
-use Rattle.vl_emit.specs.inner.Emitted.{naming_of, plain_module, plain_ports}
+use Rattle.vl_emit.specs.inner.NetItems.{naming_of, plain_module, plain_ports}
 use Rattle.vl_emit.specs.inner.Ready.{IsReady}
 use Rattle.vl_emit.specs.inner.Sound.{AreNames, HasPorts, HasOnly, IsEmitted}
 use Rattle.vl_emit.proofs.Drivers.{net-width}
-use Rattle.vl_emit.proofs.Found.{no-element, first-or-later, here, later, mapped, of-mapped, names-differ, holds-differ, net-is-no-hold}
+use Rattle.vl_emit.proofs.ModuleNets.{no-element, first-or-later, here, later, mapped, of-mapped, names-differ, holds-differ, net-is-no-hold}
 use Rattle.std.proofs.lemmas.List.{get_or_default}
 use Rattle.vl_emit.proofs.Lists.{at-contains, head-pairs, tail-pairs, same-element, pairs-cons, map-pairs}
 use Rattle.vl_emit.proofs.Sounds.{word-at, netlist-ready}

@@ -5,13 +5,13 @@ use Rattle.std.proofs.lemmas.Grind.{flat_map-append}
 use Rattle.std.proofs.lemmas.Option.{slice_get-get_or, get_or_from_slice_get}
 use Rattle.std.proofs.lemmas.List.Elements.{Contains-append_right, Contains-append_cases}
 use Rattle.hw_net.specs.Products.{places}
-use Rattle.vl_emit.proofs.Found.{no-element, first-or-later, here, later, of-one, of-mapped, below-place, one-more}
+use Rattle.vl_emit.proofs.ModuleNets.{no-element, first-or-later, here, later, of-one, of-mapped, below-place, one-more}
 use Rattle.hw_net.specs.declared.netlist.Net.{Net}
 use Rattle.hw_net.specs.Products.{net_at}
 use Rattle.std.proofs.lemmas.List.{get_or_default}
 use Rattle.vl_ast.specs.declared.making.Listing.{Listing}
 use Rattle.vl_ast.specs.Listing.{Lists}
-use Rattle.vl_ast.proofs.Listed.{both, lists-as}
+use Rattle.vl_ast.proofs.Listings.{both, lists-as}
 
 -- the element at a place
 pub at-contains : {X : Type 0} (xs : List X) (k : ℕ) (d : X) → k < length xs → Contains xs (get_or xs k d)

@@ -11,11 +11,11 @@ use Rattle.hw_net.specs.declared.netlist.NetPort.{NetPort}
 use Rattle.hw_net.specs.declared.netlist.NetKind.{NetKind}
 use Rattle.hw_net.specs.declared.netlist.NetKind.TheVariants.{Comb, Reg, EnReg, Bridge, Unit, Counter}
 use Rattle.hw_net.specs.Products.{places}
-use Rattle.vl_emit.specs.inner.Emitted.{Naming, drivers, declarers, unit_drivers, other_drivers, output_item, module_items, plain_number}
+use Rattle.vl_emit.specs.inner.NetItems.{Naming, drivers, declarers, unit_drivers, other_drivers, output_item, module_items, plain_number}
 use Rattle.vl_ast.specs.declared.expressions.Expr.TheVariants as expression
 use Rattle.vl_emit.specs.inner.Sound.{HasNets, AreNames}
 use Rattle.vl_emit.proofs.Sections.{Items, items_in}
-use Rattle.vl_emit.proofs.Found.{DeclaredBy, here, later, first-or-later, no-element, place-below, below-place, in-one, of-one, mapped, of-mapped, net-of-name, declared-where, declared-item}
+use Rattle.vl_emit.proofs.ModuleNets.{DeclaredBy, here, later, first-or-later, no-element, place-below, below-place, in-one, of-one, mapped, of-mapped, net-of-name, declared-where, declared-item}
 
 module _ (cycles count : ℕ) (naming : Naming) (net : ℕ → Net) (outputs : List NetPort) where
   abbrev pub word : ℕ → DeclaredNet

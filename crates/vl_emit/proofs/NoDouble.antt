@@ -11,10 +11,10 @@ use Rattle.vl_ast.specs.declared.modules.ModItem.TheVariants as item
 use Rattle.vl_ast.specs.declared.modules.Module.{Module}
 use Rattle.vl_ast.specs.Conditions.{first_fault, is_declaration_of, is_driver_of, may_drive_it, is_double}
 use Rattle.vl_ast.specs.Nets.{Declared, Mention, Declares, Drives, Reads, Clocks, port_declared, item_mentions, names_read, condition_names, declared_by, declarations, declaration_of}
-use Rattle.vl_emit.proofs.Found.{here, later, in-one, of-one, found, found-is, DeclaredBy, item-declares}
+use Rattle.vl_emit.proofs.ModuleNets.{here, later, in-one, of-one, found, found-is, DeclaredBy, item-declares}
 use Rattle.vl_emit.proofs.Lists.{apart-pairs, same-element, none-of, empty-list}
-use Rattle.vl_emit.proofs.Ordered.{fault-free}
-use Rattle.vl_emit.proofs.DeclaredFirst.{item_drives}
+use Rattle.vl_emit.proofs.PlaceOrder.{fault-free}
+use Rattle.vl_emit.proofs.DeclarationOrder.{item_drives}
 use Rattle.math_list.proofs.Tests.{unequal}
 
 abbrev pub driven_by : Mention → List (List ℕ)

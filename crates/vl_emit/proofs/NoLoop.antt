@@ -20,11 +20,11 @@ use Rattle.hw_net.specs.declared.netlist.NetKind.TheVariants.{Comb, Reg, EnReg, 
 use Rattle.hw_net.specs.Operation.{arity}
 use Rattle.hw_net.specs.Products.{places}
 use Rattle.vl_emit.specs.inner.Clean.{IsClean, IsCleanItem}
-use Rattle.vl_emit.specs.inner.Emitted.{Naming, wire_of, drivers, declarers, unit_drivers, other_drivers, output_item}
+use Rattle.vl_emit.specs.inner.NetItems.{Naming, wire_of, drivers, declarers, unit_drivers, other_drivers, output_item}
 use Rattle.vl_emit.specs.inner.Sound.{NamedBy, IsSoundKind, HasOnly, IsSound, IsEmitted, HasNets}
-use Rattle.vl_emit.proofs.Found.{no-element, first-or-later, below-place, of-one, of-mapped}
+use Rattle.vl_emit.proofs.ModuleNets.{no-element, first-or-later, below-place, of-one, of-mapped}
 use Rattle.vl_emit.proofs.NetItems.{units-drive, others-drive, has-nets, hold_driver}
-use Rattle.vl_emit.proofs.Cleaned.{Readable, name-clean}
+use Rattle.vl_emit.proofs.CleanForms.{Readable, name-clean}
 use Rattle.vl_emit.proofs.Drivers.{multiplies, drivers-clean, bridge-clean}
 use Rattle.vl_emit.proofs.Ports.{named-net}
 use Rattle.vl_emit.proofs.Undriven.{declarers-are}

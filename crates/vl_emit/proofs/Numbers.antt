@@ -12,7 +12,7 @@ use Rattle.vl_ast.specs.Value.{number_of}
 use Rattle.vl_ast.specs.Nets.{Declared, declarations, nets_of, net_or_none}
 use Rattle.vl_ast.specs.Value.{bits_of}
 use Rattle.math_num.proofs.Words.{size-half}
-use Rattle.vl_emit.proofs.Found.{found-is}
+use Rattle.vl_emit.proofs.ModuleNets.{found-is}
 use Rattle.vl_emit.proofs.OfOperations.{plain-back, width-at-least}
 use Rattle.vl_emit.proofs.Operations.{number-back}
 use Rattle.vl_emit.proofs.Twos.{bits-congruent}

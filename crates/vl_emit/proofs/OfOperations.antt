@@ -21,15 +21,15 @@ use Rattle.hw_net.specs.Operation.{Operands, arity, given_by}
 use Rattle.math_num.specs.Bits.{shifted_down, low_bits, truth as truth_number}
 use Rattle.vl_emit.specs.inner.Spoken.{IsWithin}
 use Rattle.vl_emit.specs.Names.{Wire}
-use Rattle.vl_emit.specs.inner.Spelled.{zeros, piece, at_width}
+use Rattle.vl_emit.specs.inner.Pieces.{zeros, piece, at_width}
 use Rattle.vl_emit.specs.inner.Operators.{widened, signed_width, by_sign, compared, common_width, test_of, in_width, slice_at, expression_of}
-use Rattle.vl_emit.specs.inner.Written.{IsWritten, Shows}
+use Rattle.vl_emit.specs.inner.AtWidth.{IsWritten, Shows}
 use Rattle.vl_emit.proofs.Bitwise.{low-bits, and-written, or-written, xor-written, invert-written}
 use Rattle.vl_ast.proofs.Forms.{by_itself}
 use Rattle.math_num.proofs.Words.{size-below, size-half, size_of}
 use Rattle.vl_emit.proofs.AtWidth.{piece-plain, as-name, split-bits, zeros-written, beside-written, piece-written, operand-written, alone-written, cut-bits}
 use Rattle.vl_emit.proofs.Operations.{shift-bits, number-back, less_plain-written, add-written, subtract-written, negate-written, shift-written, literal-written, choose-written, equal-written, not_equal-written, less-written, same-bits}
-use Rattle.vl_ast.proofs.Stimulated.{bits-fit}
+use Rattle.vl_ast.proofs.SomeInputs.{bits-fit}
 
 pub truth-number : (t : Bool) → pos (truth t) ≡ truth_number t
 truth-number true = refl

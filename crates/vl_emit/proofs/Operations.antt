@@ -16,11 +16,11 @@ use Rattle.vl_ast.specs.declared.expressions.Expr.TheVariants.{Literal, AsSigned
 use Rattle.vl_ast.specs.Context.{Net, own_length, is_signed}
 use Rattle.vl_ast.specs.Value.{extended, is_negative, number_of, truth, value_in}
 use Rattle.vl_ast.specs.Value.{bits_of}
-use Rattle.vl_emit.specs.inner.Written.{IsWritten}
+use Rattle.vl_emit.specs.inner.AtWidth.{IsWritten}
 use Rattle.vl_ast.proofs.Forms.{length-Unary, length-Binary, length-Shift, length-Choose, length-AsSigned, length-Literal, sign-AsSigned, value-Unary, value-Binary, value-Shift, value-Choose, value-AsSigned, value-Literal, by_itself}
 use Rattle.vl_emit.proofs.AtWidth.{alone-written, extended-same}
 use Rattle.math_num.proofs.Residues.{congruent-neg}
-use Rattle.vl_ast.proofs.Stimulated.{bits-fit}
+use Rattle.vl_ast.proofs.SomeInputs.{bits-fit}
 use Rattle.vl_emit.proofs.Twos.{bits-congruent, bits-unique, IsCongruent-add, IsCongruent-mul}
 use Rattle.math_num.proofs.Words.{size_of}
 

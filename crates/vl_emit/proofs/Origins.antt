@@ -25,13 +25,13 @@ use Rattle.vl_emit.specs.Names.{name_of, hold_name, input_wire}
 use Rattle.hw_net.specs.Products.{net_at, places}
 use Rattle.vl_emit.specs.Reads.{item_reads, IsNamed, IsCounterName, MayRead}
 use Rattle.vl_emit.specs.inner.Clean.{IsCleanItem}
-use Rattle.vl_emit.specs.inner.Emitted.{drivers, declarers, unit_drivers, other_drivers, output_item, naming_of, plain_module, items_of}
+use Rattle.vl_emit.specs.inner.NetItems.{drivers, declarers, unit_drivers, other_drivers, output_item, naming_of, plain_module, items_of}
 use Rattle.vl_emit.specs.inner.Ready.{IsReady, IsTimed}
 use Rattle.vl_emit.specs.inner.Sound.{IsSound, HasNets, IsEmitted, NamedBy}
 use Rattle.vl_emit.proofs.Sections.{Parts, parts_of}
-use Rattle.vl_emit.proofs.Cleaned.{name-clean}
+use Rattle.vl_emit.proofs.CleanForms.{name-clean}
 use Rattle.vl_emit.proofs.Drivers.{multiplies, drivers-clean}
-use Rattle.vl_emit.proofs.Found.{no-element, first-or-later, here, later, of-one, of-mapped, below-place, one-of, two-of}
+use Rattle.vl_emit.proofs.ModuleNets.{no-element, first-or-later, here, later, of-one, of-mapped, below-place, one-of, two-of}
 use Rattle.vl_emit.proofs.Interfaces.{emitted}
 use Rattle.vl_emit.proofs.Lists.{at-contains, same-element}
 use Rattle.vl_emit.proofs.NetItems.{units-drive, others-drive, hold_driver, hold_declarer, has-nets}

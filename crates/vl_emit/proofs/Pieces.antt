@@ -4,7 +4,7 @@ use Rattle.std.proofs.lemmas.Bool.{cond-false, cond-true, le-leb, lt-leb}
 use Rattle.vl_ast.specs.declared.expressions.Expr.TheVariants.{Concat}
 use Rattle.vl_emit.specs.Names.{Wire}
 use Rattle.vl_emit.specs.inner.Operators.{slice_at}
-use Rattle.vl_emit.specs.inner.Spelled.{fill, inside, piece, zeros}
+use Rattle.vl_emit.specs.inner.Pieces.{fill, inside, piece, zeros}
 
 module _ (wire : Wire) (low width : ℕ) where
   pub piece-past : wire.width ≤ low → piece wire low width ≡ fill wire width

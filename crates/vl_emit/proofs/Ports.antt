@@ -6,10 +6,10 @@ use Rattle.vl_ast.specs.declared.modules.Module.{Module}
 use Rattle.vl_ast.specs.Nets.{Declared, port_declared, nets_of}
 use Rattle.hw_net.specs.declared.netlist.Net.{Net}
 use Rattle.hw_net.specs.declared.netlist.NetPort.{NetPort}
-use Rattle.vl_emit.specs.inner.Emitted.{Naming}
+use Rattle.vl_emit.specs.inner.NetItems.{Naming}
 use Rattle.vl_emit.specs.Names.{Wire}
 use Rattle.vl_emit.specs.inner.Sound.{IsSound, IsPort, IsEmitted}
-use Rattle.vl_emit.proofs.Found.{net-of-name, declared-where, declared-port}
+use Rattle.vl_emit.proofs.ModuleNets.{net-of-name, declared-where, declared-port}
 use Rattle.vl_emit.proofs.NetItems.{of-a-net}
 
 module _ (cycles count : ℕ) (naming : Naming) (net : ℕ → Net) (rank : ℕ → ℕ) (outputs : List NetPort) (m : Module)

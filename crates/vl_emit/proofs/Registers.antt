@@ -15,8 +15,8 @@ use Rattle.vl_ast.specs.Nets.{nets_of}
 use Rattle.vl_ast.specs.Value.{bits_of}
 use Rattle.vl_ast.specs.Runs.{next_bits, takes_value}
 use Rattle.vl_emit.specs.Names.{Wire}
-use Rattle.vl_emit.specs.inner.Written.{IsWritten, Shows}
-use Rattle.vl_emit.specs.inner.Emitted.{plain_number, counts}
+use Rattle.vl_emit.specs.inner.AtWidth.{IsWritten, Shows}
+use Rattle.vl_emit.specs.inner.NetItems.{plain_number, counts}
 use Rattle.vl_ast.proofs.Forms.{length-Name, value-Name, length-Binary, length-Literal, sign-Literal, value-Binary, value-Literal, by_itself}
 use Rattle.vl_emit.proofs.AtWidth.{extended-same, as-name, alone-written, assigned-written}
 use Rattle.vl_emit.proofs.Operations.{truth-bit, equal-written, together-written}

@@ -6,7 +6,7 @@ use Rattle.hw_net.specs.declared.netlist.NetPort.{NetPort}
 use Rattle.hw_net.specs.Circuit.{Circuit}
 use Rattle.hw_net.specs.Products.{places, net_at}
 use Rattle.vl_emit.specs.Names.{Wire, shown}
-use Rattle.vl_emit.specs.inner.Emitted.{Naming, wire_of, naming_of, declarers, unit_drivers, other_drivers, output_item}
+use Rattle.vl_emit.specs.inner.NetItems.{Naming, wire_of, naming_of, declarers, unit_drivers, other_drivers, output_item}
 
 -- a netlist's clocks for a base sample, its nets, and how they are named
 pub record Parts : Type 0 where

@@ -18,9 +18,9 @@ use Rattle.hw_net.specs.declared.netlist.Frame.{Frame}
 use Rattle.hw_net.specs.declared.netlist.NetOp.{NetOp}
 use Rattle.hw_net.specs.declared.netlist.NetOp.TheVariants as operation
 use Rattle.vl_emit.specs.Names.{Wire}
-use Rattle.vl_emit.specs.inner.Emitted.{counts, plain_number, slot_test, live_test}
+use Rattle.vl_emit.specs.inner.NetItems.{counts, plain_number, slot_test, live_test}
 use Rattle.vl_emit.specs.inner.Operators.{by_sign, common_width, compared, expression_of, factor, in_width, product, product_signed, shifted_up, signed_width, slice_at, test_of, widened}
-use Rattle.vl_emit.specs.inner.Spelled.{zeros, fill, inside, piece, at_width}
+use Rattle.vl_emit.specs.inner.Pieces.{zeros, fill, inside, piece, at_width}
 
 -- the expression nests at most so deep, and has no empty concatenation
 pub record IsShort (most : ℕ) (e : Expr) : Type 0 where

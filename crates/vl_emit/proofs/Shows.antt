@@ -13,17 +13,17 @@ use Rattle.hw_net.specs.Emittable.{IsEmittable}
 use Rattle.vl_emit.specs.Names.{Wire, name_of, net_wire, input_wire, shown}
 use Rattle.hw_net.specs.Products.{net_at}
 use Rattle.vl_emit.specs.Shown.{IsReset, NetsAreShown, OutputsAreShown}
-use Rattle.vl_emit.specs.inner.Emitted.{naming_of, plain_module, module_of}
+use Rattle.vl_emit.specs.inner.NetItems.{naming_of, plain_module, module_of}
 use Rattle.vl_emit.specs.inner.Sound.{wire_of_output}
 use Rattle.vl_emit.proofs.AtWidth.{as-name, assigned-written}
 use Rattle.vl_emit.proofs.Interfaces.{emitted}
 use Rattle.vl_emit.proofs.NetItems.{has-outputs}
 use Rattle.vl_emit.proofs.OfOperations.{width-at-least}
-use Rattle.vl_emit.proofs.Opened.{enable-nets, enable-there, gated-there, kept-net, plain-run}
+use Rattle.vl_emit.proofs.EnablePorts.{enable-nets, enable-there, gated-there, kept-net, plain-run}
 use Rattle.vl_emit.proofs.Origins.{has}
 use Rattle.vl_emit.proofs.Ports.{named-net}
-use Rattle.vl_emit.proofs.InRun.{Running, wire-shows}
-use Rattle.vl_emit.proofs.Shown.{rows-are}
+use Rattle.vl_emit.proofs.NetBits.{Running, wire-shows}
+use Rattle.vl_emit.proofs.Waves.{rows-are}
 use Rattle.vl_emit.proofs.Sounds.{netlist-sound}
 
 module _ (netlist : Circuit) (runs : IsNetlist netlist) (emits : IsEmittable netlist) (few : length netlist.nets < 2 ^ 64) where

@@ -18,7 +18,7 @@ use Rattle.hw_net.specs.Netlist.{reads, reads_now, HasWord, HasParts, IsKind, Is
 use Rattle.hw_net.specs.Operation.{arity}
 use Rattle.vl_emit.specs.Names.{port_at}
 use Rattle.hw_net.specs.Products.{net_at, no_net}
-use Rattle.vl_emit.specs.inner.Emitted.{naming_of}
+use Rattle.vl_emit.specs.inner.NetItems.{naming_of}
 use Rattle.vl_emit.specs.inner.Ready.{IsTimed, IsReady, AreReady}
 use Rattle.vl_emit.specs.inner.Sound.{IsCounted, HasWordOf, IsSoundKind, IsSound}
 use Rattle.vl_emit.specs.inner.Spoken.{IsWithin}

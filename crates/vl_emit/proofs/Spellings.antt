@@ -17,9 +17,9 @@ use Rattle.vl_ast.specs.Nets.{Declared, declarations}
 use Rattle.vl_ast.specs.Spellable.{IsShortAttr, HasExprs, IsSpellable}
 use Rattle.vl_ast.specs.Spelling.{spelling}
 use Rattle.vl_names.specs.Identifiers.{continues_name, is_identifier}
-use Rattle.vl_ast.proofs.Gated.{gated-declares}
+use Rattle.vl_ast.proofs.Gates.{gated-declares}
 use Rattle.vl_ast.proofs.Layers.{value_by_layer}
-use Rattle.vl_ast.proofs.WrittenModule.{module-spells}
+use Rattle.vl_ast.proofs.ModuleTokens.{module-spells}
 use Rattle.hw_net.specs.declared.netlist.Frame.{Frame}
 use Rattle.hw_net.specs.declared.netlist.NetLabel.{NetLabel}
 use Rattle.hw_net.specs.declared.netlist.NetPort.{NetPort}
@@ -33,10 +33,10 @@ use Rattle.vl_names.proofs.Digits.{number_plain}
 use Rattle.vl_emit.specs.Header.{input_port, input_ports, output_port, output_ports, ports_of}
 use Rattle.vl_emit.specs.Names.{Wire, name_by, net_name, hold_name}
 use Rattle.hw_net.specs.Products.{net_at}
-use Rattle.vl_emit.specs.inner.Emitted.{wire_of, declarers, drivers, items_of, module_of, naming_of, opened_module}
-use Rattle.vl_emit.proofs.Found.{DeclaredBy, declared-where, first-or-later, here, later, no-element, of-mapped, one-of, two-of}
+use Rattle.vl_emit.specs.inner.NetItems.{wire_of, declarers, drivers, items_of, module_of, naming_of, opened_module}
+use Rattle.vl_emit.proofs.ModuleNets.{DeclaredBy, declared-where, first-or-later, here, later, no-element, of-mapped, one-of, two-of}
 use Rattle.vl_emit.proofs.NetItems.{hold_declarer, hold_driver}
-use Rattle.vl_emit.proofs.Opened.{IsGated, IsOf, gated-breaks, item-where}
+use Rattle.vl_emit.proofs.EnablePorts.{IsGated, IsOf, gated-breaks, item-where}
 use Rattle.vl_emit.proofs.Origins.{Origin, Declaring, Driving, Showing, origin, declarer-of, driver-of}
 use Rattle.vl_emit.proofs.Short.{IsShort, deeper, short-binary, short-choose, short-literal, short-live, short-name, short-operation, short-product, short-slot, short-test}
 

@@ -10,7 +10,7 @@ use Rattle.vl_ast.specs.Nets.{Declared, Declares, Register, port_declared, item_
 use Rattle.vl_ast.specs.Conditions.{undriven, soundness, too_wide, is_sound_item, item_name, is_width}
 use Rattle.vl_emit.specs.inner.Clean.{IsCleanItem}
 use Rattle.vl_emit.specs.Reads.{item_reads}
-use Rattle.vl_emit.proofs.Found.{DeclaredBy, no-element, first-or-later, here, later, in-one, of-one, mapped, of-mapped}
+use Rattle.vl_emit.proofs.ModuleNets.{DeclaredBy, no-element, first-or-later, here, later, in-one, of-one, mapped, of-mapped}
 use Rattle.vl_ast.specs.declared.expressions.Expr.TheVariants as expression
 use Rattle.vl_ast.specs.Context.{Net as DeclaredNet}
 use Rattle.vl_ast.specs.Nets.{nets_of}
@@ -20,16 +20,16 @@ use Rattle.hw_net.specs.declared.netlist.NetPort.{NetPort}
 use Rattle.hw_net.specs.declared.netlist.NetKind.{NetKind}
 use Rattle.hw_net.specs.declared.netlist.NetKind.TheVariants.{Comb, Reg, EnReg, Bridge, Unit, Counter}
 use Rattle.hw_net.specs.Products.{places}
-use Rattle.vl_emit.specs.inner.Emitted.{Naming, drivers, declarers, unit_drivers, other_drivers, output_item}
+use Rattle.vl_emit.specs.inner.NetItems.{Naming, drivers, declarers, unit_drivers, other_drivers, output_item}
 use Rattle.vl_emit.specs.inner.Sound.{HasOnly, IsSound, IsEmitted, HasNets}
-use Rattle.vl_emit.proofs.Found.{declares, place-below, below-place}
+use Rattle.vl_emit.proofs.ModuleNets.{declares, place-below, below-place}
 use Rattle.vl_emit.proofs.NetItems.{DeclaresName, declares-net, drivers-silent, units-drive, others-drive, unit-or-other, hold_driver, hold_declarer, has-nets}
-use Rattle.vl_emit.proofs.Cleaned.{name-clean, word-most}
+use Rattle.vl_emit.proofs.CleanForms.{name-clean, word-most}
 use Rattle.vl_emit.proofs.Drivers.{assign-clean}
 use Rattle.vl_emit.proofs.Drivers.{multiplies, drivers-clean, net-width}
 use Rattle.vl_emit.proofs.Ports.{named-net}
 use Rattle.vl_emit.proofs.Sections.{Items, items_in}
-use Rattle.vl_emit.proofs.DeclaredFirst.{find-none, item_drives, port_mentions, IsDeclaredBefore, IsDriven, none-undriven}
+use Rattle.vl_emit.proofs.DeclarationOrder.{find-none, item_drives, port_mentions, IsDeclaredBefore, IsDriven, none-undriven}
 
 -- the module of a netlist
 module _ (cycles count : ℕ) (naming : Naming) (net : ℕ → Net) (rank : ℕ → ℕ) (outputs : List NetPort) (m : Module)

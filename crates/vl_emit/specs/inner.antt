@@ -1,9 +1,9 @@
 -- What only private contracts cite.
+pub mod AtWidth
 pub mod Clean
-pub mod Emitted
+pub mod NetItems
 pub mod Operators
+pub mod Pieces
 pub mod Ready
 pub mod Sound
-pub mod Spelled
 pub mod Spoken
-pub mod Written

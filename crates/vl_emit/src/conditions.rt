@@ -4,7 +4,7 @@ ghost use Rattle.vl_ast.specs.Gated.{gated_condition};
 ghost use Rattle.vl_ast.specs.declared.expressions.Expr.{Expr};
 ghost use Rattle.vl_emit.specs.inner.Ready.{HasFrame, net_count, cycles_in};
 ghost use Rattle.vl_emit.specs.inner.Ready.{counter_in, slot_in, live_in, taking_in};
-ghost use Rattle.vl_emit.specs.inner.Emitted.{compares};
+ghost use Rattle.vl_emit.specs.inner.NetItems.{compares};
 
 use crate::operands::{operand_name, zeros};
 use crate::operators::{plain, test_of};

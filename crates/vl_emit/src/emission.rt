@@ -4,7 +4,7 @@ ghost use Rattle.hw_net.specs.Emittable.{IsEmittable};
 ghost use Rattle.hw_net.specs.Frames.{HasCounters};
 ghost use Rattle.hw_net.specs.Netlist.{IsNetlist};
 ghost use Rattle.vl_emit.specs.Promised.{BreaksNone, HasHeader, ItemsAre, KeepsBits, LabelsAreNames, NamesDiffer, NetsAreShown, NetsFit, OutputsAreShown, ProductsAre, ReadsOnly, RegistersAre, Spells, spelling};
-ghost use Rattle.vl_emit.specs.inner.Emitted.{module_of};
+ghost use Rattle.vl_emit.specs.inner.NetItems.{module_of};
 ghost use Rattle.vl_emit.specs.inner.Ready.{HaveNets};
 
 use crate::header::ports_of;

@@ -3,7 +3,7 @@
 ghost use Rattle.std.specs.Prelude.{◌++◌, ◌∷◌, [], map};
 ghost use Rattle.vl_ast.specs.Gated.{gated_item, shows_enable};
 ghost use Rattle.vl_ast.specs.Listing.{Holds, Lists};
-ghost use Rattle.vl_emit.specs.inner.Emitted.{declarers_at, items_of, others_at};
+ghost use Rattle.vl_emit.specs.inner.NetItems.{declarers_at, items_of, others_at};
 ghost use Rattle.vl_emit.specs.inner.Ready.{HasKind, IsNet, IsSource, circuit_of, net_count};
 ghost use Rattle.vl_emit.specs.inner.Ready.{net_items, first_in, all_shown};
 

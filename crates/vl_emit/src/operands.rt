@@ -3,7 +3,7 @@ ghost use Rattle.std.specs.Prelude.{◌≡◌, ◌+◌, ◌≤◌, ◌<◌, [], 
 ghost use Rattle.vl_ast.specs.declared.expressions.Expr.{Expr};
 ghost use Rattle.vl_ast.specs.declared.expressions.Expr.TheVariants.{Name, Concat};
 ghost use Rattle.std.specs.Fmt.{decimal};
-ghost use Rattle.vl_emit.specs.inner.Spelled.{zeros, fill, inside, piece, at_width};
+ghost use Rattle.vl_emit.specs.inner.Pieces.{zeros, fill, inside, piece, at_width};
 ghost use Rattle.vl_emit.specs.inner.Spoken.{called_text, wire_at, CanBeAt};
 
 use fx_io::Text;

@@ -17,9 +17,9 @@ use Rattle.vl_eval.specs.declared.ops.Op.{Op}
 use Rattle.vl_eval.specs.declared.ops.Op.TheVariants.{Constant, One, Next}
 use Rattle.vl_eval.specs.declared.ops.OneOp.TheVariants.{Select}
 use Rattle.vl_eval.specs.inner.Ops.{IsSettled, op_value}
-use Rattle.vl_eval.specs.inner.Shown.{NamesFit, Pushed, row_of}
+use Rattle.vl_eval.specs.inner.PlaceBits.{NamesFit, Pushed, row_of}
 use Rattle.vl_eval.specs.inner.Site.{ArePlaced, Built, slot_in}
-use Rattle.vl_eval.specs.inner.Assigning.{Assigns, Captures, Tests, next_names, takes_in}
+use Rattle.vl_eval.specs.inner.Assigns.{Assigns, Captures, Tests, next_names, takes_in}
 use Rattle.vl_eval.proofs.Builds.{grows-length, grows-more, grows-push, settled-later}
 use Rattle.vl_eval.proofs.Fits.{left-room, right-room, value-fits}
 use Rattle.vl_eval.proofs.Forms.{last-value}

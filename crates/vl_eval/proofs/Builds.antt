@@ -28,9 +28,9 @@ use Rattle.vl_eval.specs.declared.ops.Op.{Op}
 use Rattle.vl_eval.specs.declared.ops.Op.TheVariants.{Constant, One, Choose as ChooseOp}
 use Rattle.vl_eval.specs.declared.ops.OneOp.TheVariants.{Extended, Select}
 use Rattle.vl_eval.specs.inner.Ops.{reads_below, IsOrdered, IsSettled}
-use Rattle.vl_eval.specs.inner.Built.{unary_op, binary_op, shift_op}
+use Rattle.vl_eval.specs.inner.OperatorSteps.{unary_op, binary_op, shift_op}
 use Rattle.vl_eval.specs.inner.Contexts.{context_at, context_of, unary_context, left_context, right_context, half_in}
-use Rattle.vl_eval.specs.inner.Shown.{Shows, Grows, Pushed, IsExtended}
+use Rattle.vl_eval.specs.inner.PlaceBits.{Shows, Grows, Pushed, IsExtended}
 use Rattle.vl_eval.specs.inner.Site.{Built, slot_in, ArePlaced}
 use Rattle.vl_eval.proofs.Words.{shift-gives, shift-reads}
 use Rattle.vl_eval.proofs.Forms.{and-turned, shows-unary-whole, shows-unary-alone, shows-whole, shows-together, shows-alone, shows-choice, shows-as-unsigned, shows-cast, shows-as-signed, shows-name, shows-signed-name, shows-bit, shows-part, shows-literal, shows-shift, Value, still-shows, settled-before}

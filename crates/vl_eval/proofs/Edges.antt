@@ -28,14 +28,14 @@ use Rattle.vl_eval.specs.Machine.{AreFit}
 use Rattle.vl_eval.specs.declared.ops.Op.{Op}
 use Rattle.vl_eval.specs.declared.plan.Capture.{Capture}
 use Rattle.vl_eval.specs.declared.plan.Plan.{Plan}
-use Rattle.vl_eval.specs.inner.Assigning.{next_in, takes_in}
+use Rattle.vl_eval.specs.inner.Assigns.{next_in, takes_in}
 use Rattle.vl_eval.specs.inner.Edges.{IsFree, IsPut, IsTaken}
-use Rattle.vl_eval.specs.inner.Planned.{FixedFit, IsFixed, IsPlan, slot_of_port}
+use Rattle.vl_eval.specs.inner.PlanOperations.{FixedFit, IsFixed, IsPlan, slot_of_port}
 use Rattle.vl_check.specs.Names.{names_of}
 use Rattle.vl_eval.specs.inner.Site.{slot_at, slot_in}
-use Rattle.vl_eval.proofs.Named.{number-is}
-use Rattle.vl_eval.proofs.Given.{filter-has, given-at, given-none}
-use Rattle.vl_eval.proofs.FixedPlaces.{IsInput, IsListed, IsSettledIn, IsStored, Origin, driven-in, fits-known, fixed-slot, input-fixed, input-known, nets-same, no-register, one-slot, origin, place-at, register-fixed, register-known, row-is, settled-all, width-is}
+use Rattle.vl_eval.proofs.ScopeNumbers.{number-is}
+use Rattle.vl_eval.proofs.EdgeBits.{filter-has, given-at, given-none}
+use Rattle.vl_eval.proofs.StablePlaces.{IsInput, IsListed, IsSettledIn, IsStored, Origin, driven-in, fits-known, fixed-slot, input-fixed, input-known, nets-same, no-register, one-slot, origin, place-at, register-fixed, register-known, row-is, settled-all, width-is}
 
 either-fits : (t u : Bool) (a b c n : ℕ) → a < n → b < n → c < n → (if t then a else (if u then b else c)) < n
 either-fits true u a b c n ka kb kc = ka

@@ -22,7 +22,7 @@ use Rattle.vl_ast.specs.Context.{Net, Operand, alone, operand_at, unary_place, b
 use Rattle.vl_ast.specs.Conditions.{is_sound_step, is_narrow, is_number, is_width}
 use Rattle.vl_ast.specs.Nets.{names_read, names_step}
 use Rattle.vl_ast.specs.Value.{Bits, bits_step, is_negative, extended, beside, truth, unary_bits, binary_bits, shift_bits, value_in, bits_in, operand_of}
-use Rattle.vl_eval.specs.inner.Shown.{NamesFit}
+use Rattle.vl_eval.specs.inner.PlaceBits.{NamesFit}
 use Rattle.vl_ast.proofs.Agree.{ByLayer}
 
 pub extended-fits : (b : Bits) (width : ℕ) → b.bits < 2 ^ b.width → b.width ≤ width → extended b width < 2 ^ width

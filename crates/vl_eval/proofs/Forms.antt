@@ -20,10 +20,10 @@ use Rattle.vl_eval.specs.declared.ops.Op.{Op}
 use Rattle.vl_eval.specs.declared.ops.Op.TheVariants.{Constant, One, Choose, Beside}
 use Rattle.vl_eval.specs.declared.ops.OneOp.TheVariants.{Extended, Select}
 use Rattle.vl_eval.specs.inner.Ops.{op_value, IsSettled}
-use Rattle.vl_eval.specs.inner.Built.{unary_op, binary_op}
+use Rattle.vl_eval.specs.inner.OperatorSteps.{unary_op, binary_op}
 use Rattle.std.proofs.lemmas.Nat.Bits.{shr_and_one}
 use Rattle.vl_eval.proofs.Words.{unary-gives, whole-gives, together-gives, alone-gives, extension, as-it-is, select-gives, put-beside}
-use Rattle.vl_eval.specs.inner.Shown.{NamesFit, row_of, Shows}
+use Rattle.vl_eval.specs.inner.PlaceBits.{NamesFit, row_of, Shows}
 use Rattle.vl_eval.proofs.Fits.{sound, left-room, right-room, value-fits, beside-fits}
 
 pub settled-before : (base : ℕ) (ops more : List Op) (values : ℕ → ℕ) → IsSettled base (ops ++ more) values → IsSettled base ops values

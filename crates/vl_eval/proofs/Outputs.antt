@@ -14,18 +14,18 @@ use Rattle.vl_ast.specs.Value.{number_of}
 use Rattle.vl_ast.proofs.Agree.{ByLayer}
 use Rattle.vl_ast.proofs.Facts.{in-port, mention-listed}
 use Rattle.vl_ast.proofs.PortLists.{filter-in, slice-in}
-use Rattle.vl_check.proofs.Scoped.{at-number}
+use Rattle.vl_check.proofs.ScopeNames.{at-number}
 use Rattle.vl_check.specs.declared.scope.Scope.{Scope}
 use Rattle.vl_check.specs.Scope.{IsScopeOf, names_in, nets_in}
 use Rattle.vl_eval.specs.declared.ops.Op.{Op}
 use Rattle.vl_eval.specs.declared.plan.Plan.{Plan}
-use Rattle.vl_eval.specs.inner.Planned.{IsPlan, output_of}
+use Rattle.vl_eval.specs.inner.PlanOperations.{IsPlan, output_of}
 use Rattle.vl_check.specs.Names.{names_of}
 use Rattle.vl_eval.specs.declared.plan.Output.{Output}
 use Rattle.vl_eval.specs.inner.Site.{slot_at, slot_in}
 use Rattle.vl_eval.proofs.Builds.{grows-length}
-use Rattle.vl_eval.proofs.Capturing.{number-of}
-use Rattle.vl_eval.proofs.FixedPlaces.{IsListed, any-port, few, input-known, width-is}
+use Rattle.vl_eval.proofs.Captures.{number-of}
+use Rattle.vl_eval.proofs.StablePlaces.{IsListed, any-port, few, input-known, width-is}
 use Rattle.vl_eval.proofs.Edges.{named-row}
 
 module _ (by_layer : ByLayer) (m : Module) (b : BreaksNone m) (scope : Scope) (s : IsScopeOf m scope) (plan : Plan) (p : IsPlan m scope plan) where

@@ -15,7 +15,7 @@ use Rattle.vl_check.specs.declared.scope.Scope.{Scope}
 use Rattle.vl_check.specs.Scope.{IsScopeOf, nets_in}
 use Rattle.math_list.proofs.Elements.{cons-cases, head-in, none-in, map-in, tail-in}
 use Rattle.vl_ast.proofs.Facts.{Declaration, OfPort, OfWire, OfReg, declaration-by, is-declared, listed-mention, reg-declared, wire-declared}
-use Rattle.vl_ast.proofs.WrittenModule.{unnamed}
+use Rattle.vl_ast.proofs.ModuleTokens.{unnamed}
 
 abbrev fails : List ℕ × Bool → Bool
 fails part = not part.1

@@ -15,7 +15,7 @@ use Rattle.vl_ast.specs.Value.{Bits, extended, truth, unary_bits, binary_bits, s
 use Rattle.vl_eval.specs.declared.ops.Op.TheVariants.{Constant, One}
 use Rattle.vl_eval.specs.declared.ops.OneOp.TheVariants.{Select, Up, SignedDown}
 use Rattle.vl_eval.specs.inner.Ops.{op_value, reads_below}
-use Rattle.vl_eval.specs.inner.Built.{unary_op, binary_op, down, shift_op}
+use Rattle.vl_eval.specs.inner.OperatorSteps.{unary_op, binary_op, down, shift_op}
 use Rattle.vl_eval.proofs.Bias.{double, order-of-words}
 
 pub mod-twice : (n w : ℕ) → w ≤ 128 → n % 2 ^ 128 % 2 ^ w ≡ n % 2 ^ w

@@ -8,7 +8,7 @@ use Rattle.vl_check.specs.Names.{names_of}
 use Rattle.vl_eval.specs.declared.machine.Machine.{Machine}
 use Rattle.vl_eval.specs.declared.machine.Snapshot.{Snapshot}
 use Rattle.vl_eval.specs.inner.Ops.{IsSettled}
-use Rattle.vl_eval.specs.inner.Planned.{IsPlanOf}
+use Rattle.vl_eval.specs.inner.PlanOperations.{IsPlanOf}
 use Rattle.vl_eval.specs.inner.Site.{slot_at}
 
 -- the module that it was made with

@@ -1,11 +1,11 @@
 -- What private contracts cite.
-pub mod Built
-pub mod Ops
-pub mod Steps
-pub mod Shown
+pub mod Assigns
 pub mod Contexts
-pub mod Site
-pub mod Assigning
-pub mod Planned
 pub mod Edges
-pub mod Arranged
+pub mod OperatorSteps
+pub mod Ops
+pub mod Order
+pub mod PlaceBits
+pub mod PlanOperations
+pub mod Site
+pub mod Steps

@@ -1,5 +1,5 @@
 ghost use Rattle.std.specs.Prelude.{◌≡◌, ◌≤◌, ◌++◌, ◌∷◌, []};
-ghost use Rattle.vl_eval.specs.inner.Shown.{IfFine, IsBeside, IsExtended, Pushed};
+ghost use Rattle.vl_eval.specs.inner.PlaceBits.{IfFine, IsBeside, IsExtended, Pushed};
 
 use crate::code::Code;
 use crate::operators::half_of;

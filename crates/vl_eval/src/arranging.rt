@@ -1,5 +1,5 @@
 ghost use Rattle.std.specs.Prelude.{◌≡◌, ◌<◌, ◌≤◌, ◌+◌, ◌*◌, ◌^◌, ℕ, IfOk, OnOk, length, map, slice_index};
-ghost use Rattle.vl_eval.specs.inner.Arranged.{AreEntries, ArePlaces, IsArranged, moved, moved_capture, number_of, op_at, renamed};
+ghost use Rattle.vl_eval.specs.inner.Order.{AreEntries, ArePlaces, IsArranged, moved, moved_capture, number_of, op_at, renamed};
 ghost use Rattle.vl_eval.specs.inner.Ops.{IsOrdered};
 
 use crate::code::Code;

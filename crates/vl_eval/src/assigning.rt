@@ -3,9 +3,9 @@ ghost use Rattle.vl_ast.specs.Conditions.{is_number, is_sound, is_sound_conditio
 ghost use Rattle.vl_ast.specs.Nets.{condition_names, names_read};
 ghost use Rattle.vl_ast.specs.Value.{assigned_number};
 ghost use Rattle.vl_check.specs.Scope.{nets_in};
-ghost use Rattle.vl_eval.specs.inner.Shown.{IfFine};
+ghost use Rattle.vl_eval.specs.inner.PlaceBits.{IfFine};
 ghost use Rattle.vl_eval.specs.inner.Site.{ArePlaced};
-ghost use Rattle.vl_eval.specs.inner.Assigning.{Assigns, Captures, Tests, next_names};
+ghost use Rattle.vl_eval.specs.inner.Assigns.{Assigns, Captures, Tests, next_names};
 
 use crate::adding::{Additions, push};
 use crate::building::build;

@@ -1,5 +1,5 @@
 ghost use Rattle.std.specs.Prelude.{◌<◌, ◌≤◌, ◌+◌, length};
-ghost use Rattle.vl_eval.specs.inner.Arranged.{AreLow, IsAbove, each_of};
+ghost use Rattle.vl_eval.specs.inner.Order.{AreLow, IsAbove, each_of};
 
 use crate::ops::{OneOp, Op, TwoOp};
 

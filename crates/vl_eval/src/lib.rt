@@ -14,10 +14,10 @@
 //! come back to them.
 //!
 //! The definitions: rows and edges stand in `vl_ast`; `specs/` says what row a machine is in
-//! (`Machine`) and which inputs an edge is given (`Given`). `specs/inner` is cited by private contracts
-//! alone: what an operation gives (`Ops`, `Steps`, `Built`), what a place shows of an expression (`Shown`,
-//! `Contexts`, `Site`), of an assignment and a register (`Assigning`), and what a plan is
-//! (`Planned`, `Arranged`, `Edges`).
+//! (`Machine`) and which inputs an edge is given (`EdgeBits`). `specs/inner` is cited by private contracts
+//! alone: what an operation gives (`Ops`, `Steps`, `OperatorSteps`), what a place shows of an expression (`PlaceBits`,
+//! `Contexts`, `Site`), of an assignment and a register (`Assigns`), and what a plan is
+//! (`PlanOperations`, `Order`, `Edges`).
 #![tactic(auto)]
 
 mod adding;

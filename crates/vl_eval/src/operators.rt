@@ -1,7 +1,7 @@
 ghost use Rattle.std.specs.Prelude.{◌≡◌, ◌≤◌, ◌-◌, ◌^◌, true};
 ghost use Rattle.vl_ast.specs.Conditions.{is_number};
 ghost use Rattle.vl_ast.specs.Value.{extended};
-ghost use Rattle.vl_eval.specs.inner.Built.{binary_op, down, shift_op, unary_op};
+ghost use Rattle.vl_eval.specs.inner.OperatorSteps.{binary_op, down, shift_op, unary_op};
 
 use crate::ops::{OneOp, Op, TwoOp};
 use vl_ast::{BinOp, ShiftOp, Sized, UnOp, mask_of};

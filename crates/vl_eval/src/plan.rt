@@ -5,8 +5,8 @@ ghost use Rattle.vl_check.specs.Cause.{IsCause};
 ghost use Rattle.vl_check.specs.Ordering.{IsOrdering};
 ghost use Rattle.vl_check.specs.Scope.{IsScopeOf, names_in};
 ghost use Rattle.vl_eval.specs.Given.{driven_ports};
-ghost use Rattle.vl_eval.specs.inner.Shown.{IfFine};
-ghost use Rattle.vl_eval.specs.inner.Planned.{AreCaptured, AreNumbers, AreOperations, AreWired, IsChecked, IsPlan, IsPlanOf, assignment_at, output_of, slot_of_port, the_assignment};
+ghost use Rattle.vl_eval.specs.inner.PlaceBits.{IfFine};
+ghost use Rattle.vl_eval.specs.inner.PlanOperations.{AreCaptured, AreNumbers, AreOperations, AreWired, IsChecked, IsPlan, IsPlanOf, assignment_at, output_of, slot_of_port, the_assignment};
 
 use crate::adding::Additions;
 use crate::arranging::{Arranged, arrange};

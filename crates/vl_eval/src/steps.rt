@@ -1,7 +1,7 @@
 ghost use Rattle.std.specs.Prelude.{◌≡◌, ◌<◌, ◌^◌, ℕ, List, IsTrue, IfSome};
 ghost use Rattle.vl_eval.specs.declared.ops.Op.{Op};
 ghost use Rattle.vl_eval.specs.declared.ops.Op.TheVariants.{One, Two};
-ghost use Rattle.vl_eval.specs.inner.Arranged.{each_of};
+ghost use Rattle.vl_eval.specs.inner.Order.{each_of};
 ghost use Rattle.vl_eval.specs.inner.Steps.{IsWithin, op_in};
 
 use crate::ops::{OneOp, Op, TwoOp};

@@ -1,6 +1,6 @@
 pub mod Forms
 pub mod Meanings
+pub mod NameReads
 pub mod Products
-pub mod Reading
-pub mod Shallow
 mod Same
+pub mod Shallow

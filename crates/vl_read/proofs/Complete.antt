@@ -9,7 +9,7 @@ use Rattle.vl_read.specs.declared.fault.VlSyntax.TheVariants.{Syntax, OutOfMemor
 use Rattle.vl_read.specs.Prefix.{IsRefused, IfSyntax, IsReadBack}
 use Rattle.vl_read.specs.declared.scan.Mode.TheVariants.{Between}
 use Rattle.vl_read.specs.inner.Plain.{start, parse, reading}
-use Rattle.vl_read.proofs.Lexed.{lays_read, after_none, AreLexemes}
+use Rattle.vl_read.proofs.Lexemes.{lays_read, after_none, AreLexemes}
 use Rattle.vl_read.proofs.SafeTokens.{module_safe}
 use Rattle.vl_read.proofs.Modules.{module_read}
 

@@ -16,11 +16,11 @@ use Rattle.vl_read.specs.inner.Places.Place.{Expression}
 use Rattle.vl_read.specs.declared.places.Draft.{Draft}
 use Rattle.vl_read.specs.inner.Lexemes.{kind_of, dec_of, sized_of}
 use Rattle.vl_read.specs.inner.Plain.{parse, step, innermost, innermost_of, indexed, value_step, frame_step, name_of, attr_step, declared, net_step, compound_step, operand_step, unary_or_left, opened_step, braced_step, left_step, goal_step, spot_step, item_step, step_at}
-use Rattle.vl_read.specs.inner.Going.{parser_at}
+use Rattle.vl_read.specs.inner.LexemeSteps.{parser_at}
 use Rattle.vl_read.proofs.LexemeKinds.{name_kind, based_kind}
 use Rattle.vl_read.proofs.Layers.{by_layers}
 use Rattle.vl_read.proofs.FormTokens.{layer_tokens}
-use Rattle.vl_read.proofs.Written.{WritesEach, Writes, Reads, same_start}
+use Rattle.vl_read.proofs.TokenReader.{WritesEach, Writes, Reads, same_start}
 
 abbrev pub at : Draft → Goal → List Frame → Spot → Parser
 at draft goal frames spot = parser_at draft (Expression goal frames spot)

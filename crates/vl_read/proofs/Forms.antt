@@ -23,7 +23,7 @@ use Rattle.vl_read.specs.declared.places.Draft.{Draft}
 use Rattle.vl_read.specs.inner.Plain.{step, attr_step, declared, net_step, compound_step, operand_step, unary_or_left, opened_step, braced_step, left_step, frame_step, goal_step, spot_step, item_step, step_at}
 use Rattle.vl_read.proofs.Layers.{by_forms}
 use Rattle.vl_read.proofs.Expressions.{at, in_frame, IsRead, opened_read, braced_read}
-use Rattle.vl_read.proofs.Written.{Writes, Reads, writes_as, next, sign, key, name, number, based}
+use Rattle.vl_read.proofs.TokenReader.{Writes, Reads, writes_as, next, sign, key, name, number, based}
 use Rattle.vl_read.proofs.FormTokens.{layer_tokens, unary_tokens, binary_tokens, shift_tokens, choose_tokens, as_signed_tokens, as_unsigned_tokens, repeat_tokens, more_tokens, concat_tokens}
 use Rattle.vl_read.proofs.FormSteps.{index_step, high_step, bit_step, colon_step, low_step, ends_step, operand_name, open_step, brace_step, signed_step, unsigned_step, begins_step, count_step, unary_step, binary_step, shift_step, question_step, amount_step}
 use Rattle.math_list.proofs.Places.{fold-start}

@@ -30,7 +30,7 @@ use Rattle.vl_read.specs.declared.places.HeadSpot.TheVariants.{Event}
 use Rattle.vl_read.specs.inner.Lexemes.{kind_of}
 use Rattle.vl_read.specs.inner.Turns.{feed}
 use Rattle.vl_read.specs.inner.Plain.{after_head, spot_at, expect_spot, attr_step, net_item, declared, net_step, compound_step, operand_step, unary_or_left, opened_step, braced_step, innermost, left_by, left_step, frame_step, goal_step, value_step, name_of, indexed, spot_step, item_step, step_at, step, start}
-use Rattle.vl_read.specs.inner.Going.{goes, expect, on_name, on_number, on_based}
+use Rattle.vl_read.specs.inner.LexemeSteps.{goes, expect, on_name, on_number, on_based}
 use Rattle.vl_ast.specs.Operators.{unary_of, infix_of, shift_of}
 use Rattle.vl_read.proofs.KindSound.{then_some, name_sound}
 

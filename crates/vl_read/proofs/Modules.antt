@@ -14,10 +14,10 @@ use Rattle.vl_read.specs.inner.Places.Place.{Start, Attributes, Title, Ports, Po
 use Rattle.vl_read.specs.declared.places.Draft.{Draft}
 use Rattle.vl_read.specs.inner.Lexemes.{kind_of}
 use Rattle.vl_read.specs.inner.Plain.{step, parse, start, goal_step, declared, item_step, attr_step, net_step, compound_step, operand_step, unary_or_left, opened_step, braced_step, left_step, frame_step, spot_step, step_at}
-use Rattle.vl_read.specs.inner.Going.{parser_at}
-use Rattle.vl_read.proofs.Written.{Writes, Reads, writes_as, next, sign, key, name}
-use Rattle.vl_read.proofs.ReadPorts.{attrs_read, with_port, port_read, ports_read}
-use Rattle.vl_read.proofs.ReadItems.{items_read}
+use Rattle.vl_read.specs.inner.LexemeSteps.{parser_at}
+use Rattle.vl_read.proofs.TokenReader.{Writes, Reads, writes_as, next, sign, key, name}
+use Rattle.vl_read.proofs.PortReader.{attrs_read, with_port, port_read, ports_read}
+use Rattle.vl_read.proofs.ItemReader.{items_read}
 
 module_attrs : (draft : Draft) → draft.attrs ≡ [] → step (parser_at draft Start) (codes "(*") ≡ Some (parser_at draft (Attributes false [] AttrName))
 unfolding step attr_step declared net_step compound_step operand_step unary_or_left opened_step braced_step left_step frame_step goal_step spot_step item_step step_at

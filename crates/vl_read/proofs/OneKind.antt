@@ -9,7 +9,7 @@ use Rattle.vl_names.specs.Identifiers.{is_identifier}
 use Rattle.vl_read.specs.declared.scan.Kind.{Kind}
 use Rattle.vl_read.specs.declared.scan.Kind.TheVariants.{Name, Fixed}
 use Rattle.vl_read.specs.inner.Lexemes.{begins_number, kind_of, kind_by, dec_of, sized_of, sized_in, is_nonempty, number_after, around_quote}
-use Rattle.vl_read.specs.inner.Going.{is_name, count_of, constant_of}
+use Rattle.vl_read.specs.inner.LexemeSteps.{is_name, count_of, constant_of}
 use Rattle.vl_read.proofs.LexemeKinds.{not_letter, dec_kind, based_kind}
 use Rattle.vl_read.proofs.KindSound.{dec_sound, sized_sound}
 use Rattle.vl_read.proofs.ShortNumbers.{digit_range, other_digit}

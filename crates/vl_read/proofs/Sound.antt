@@ -20,11 +20,11 @@ use Rattle.vl_read.specs.inner.Places.Place.{Start, Attributes, Title, Ports, Po
 use Rattle.vl_read.specs.declared.places.Draft.{Draft}
 use Rattle.vl_read.specs.inner.Lexemes.{kind_of}
 use Rattle.vl_read.specs.inner.Plain.{has_none, item_step, step_at, step, module_at, parse, start}
-use Rattle.vl_read.specs.inner.Going.{goes}
-use Rattle.vl_read.proofs.Written.{WritesEach}
+use Rattle.vl_read.specs.inner.LexemeSteps.{goes}
+use Rattle.vl_read.proofs.TokenReader.{WritesEach}
 use Rattle.vl_read.proofs.ModuleTokens.{three_before}
 use Rattle.vl_read.proofs.KindSound.{then_some, IsOfKind, kind_means}
-use Rattle.vl_read.proofs.ConsumedItems.{clocked_tokens, opened_tokens, BeforePorts, AtPort, BodyParts, InBody, ItemAt, module_of, Whole, Has}
+use Rattle.vl_read.proofs.ModuleText.{clocked_tokens, opened_tokens, BeforePorts, AtPort, BodyParts, InBody, ItemAt, module_of, Whole, Has}
 use Rattle.vl_read.proofs.SoundFrames.{same_word, either_way, either_word, nowhere, twice, grow}
 use Rattle.vl_read.proofs.SoundSpots.{on_constant}
 use Rattle.vl_read.proofs.SoundNets.{Onward, onward_to, onward_sign, onward_key, onward_name, on_name_or, grow_port, attr_sound, net_sound}

@@ -26,7 +26,7 @@ use Rattle.vl_read.specs.inner.Places.{Goal, Parser}
 use Rattle.vl_read.specs.declared.places.Draft.{Draft}
 use Rattle.vl_read.specs.inner.Plain.{has_room, compound_step, operand_step, unary_or_left, opened_step, braced_step}
 use Rattle.vl_read.proofs.KindSound.{IsOfKind}
-use Rattle.vl_read.proofs.Consumed.{cast_word, frame_tokens, frames_tokens, frames_push, frames_depth, is_frame_filled, IsGood, Begun}
+use Rattle.vl_read.proofs.ExpressionText.{cast_word, frame_tokens, frames_tokens, frames_push, frames_depth, is_frame_filled, IsGood, Begun}
 use Rattle.vl_read.proofs.SoundFrames.{same_word, either_way, either_word, nowhere, twice, grow, grow_frame, deep_push, filled_push, begin_operand, length_depth, good_layer, layer_text, Goes, goes_to}
 use Rattle.std.proofs.lemmas.Option.{same_Some}
 

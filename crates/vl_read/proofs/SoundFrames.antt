@@ -17,9 +17,9 @@ use Rattle.vl_read.specs.inner.Places.Spot.{Operand, Value}
 use Rattle.vl_read.specs.inner.Places.Place.{Expression}
 use Rattle.vl_read.specs.declared.places.Draft.{Draft}
 use Rattle.vl_read.specs.inner.Plain.{spot_at}
-use Rattle.vl_read.specs.inner.Going.{parser_at}
+use Rattle.vl_read.specs.inner.LexemeSteps.{parser_at}
 use Rattle.math_list.proofs.Tests.{cond_some}
-use Rattle.vl_read.proofs.Consumed.{frame_tokens, frames_tokens, frames_push, frame_depth, frames_depth, depth_push, is_frame_filled, IsGood, Begun}
+use Rattle.vl_read.proofs.ExpressionText.{frame_tokens, frames_tokens, frames_push, frame_depth, frames_depth, depth_push, is_frame_filled, IsGood, Begun}
 
 -- tests of a word
 

@@ -20,9 +20,9 @@ use Rattle.vl_read.specs.declared.places.Draft.{Draft}
 use Rattle.vl_read.specs.declared.places.HeadSpot.{HeadSpot}
 use Rattle.vl_read.specs.declared.places.HeadSpot.TheVariants.{Event, OpenEvent, Posedge, Clock, CloseEvent, Begin, Test, OpenTest, Reset, CloseTest}
 use Rattle.vl_read.specs.inner.Plain.{head_token, head_word, after_head, goal_step, item_step, step_at}
-use Rattle.vl_read.specs.inner.Going.{goes}
+use Rattle.vl_read.specs.inner.LexemeSteps.{goes}
 use Rattle.vl_read.proofs.KindSound.{IsOfKind}
-use Rattle.vl_read.proofs.ConsumedItems.{head_before, clocked_tokens, goal_tokens, IsGoal, ExpressionAt, IsBegunItem, opened_tokens, BodyParts, InBody, InItem, ItemAt, Has}
+use Rattle.vl_read.proofs.ModuleText.{head_before, clocked_tokens, goal_tokens, IsGoal, ExpressionAt, IsBegunItem, opened_tokens, BodyParts, InBody, InItem, ItemAt, Has}
 use Rattle.vl_read.proofs.SoundFrames.{expected, either_word, grow, Goes}
 use Rattle.vl_read.proofs.SoundSpots.{Ended, spot_sound}
 use Rattle.vl_read.proofs.SoundNets.{Onward, onward_to, onward_sign, onward_key, grown_body, grow_body, grow_item, zip_push}

@@ -18,11 +18,11 @@ use Rattle.vl_read.specs.inner.Places.AttrSpot.{AttrName, AttrSign, AttrValue, M
 use Rattle.vl_read.specs.inner.Places.Place.{Start, Attributes, Port as PortPlace, Net, AfterPort, Semicolon}
 use Rattle.vl_read.specs.declared.places.Draft.{Draft}
 use Rattle.vl_read.specs.inner.Plain.{attr_step, net_item, declared, net_step}
-use Rattle.vl_read.specs.inner.Going.{parser_at, goes, is_name}
+use Rattle.vl_read.specs.inner.LexemeSteps.{parser_at, goes, is_name}
 use Rattle.vl_read.proofs.ModuleTokens.{three_before}
 use Rattle.vl_read.proofs.KindSound.{IsOfKind}
-use Rattle.vl_read.proofs.Consumed.{before_next, before_push, joined_push}
-use Rattle.vl_read.proofs.ConsumedItems.{IsAttrText, net_words, IsNetText, opened_tokens, AtPort, InBody, InItem, AroundAttrs, AttrsAt, AroundNet, NetAt, Has}
+use Rattle.vl_read.proofs.ExpressionText.{before_next, before_push, joined_push}
+use Rattle.vl_read.proofs.ModuleText.{IsAttrText, net_words, IsNetText, opened_tokens, AtPort, InBody, InItem, AroundAttrs, AttrsAt, AroundNet, NetAt, Has}
 use Rattle.vl_read.proofs.SoundFrames.{expected, either_word, nowhere, grow}
 use Rattle.vl_read.proofs.SoundSpots.{on_count}
 

@@ -27,9 +27,9 @@ use Rattle.vl_read.specs.inner.Places.{Spot, Goal, Parser, bracket_byte}
 use Rattle.vl_read.specs.inner.Places.Spot.{Operand, Opened, Braced, Begins, Value, Ends, Amount, Index, High, Low}
 use Rattle.vl_read.specs.declared.places.Draft.{Draft}
 use Rattle.vl_read.specs.inner.Plain.{spot_at, innermost, innermost_of, left_by, left_step, frame_step, goal_step, value_step, name_of, indexed, spot_step}
-use Rattle.vl_read.specs.inner.Going.{count_of, constant_of}
+use Rattle.vl_read.specs.inner.LexemeSteps.{count_of, constant_of}
 use Rattle.vl_read.proofs.KindSound.{IsOfKind}
-use Rattle.vl_read.proofs.Consumed.{before_next, before_push, joined_push, frame_tokens, frames_tokens, IsGood, Begun}
+use Rattle.vl_read.proofs.ExpressionText.{before_next, before_push, joined_push, frame_tokens, frames_tokens, IsGood, Begun}
 use Rattle.vl_read.proofs.SoundFrames.{either_word, nowhere, twice, grow, length_depth, Inside, inside, good_layer, layer_text, close, next_part, Goes, goes_to, goes_by}
 use Rattle.vl_read.proofs.SoundExpressions.{infix_sound, shift_sound, ends_operand, operand_sound, opened_sound, braced_sound}
 

@@ -1,7 +1,7 @@
-pub mod Going
+pub mod LexemeSteps
 pub mod Lexemes
+pub mod OperandForms
 pub mod Places
 pub mod Plain
-pub mod Seen
+pub mod ReaderPlaces
 pub mod Turns
-pub mod Wrapped

@@ -6,7 +6,7 @@ ghost use Rattle.vl_read.specs.declared.scan.Kind.TheVariants.{Fixed};
 ghost use Rattle.vl_read.specs.inner.Lexemes.{kind_of};
 ghost use Rattle.vl_read.specs.inner.Places.{Value, High, Amount};
 ghost use Rattle.vl_read.specs.inner.Plain.{expect_spot, left_step, frame_step, goal_step, spot_step, indexed, name_of};
-ghost use Rattle.vl_read.specs.inner.Seen.{goal_of, goal_in, frames_of, next_of, spot_of, spot_seen};
+ghost use Rattle.vl_read.specs.inner.ReaderPlaces.{goal_of, goal_in, frames_of, next_of, spot_of, spot_seen};
 
 use crate::numbers::{constant_of, count_of, kind_of};
 use crate::operands::expected_spot;

@@ -8,7 +8,7 @@
 //!
 //! The definitions: what spells a module stands in `vl_ast`; `specs/Prefix.antt` says which line a fault has.
 //! `specs/inner` has the plain reading, which the code is proved to give: `Lexemes` and `Plain` over `Places`, and
-//! `Seen` says which of its states the reader is in.
+//! `ReaderPlaces` says which of its states the reader is in.
 #![tactic(auto)]
 
 mod fault;

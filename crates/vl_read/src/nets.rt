@@ -4,8 +4,8 @@ ghost use Rattle.vl_read.specs.declared.places.NetSpot.TheVariants.{Signed, Rang
 ghost use Rattle.vl_read.specs.inner.Lexemes.{kind_of};
 ghost use Rattle.vl_read.specs.inner.Places.{More};
 ghost use Rattle.vl_read.specs.inner.Plain.{attr_step, has_none, declared, net_step};
-ghost use Rattle.vl_read.specs.inner.Going.{is_name, goes, on_name};
-ghost use Rattle.vl_read.specs.inner.Seen.{attr_spot_seen, net_seen, next_of, place_seen};
+ghost use Rattle.vl_read.specs.inner.LexemeSteps.{is_name, goes, on_name};
+ghost use Rattle.vl_read.specs.inner.ReaderPlaces.{attr_spot_seen, net_seen, next_of, place_seen};
 
 use crate::numbers::{count_of, is_name};
 use crate::places::{AttrSpot, NetKind, NetSpot, Place, Reader, Stepped};

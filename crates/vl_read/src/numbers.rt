@@ -1,7 +1,7 @@
 ghost use Rattle.std.specs.Prelude.{◌≡◌, ◌≤◌, ◌<◌, [], ◌∷◌, length, IfSome};
 ghost use Rattle.vl_ast.specs.Tokens.{base_of};
 ghost use Rattle.vl_read.specs.inner.Lexemes.{number_after, dec_of, quote_place, sized_by, sized_after, sized_in, sized_of, begins_number, kind_by, kind_of};
-ghost use Rattle.vl_read.specs.inner.Going.{is_name, count_of, constant_of};
+ghost use Rattle.vl_read.specs.inner.LexemeSteps.{is_name, count_of, constant_of};
 
 use crate::scan::Kind;
 use fx_text::{SHORT_DIGITS, read_short};

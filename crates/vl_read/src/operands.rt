@@ -5,8 +5,8 @@ ghost use Rattle.vl_read.specs.declared.places.Draft.{Draft};
 ghost use Rattle.vl_read.specs.declared.places.Held.{Held};
 ghost use Rattle.vl_read.specs.declared.places.Place.TheVariants.{Expression};
 ghost use Rattle.vl_read.specs.inner.Plain.{spot_at, compound_step, operand_step, opened_step, braced_step};
-ghost use Rattle.vl_read.specs.inner.Going.{expect};
-ghost use Rattle.vl_read.specs.inner.Seen.{goal_in, frames_of, next_of, next_seen, place_seen, spot_of};
+ghost use Rattle.vl_read.specs.inner.LexemeSteps.{expect};
+ghost use Rattle.vl_read.specs.inner.ReaderPlaces.{goal_in, frames_of, next_of, next_seen, place_seen, spot_of};
 
 use crate::pieces::{literal, no_operands, whole_name};
 use crate::places::{Bracket, Frame, Place, Reader, Spot, Stepped};

@@ -2,7 +2,7 @@ ghost use Rattle.std.specs.Prelude.{◌≡◌, [], IfOk, MatchOption, Some, None
 ghost use Rattle.vl_ast.specs.declared.expressions.Expr.TheOpen.{Expr-F};
 ghost use Rattle.vl_ast.specs.declared.expressions.Expr.TheViews.{roll-Expr};
 ghost use Rattle.vl_read.specs.inner.Plain.{innermost};
-ghost use Rattle.vl_read.specs.inner.Wrapped.{wrapped_in};
+ghost use Rattle.vl_read.specs.inner.OperandForms.{wrapped_in};
 
 use crate::places::Frame;
 use fx_io::{Boxed, OutOfMemory, Text};

@@ -150,7 +150,7 @@ impl HeadSpot {
     ghost use Rattle.std.specs.Prelude.{◌≡◌};
     ghost use Rattle.vl_read.specs.declared.places.Held.{Held};
     ghost use Rattle.vl_read.specs.inner.Plain.{after_head, head_word};
-    ghost use Rattle.vl_read.specs.inner.Seen.{place_seen};
+    ghost use Rattle.vl_read.specs.inner.ReaderPlaces.{place_seen};
 
     /// The word itself.
     pub fn word(self) -> &'static str

@@ -3,8 +3,8 @@ ghost use Rattle.vl_read.specs.inner.Places.{Items};
 ghost use Rattle.vl_read.specs.declared.places.Draft.{Draft};
 ghost use Rattle.vl_read.specs.declared.places.Held.{Held};
 ghost use Rattle.vl_read.specs.inner.Plain.{start, finish};
-ghost use Rattle.vl_read.specs.inner.Going.{expect};
-ghost use Rattle.vl_read.specs.inner.Seen.{seen, place_seen, next_of, next_seen, nothing};
+ghost use Rattle.vl_read.specs.inner.LexemeSteps.{expect};
+ghost use Rattle.vl_read.specs.inner.ReaderPlaces.{seen, place_seen, next_of, next_seen, nothing};
 
 use crate::places::{Draft, Goal, Held, Place, Reader, Stepped};
 use crate::scan::is;

@@ -3,7 +3,7 @@ ghost use Rattle.vl_ast.specs.Grammar.{Spells, most_items};
 ghost use Rattle.vl_read.specs.inner.Lexemes.{last_lexemes};
 ghost use Rattle.vl_read.specs.inner.Plain.{parse, reading, start};
 ghost use Rattle.vl_read.specs.Prefix.{IsRefused, IsVerilogFaultLine, IfSyntax};
-ghost use Rattle.vl_read.specs.inner.Seen.{seen};
+ghost use Rattle.vl_read.specs.inner.ReaderPlaces.{seen};
 ghost use Rattle.vl_read.specs.inner.Turns.{IsBeyond, IsWithin, ahead, line_at};
 
 use crate::fault::VlSyntax;

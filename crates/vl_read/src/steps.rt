@@ -4,8 +4,8 @@ ghost use Rattle.vl_read.specs.declared.scan.Kind.TheVariants.{Fixed};
 ghost use Rattle.vl_read.specs.inner.Lexemes.{kind_of};
 ghost use Rattle.vl_read.specs.inner.Places.{Items, Start, Port, AfterPort, Title, Branch, First, Expression, Operand, End, Semicolon};
 ghost use Rattle.vl_read.specs.inner.Plain.{step, step_at, again_step, net_item};
-ghost use Rattle.vl_read.specs.inner.Going.{expect};
-ghost use Rattle.vl_read.specs.inner.Seen.{seen, goal_of, next_of};
+ghost use Rattle.vl_read.specs.inner.LexemeSteps.{expect};
+ghost use Rattle.vl_read.specs.inner.ReaderPlaces.{seen, goal_of, next_of};
 ghost use Rattle.vl_read.specs.inner.Turns.{stepped};
 
 use crate::nets::has_none;

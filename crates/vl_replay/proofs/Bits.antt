@@ -18,8 +18,8 @@ use Rattle.vl_eval.specs.Machine.{AreFit}
 use Rattle.vl_replay.specs.declared.drivers.Driver.{Driver}
 use Rattle.vl_replay.specs.declared.drivers.Driver.TheVariants.{Reset, Enable, Column}
 use Rattle.vl_replay.specs.Sampled.{hit_at}
-use Rattle.vl_replay.specs.inner.Driving.{AreBits, driver_bits, driver_of, drivers_from, is_own, own_driver, place_after, reset_bits}
-use Rattle.vl_ast.proofs.Stimulated.{bits-fit}
+use Rattle.vl_replay.specs.inner.Drivers.{AreBits, driver_bits, driver_of, drivers_from, is_own, own_driver, place_after, reset_bits}
+use Rattle.vl_ast.proofs.SomeInputs.{bits-fit}
 
 abbrev pub is_reset : Port → Bool
 is_reset port = bytes_eq port.name (codes "reset")

@@ -10,8 +10,8 @@ use Rattle.vl_ast.specs.Driven.{output_ports, port_number}
 use Rattle.vl_ast.specs.Runs.{Row, Rows}
 use Rattle.vl_replay.specs.declared.samplers.Sampler.{Sampler}
 use Rattle.vl_replay.specs.Sampled.{hit_at}
-use Rattle.vl_replay.specs.inner.Sampling.{ArePut, cell_of, number_at, number_or_zero, sampler_of}
-use Rattle.vl_replay.specs.inner.Played.{HaveCells}
+use Rattle.vl_replay.specs.inner.Samplers.{ArePut, cell_of, number_at, number_or_zero, sampler_of}
+use Rattle.vl_replay.specs.inner.Play.{HaveCells}
 use Rattle.vl_ast.proofs.Ranges.{clocks-some, step-some}
 use Rattle.vl_ast.specs.Attributes.{clocks_of, lateness_of, step_of}
 use Rattle.vl_replay.proofs.Times.{apart, below-of, hit-before, hit-below, next-times, same-told}

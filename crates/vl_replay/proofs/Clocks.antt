@@ -10,9 +10,9 @@ use Rattle.vl_eval.specs.Machine.{IsReady, row_of, source_of}
 use Rattle.vl_eval.specs.declared.machine.Machine.{Machine}
 use Rattle.vl_replay.specs.declared.playing.Score.{Score}
 use Rattle.vl_replay.specs.Sampled.{numbers_of}
-use Rattle.vl_replay.specs.inner.Driving.{AreBits, driver_bits, drivers_from, inputs_of, reset_bits}
-use Rattle.vl_replay.specs.inner.Sampling.{ArePut, number_at}
-use Rattle.vl_replay.specs.inner.Played.{HaveCells, IsPlayed, IsScoreOf}
+use Rattle.vl_replay.specs.inner.Drivers.{AreBits, driver_bits, drivers_from, inputs_of, reset_bits}
+use Rattle.vl_replay.specs.inner.Samplers.{ArePut, number_at}
+use Rattle.vl_replay.specs.inner.Play.{HaveCells, IsPlayed, IsScoreOf}
 use Rattle.vl_replay.proofs.Cells.{cells-more}
 use Rattle.vl_replay.proofs.Rows.{at-place, before-place, steps-more, with_row, zeros}
 use Rattle.vl_replay.proofs.Scores.{bits-of-score, samplers-many}

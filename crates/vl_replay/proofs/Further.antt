@@ -4,7 +4,7 @@ use Rattle.std.proofs.lemmas.Bool.{cases_lt}
 use Rattle.std.proofs.lemmas.Option.{get_or_from_slice_get, slice_get-get_or}
 use Rattle.vl_ast.specs.Attributes.{most_latency}
 use Rattle.vl_replay.specs.declared.samplers.Sampler.{Sampler}
-use Rattle.vl_replay.specs.inner.Played.{AreNear, HasDelay}
+use Rattle.vl_replay.specs.inner.Play.{AreNear, HasDelay}
 
 module _ (items : List Sampler) (i : ℕ) (d : Sampler) where
   abbrev here : Sampler

@@ -17,15 +17,15 @@ use Rattle.vl_ast.specs.Windows.{Each, PortNumbers, Sample, row_at}
 use Rattle.vl_ast.specs.Nets.{Declares, declarations, declared_by, item_mentions, mentions, port_declared}
 use Rattle.vl_ast.specs.Room.{AreSame}
 use Rattle.vl_ast.specs.Runs.{Rows, Runs}
-use Rattle.vl_ast.proofs.Unstalled.{place-clock}
+use Rattle.vl_ast.proofs.FullCounts.{place-clock}
 use Rattle.math_list.proofs.Elements.{cons-cases, flat-in, head-in, map-in, none-in}
-use Rattle.vl_eval.proofs.Given.{filter-has}
+use Rattle.vl_eval.proofs.EdgeBits.{filter-has}
 use Rattle.vl_replay.specs.Sampled.{AreReplayed, Sampled, hit_at, window_of}
 use Rattle.vl_replay.proofs.Cells.{port-at}
 use Rattle.vl_ast.proofs.Ranges.{clocks-some, step-some}
 use Rattle.vl_ast.proofs.PortLists.{filter-in, slice-in}
 use Rattle.vl_replay.proofs.Rows.{zeros}
-use Rattle.vl_replay.proofs.Stimulated.{all-count}
+use Rattle.vl_replay.proofs.StimulusRuns.{all-count}
 use Rattle.vl_replay.proofs.Times.{hit-below, last-is-hit}
 
 pub place-of : (xs : List Port) (x : Port) → Contains xs x → (place : ℕ) × (slice_get xs place ≡ Some x)

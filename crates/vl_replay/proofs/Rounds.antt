@@ -10,7 +10,7 @@ use Rattle.vl_eval.specs.Given.{driven_ports, given}
 use Rattle.vl_eval.specs.Machine.{IsKept, row_of, source_of}
 use Rattle.vl_eval.specs.declared.machine.Machine.{Machine}
 use Rattle.vl_eval.specs.declared.machine.Snapshot.{Snapshot}
-use Rattle.vl_replay.specs.inner.Resting.{IsSince, Leads}
+use Rattle.vl_replay.specs.inner.Rest.{IsSince, Leads}
 
 -- the first rows, and others from a place on
 pub joined : Rows → ℕ → Rows → Rows

@@ -16,9 +16,9 @@ use Rattle.vl_replay.specs.declared.drivers.Driver.{Driver}
 use Rattle.vl_replay.specs.declared.drivers.Driver.TheVariants.{Reset, Enable, Column}
 use Rattle.vl_replay.specs.declared.playing.Score.{Score}
 use Rattle.vl_replay.specs.declared.samplers.Sampler.{Sampler}
-use Rattle.vl_replay.specs.inner.Driving.{AreBits, AreWithin, IsWithin, driver_of, drivers_from, is_own, own_driver, place_after}
-use Rattle.vl_replay.specs.inner.Sampling.{sampler_of}
-use Rattle.vl_replay.specs.inner.Played.{AreNear, IsScoreOf}
+use Rattle.vl_replay.specs.inner.Drivers.{AreBits, AreWithin, IsWithin, driver_of, drivers_from, is_own, own_driver, place_after}
+use Rattle.vl_replay.specs.inner.Samplers.{sampler_of}
+use Rattle.vl_replay.specs.inner.Play.{AreNear, IsScoreOf}
 use Rattle.vl_replay.proofs.Bits.{bits-are, fit-from, is_driven, is_reset, not-stimulus, stimulus-of}
 use Rattle.vl_ast.proofs.Ranges.{late-few, step-some}
 use Rattle.vl_ast.specs.Attributes.{clocks_of, lateness_of, most_latency, step_of}

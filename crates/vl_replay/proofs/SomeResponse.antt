@@ -18,16 +18,16 @@ use Rattle.vl_ast.proofs.PortLists.{ApartAt, filter-in, filtered-apart, ports-ap
 use Rattle.vl_ast.proofs.Ranges.{late-few}
 use Rattle.vl_eval.specs.Given.{driven_ports, given}
 use Rattle.vl_eval.specs.Machine.{AreFit}
-use Rattle.vl_eval.proofs.Given.{filter-has, given-at, given-none}
+use Rattle.vl_eval.proofs.EdgeBits.{filter-has, given-at, given-none}
 use Rattle.vl_eval.proofs.Sounds.{port-narrow}
 use Rattle.vl_replay.specs.declared.drivers.Driver.{Driver}
 use Rattle.vl_replay.specs.Sampled.{HasTable, hit_at, window_of}
-use Rattle.vl_replay.specs.inner.Driving.{driver_bits, driver_of, drivers_from, inputs_of, reset_bits}
+use Rattle.vl_replay.specs.inner.Drivers.{driver_bits, driver_of, drivers_from, inputs_of, reset_bits}
 use Rattle.vl_replay.proofs.Bits.{driver-fits, fit-from, is_driven, reset-fits}
 use Rattle.math_list.proofs.Places.{there_within, there_map}
 use Rattle.vl_replay.proofs.OneResponse.{place-of}
 use Rattle.vl_replay.proofs.Rows.{zeros}
-use Rattle.vl_replay.proofs.Stimulated.{replayed}
+use Rattle.vl_replay.proofs.StimulusRuns.{replayed}
 use Rattle.vl_replay.proofs.Times.{hit-below}
 
 module _ (some : (m : Module) (count : ℕ) (start : List ℕ → ℕ) (inputs : ℕ → List ℕ → ℕ) → BreaksNone m → HasRoom m count start inputs → HasRows m count start inputs)

@@ -6,7 +6,7 @@ use Rattle.vl_ast.specs.declared.modules.Module.{Module}
 use Rattle.vl_ast.specs.Windows.{Sample}
 use Rattle.vl_eval.specs.Machine.{source_of}
 use Rattle.vl_replay.specs.declared.replay.Replay.{Replay}
-use Rattle.vl_replay.specs.inner.Played.{IsPlayed}
+use Rattle.vl_replay.specs.inner.Play.{IsPlayed}
 
 -- the module of its machine
 abbrev pub module_of : Replay → Module

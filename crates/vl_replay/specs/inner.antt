@@ -1,6 +1,6 @@
 -- What private contracts cite.
-pub mod Beginning
-pub mod Driving
-pub mod Played
-pub mod Resting
-pub mod Sampling
+pub mod Drivers
+pub mod Play
+pub mod Rest
+pub mod Samplers
+pub mod Start

@@ -4,7 +4,7 @@ ghost use Rattle.vl_ast.specs.Control.{is_stallable};
 ghost use Rattle.vl_ast.specs.Value.{bits_of};
 ghost use Rattle.vl_eval.specs.Given.{driven_ports};
 ghost use Rattle.vl_replay.specs.Sampled.{numbers_of};
-ghost use Rattle.vl_replay.specs.inner.Driving.{AreBits, AreWithin, IsWithin, driver_bits, drivers_from, is_own, own_driver, reset_bits};
+ghost use Rattle.vl_replay.specs.inner.Drivers.{AreBits, AreWithin, IsWithin, driver_bits, drivers_from, is_own, own_driver, reset_bits};
 
 use crate::samplers::hit_at;
 use fx_io::OutOfMemory;

@@ -4,8 +4,8 @@ ghost use Rattle.vl_ast.specs.Conditions.{BreaksNone};
 ghost use Rattle.vl_ast.specs.Driven.{stimulus_ports};
 ghost use Rattle.vl_eval.specs.Machine.{source_of};
 ghost use Rattle.vl_replay.specs.Sampled.{numbers_of};
-ghost use Rattle.vl_replay.specs.inner.Driving.{AreBits, driver_bits};
-ghost use Rattle.vl_replay.specs.inner.Played.{AreNear, CanPlay, IsDelay, IsPlayed, IsScoreOf, IsWindow};
+ghost use Rattle.vl_replay.specs.inner.Drivers.{AreBits, driver_bits};
+ghost use Rattle.vl_replay.specs.inner.Play.{AreNear, CanPlay, IsDelay, IsPlayed, IsScoreOf, IsWindow};
 
 use crate::drivers::{Driver, drivers_of, put_bits, put_reset};
 use crate::samplers::{Sampler, put_numbers, samplers_of};

@@ -4,7 +4,7 @@ ghost use Rattle.vl_ast.specs.Conditions.{BreaksNone, is_width};
 ghost use Rattle.vl_ast.specs.Driven.{output_ports, stimulus_ports};
 ghost use Rattle.vl_eval.specs.Machine.{source_of};
 ghost use Rattle.vl_replay.specs.Columns.{column_of, columns_of};
-ghost use Rattle.vl_replay.specs.inner.Sampling.{carries};
+ghost use Rattle.vl_replay.specs.inner.Samplers.{carries};
 
 use fx_io::{OutOfMemory, Sequence};
 use fx_tables::{Column, Columns};

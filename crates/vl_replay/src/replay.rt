@@ -30,7 +30,7 @@ pub struct Replay {
 
 impl Replay {
     ghost use Rattle.vl_replay.specs.Replays.{StandsBefore, module_of, stimulus_of};
-    ghost use Rattle.vl_replay.specs.inner.Beginning.{CanBegin};
+    ghost use Rattle.vl_replay.specs.inner.Start.{CanBegin};
 
     /// Takes all memory of a replay, and passes the clocks before the first that sample 0 waits for.
     /// The machine is in row 0, as `Machine::new` leaves it, and the stimulus has the columns of its

@@ -5,8 +5,8 @@ ghost use Rattle.vl_eval.specs.Given.{driven_ports, given};
 ghost use Rattle.vl_eval.specs.Machine.{AreFit, HasRoom, IsReady, row_of, source_of};
 ghost use Rattle.vl_replay.specs.declared.drivers.Driver.{Driver};
 ghost use Rattle.vl_replay.specs.declared.samplers.Sampler.{Sampler};
-ghost use Rattle.vl_replay.specs.inner.Played.{CanPlay, IsPlayed};
-ghost use Rattle.vl_replay.specs.inner.Resting.{IsPast, IsQuiet, Leads};
+ghost use Rattle.vl_replay.specs.inner.Play.{CanPlay, IsPlayed};
+ghost use Rattle.vl_replay.specs.inner.Rest.{IsPast, IsQuiet, Leads};
 
 use crate::drivers::{Driver, put_bits};
 use crate::playing::{Score, play};

@@ -1,7 +1,7 @@
 ghost use Rattle.std.specs.Prelude.{◌≡◌, ◌≤◌, ◌<◌, ◌+◌, ◌*◌, ◌%◌, ◌^◌, IfOk, length, map, slice_set};
 ghost use Rattle.vl_ast.specs.Driven.{output_ports};
 ghost use Rattle.vl_replay.specs.Sampled.{hit_at};
-ghost use Rattle.vl_replay.specs.inner.Sampling.{ArePut, HasRing, cell_of, number_due, numbers_in, sampler_of};
+ghost use Rattle.vl_replay.specs.inner.Samplers.{ArePut, HasRing, cell_of, number_due, numbers_in, sampler_of};
 
 use fx_io::OutOfMemory;
 use std::alloc::Global;

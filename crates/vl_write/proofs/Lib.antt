@@ -1,4 +1,4 @@
-pub mod Joined
+pub mod FormTexts
+pub mod Joins
 pub mod PieceLines
-pub mod Putting
-pub mod Written
+pub mod Puts

@@ -4,7 +4,7 @@ use Rattle.dg_model.specs.declared.nested.NestedBlock.{NestedBlock}
 use Rattle.dg_flat.specs.declared.systems.Systems.{Systems}
 use Rattle.dg_flat.specs.declared.numbering.Side.TheVariants.{In, Out}
 use Rattle.dg_flat.specs.Parts.{enable_port, control_of}
-use Rattle.dg_flat.specs.inner.Numbering.{IsNumbering}
+use Rattle.dg_flat.specs.inner.PortNumbers.{IsNumbering}
 use Rattle.dg_flat.specs.inner.Slots.{system_of}
 use Rattle.dg_flat.specs.inner.Tables.{IsTable}
 

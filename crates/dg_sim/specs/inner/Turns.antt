@@ -13,7 +13,7 @@ use Rattle.dg_tables.specs.declared.reading.Starts.{Starts}
 use Rattle.dg_sim.specs.declared.program.Program.{Program}
 use Rattle.dg_sim.specs.declared.program.Rule.{Rule}
 use Rattle.dg_sim.specs.declared.turn.Turn.{Turn}
-use Rattle.dg_sim.specs.inner.Building.{IsMade}
+use Rattle.dg_sim.specs.inner.ProgramSteps.{IsMade}
 
 -- a rule is to be made for the entry that stands at k
 pub record IsTurn (checked : CheckedDiagram) (starts : Starts) (places : List Place) (k : ℕ)

@@ -3,11 +3,11 @@ use Rattle.std.specs.Prelude.{◌≡◌, ℕ, ◌⊎◌, ◌<◌, ◌≤◌, ◌
 use Rattle.dg_model.specs.declared.diagram.Block.{Block}
 use Rattle.dg_model.specs.declared.diagram.Edge.{Edge}
 use Rattle.dg_types.specs.declared.linked.Form.{Form}
-use Rattle.dg_types.specs.inner.Linked.{is_shared_out}
+use Rattle.dg_types.specs.inner.Widths.{is_shared_out}
 use Rattle.dg_model.specs.KindRow.{IsBetween, Only, Shape}
 use Rattle.dg_model.specs.Limits.{widest_signal, longest_list}
 use Rattle.dg_model.specs.Widths.{list_length}
-use Rattle.dg_types.specs.inner.Shown.{form_of, shape_of, source_of}
+use Rattle.dg_types.specs.inner.WidthShapes.{form_of, shape_of, source_of}
 use Rattle.dg_waves.specs.inner.Waves.{is_in}
 
 abbrev pub all_forms : List Block → List Form

@@ -8,7 +8,7 @@ use Rattle.dg_model.specs.KindRow.{Shape}
 use Rattle.dg_model.specs.Library.{row_of}
 use Rattle.dg_model.specs.Limits.{widest_signal}
 use Rattle.dg_model.specs.Widths.{are_open}
-use Rattle.dg_types.specs.inner.Shown.{shape_of, declared_width}
+use Rattle.dg_types.specs.inner.WidthShapes.{shape_of, declared_width}
 
 -- a width or a length of 1 is repeated
 abbrev pub is_repeated : ℕ → ℕ → Bool

@@ -1,6 +1,6 @@
 use Rattle.std.proofs.Common.{◌≡◌, ⊎_elim, inl, inr, sym, ◌∙◌, arith}
 use Rattle.std.proofs.lemmas.Bool.{cases_eq}
-use Rattle.fx_prog.proofs.Ended.{begun}
+use Rattle.fx_prog.proofs.ProgramEnd.{begun}
 use Rattle.fx_prog.proofs.answer.Goals as goal
 
 pub returns-clause-done : goal.returns-clause-done

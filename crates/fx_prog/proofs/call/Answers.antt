@@ -3,7 +3,7 @@ use Rattle.std.specs.Prelude.{IfOk, String, is_err}
 use Rattle.std.specs.Global.{Global}
 use Rattle.std.specs.Process.{exit_status}
 use Rattle.fx_top.specs.Call.{files_in}
-use Rattle.fx_prog.proofs.Ended.{called, has-words, wanted}
+use Rattle.fx_prog.proofs.ProgramEnd.{called, has-words, wanted}
 use Rattle.fx_prog.specs.Program.{IsDone}
 use Rattle.fx_prog.proofs.call.Goals as goal
 use Rattle.fx_prog.proofs.call.Goals.{in-Ok, in-Err}

@@ -15,7 +15,7 @@ use Rattle.cmd_generate.specs.Generated.{IsVerilogOf}
 use Rattle.cmd_replay.specs.Replayed.{IsReplayOf}
 use Rattle.fx_top.specs.Simulated.{IsSimulationOf}
 use Rattle.cmd_generate.specs.Streamed.{IsStreamedOf}
-use Rattle.fx_top.specs.inner.Refusing.{IsDesignFault, IsModelFault, IsReplayFault, IsSimulationFault, IsStreamFault}
+use Rattle.fx_top.specs.inner.Refusals.{IsDesignFault, IsModelFault, IsReplayFault, IsSimulationFault, IsStreamFault}
 use Rattle.hw_explore.specs.Range.{IsRange}
 
 -- its command

@@ -27,7 +27,7 @@ use Rattle.hw_sched.specs.Slots.{Timing as Times, Operation as Shared, slot_of, 
 use Rattle.hw_share.specs.declared.operation.Operation.{Operation}
 use Rattle.hw_build.specs.declared.design.Design.{Design}
 use Rattle.hw_build.specs.declared.operands.Operands.{Operands}
-use Rattle.hw_build.specs.inner.Designed.{times_for}
+use Rattle.hw_build.specs.inner.DesignTimes.{times_for}
 use Rattle.hw_build.specs.inner.Operands.{offered_at}
 use Rattle.hw_build.specs.inner.ResultNets.{first_operation}
 

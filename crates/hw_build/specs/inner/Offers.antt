@@ -16,7 +16,7 @@ use Rattle.hw_build.specs.declared.blocks.Setting.{Setting}
 use Rattle.hw_build.specs.inner.Entries.{AreOffered}
 use Rattle.hw_build.specs.declared.offers.Element.{Element}
 use Rattle.hw_build.specs.inner.HubPlaces.{is_input_role}
-use Rattle.hw_build.specs.inner.Looping.{Fits, diagram_of}
+use Rattle.hw_build.specs.inner.ElementLoop.{Fits, diagram_of}
 use Rattle.hw_build.specs.Places.{Places}
 
 -- the block is there

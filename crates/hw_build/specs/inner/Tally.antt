@@ -20,9 +20,9 @@ use Rattle.hw_build.specs.Multiplied.{multiplication_name, IsMultiplied}
 use Rattle.hw_build.specs.Pipelined.{stage_name}
 use Rattle.hw_build.specs.Serving.{multipliers, others}
 use Rattle.hw_build.specs.inner.HubPlaces.{before, hub_at, owner_of}
-use Rattle.hw_build.specs.inner.Piping.{own_frame, stage_net, wire_of}
+use Rattle.hw_build.specs.inner.PipelineNets.{own_frame, stage_net, wire_of}
 use Rattle.hw_build.specs.inner.Unread.{AreReadInTurn}
-use Rattle.hw_build.specs.inner.Spotted.{Spots}
+use Rattle.hw_build.specs.inner.Spots.{Spots}
 
 -- all nets read nets that are there
 pub record ReadThere (nets : List Net) : Type 0 where

@@ -8,7 +8,7 @@ use Rattle.hw_net.specs.Netlist.{reads}
 use Rattle.hw_net.specs.Products.{net_at}
 use Rattle.hw_refine.specs.Redirects.{redirected}
 use Rattle.hw_renumber.specs.Renumbered.{place_in}
-use Rattle.hw_fold.specs.inner.Pinned.{is_marked}
+use Rattle.hw_fold.specs.inner.Pins.{is_marked}
 
 -- the nets, which of them stand for no other, what stands for each, and which are done
 pub record Fold : Type 0 where

@@ -17,7 +17,7 @@ use Rattle.hw_lower.specs.declared.plan.Word.{Word}
 use Rattle.hw_lower.specs.declared.plan.Step.{Step}
 use Rattle.hw_lower.specs.declared.plan.Operand.{Operand}
 use Rattle.hw_lower.specs.declared.plan.Plan.{Plan}
-use Rattle.hw_lower.specs.inner.Planned.{Numbers, Adds, IsAt, IsPlain, Gives, IsChosen, word_of, step_of}
+use Rattle.hw_lower.specs.inner.PlanSteps.{Numbers, Adds, IsAt, IsPlain, Gives, IsChosen, word_of, step_of}
 
 -- argument k of an operation, as a step of its plan
 abbrev pub argument_of : List FxType → ℕ → Operand

@@ -9,7 +9,7 @@ use Rattle.mdl_build.specs.Nested.{IsDrawnAt}
 use Rattle.mdl_build.specs.Roles.{role_of, is_block, blocks_of}
 use Rattle.mdl_build.specs.Rules.{type_at}
 use Rattle.mdl_build.specs.Sections.{value_of}
-use Rattle.mdl_build.specs.inner.Known.{IsKnown, AreEnabled, AreNumbers}
+use Rattle.mdl_build.specs.inner.ItemFacts.{IsKnown, AreEnabled, AreNumbers}
 use Rattle.mdl_build.specs.inner.Texts.{contents_of, fallbacks_of}
 
 -- the items

@@ -6,7 +6,7 @@ use Rattle.vl_ast.specs.Conditions.{may_drive_it, mentioned, needs_driver}
 use Rattle.vl_check.specs.declared.mentions.Declared.{Declared as DeclaredHere}
 use Rattle.vl_check.specs.declared.mentions.Mention.{Mention as MentionHere}
 use Rattle.vl_check.specs.declared.mentions.Mention.TheVariants.{Declares as DeclaresHere, Drives as DrivesHere, Reads as ReadsHere, Clocks as ClocksHere}
-use Rattle.vl_check.specs.inner.Mentioned.{declared_of, shown}
+use Rattle.vl_check.specs.inner.Mentions.{declared_of, shown}
 
 -- a number for each name, below a count, and the same for the same names alone
 pub record AreNumbers (names : List (List ℕ)) (numbers : List ℕ) (count : ℕ) : Type 0 where

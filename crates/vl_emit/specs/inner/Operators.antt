@@ -17,7 +17,7 @@ use Rattle.hw_net.specs.declared.netlist.NetOp.TheVariants.{ShiftDown, Add, Subt
 use Rattle.hw_net.specs.declared.netlist.NetOp.TheVariants.{Multiply, And, Or, Xor, Not, Less}
 use Rattle.hw_net.specs.declared.netlist.NetOp.TheVariants.{Equal, Choose, Slice}
 use Rattle.vl_emit.specs.Names.{Wire}
-use Rattle.vl_emit.specs.inner.Spelled.{zeros, piece, at_width}
+use Rattle.vl_emit.specs.inner.Pieces.{zeros, piece, at_width}
 
 -- one bit at a width
 abbrev pub widened : ℕ → Expr → Expr

@@ -27,8 +27,8 @@ use Rattle.vl_ast.specs.Listing.{Lists}
 use Rattle.vl_emit.specs.Header.{input_port, output_port}
 use Rattle.vl_emit.specs.Names.{Wire, port_at, net_name, name_by, net_wire, input_wire}
 use Rattle.hw_net.specs.Products.{net_at, places}
-use Rattle.vl_emit.specs.inner.Emitted.{naming_of, counter_wire, slot_test, live_test, declarers_at}
-use Rattle.vl_emit.specs.inner.Emitted.{drivers_at, units_at, others_at, output_item}
+use Rattle.vl_emit.specs.inner.NetItems.{naming_of, counter_wire, slot_test, live_test, declarers_at}
+use Rattle.vl_emit.specs.inner.NetItems.{drivers_at, units_at, others_at, output_item}
 use Rattle.vl_emit.specs.inner.Operators.{test_of}
 use Rattle.vl_emit.specs.inner.Spoken.{IsWithin}
 

@@ -15,7 +15,7 @@ use Rattle.hw_net.specs.declared.netlist.NetKind.{NetKind}
 use Rattle.hw_net.specs.declared.netlist.NetKind.TheVariants.{Comb, Reg, EnReg, Bridge, Unit}
 use Rattle.hw_net.specs.declared.netlist.NetKind.TheVariants.{Counter}
 use Rattle.hw_net.specs.Operation.{arity}
-use Rattle.vl_emit.specs.inner.Emitted.{Naming, drivers, module_items}
+use Rattle.vl_emit.specs.inner.NetItems.{Naming, drivers, module_items}
 use Rattle.vl_emit.specs.Names.{Wire}
 use Rattle.vl_emit.specs.inner.Spoken.{IsWithin}
 

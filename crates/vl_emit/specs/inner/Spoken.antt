@@ -15,7 +15,7 @@ use Rattle.vl_emit.specs.declared.operands.Called.TheVariants.{Number, Named}
 use Rattle.vl_emit.specs.declared.operands.Operand.{Operand}
 use Rattle.vl_emit.specs.Names.{net_name}
 use Rattle.vl_emit.specs.inner.Operators.{expression_of, product, test_of}
-use Rattle.vl_emit.specs.inner.Spelled.{at_width}
+use Rattle.vl_emit.specs.inner.Pieces.{at_width}
 use Rattle.vl_emit.specs.Names.{Wire}
 
 -- the name that is meant

@@ -12,7 +12,7 @@ use Rattle.vl_eval.specs.declared.adding.Additions.{Additions}
 use Rattle.vl_eval.specs.declared.ops.Op.{Op}
 use Rattle.vl_eval.specs.declared.site.Alone.{Alone}
 use Rattle.vl_eval.specs.declared.site.Site.{Site}
-use Rattle.vl_eval.specs.inner.Shown.{Grows, IfFine, Shows}
+use Rattle.vl_eval.specs.inner.PlaceBits.{Grows, IfFine, Shows}
 
 -- the place of a name
 abbrev pub slot_at : List ℕ → Option ℕ → ℕ

@@ -32,7 +32,7 @@ use Rattle.vl_read.specs.inner.Places.AttrSpot.{AttrName, AttrSign, AttrValue, M
 use Rattle.vl_read.specs.inner.Places.Place.{Start, Attributes, Title, Ports, Port as PortPlace, Net, AfterPort, AfterPorts, Items, AssignName, AssignSign, Head, ClockedName, ClockedSign, First, AfterFirst, Else, Branch, If, Again, NextSign, Expression, Semicolon, End, Done}
 use Rattle.vl_read.specs.declared.places.Draft.{Draft}
 use Rattle.vl_read.specs.declared.scan.Mode.TheVariants.{Between}
-use Rattle.vl_read.specs.inner.Going.{parser_at, goes, expect, on_name, on_number, on_based}
+use Rattle.vl_read.specs.inner.LexemeSteps.{parser_at, goes, expect, on_name, on_number, on_based}
 use Rattle.vl_read.specs.inner.Lexemes.{kind_of, lexemes_from}
 
 -- the next lexeme in a list of attributes

@@ -1,7 +1,7 @@
 use Rattle.std.proofs.Common.{◌≡◌, ℕ, List, length, ap, arith}
 use Rattle.std.proofs.lemmas.Result.{IfOk-weaker}
 use Rattle.hw_rules.specs.Times.{timing_in}
-use Rattle.cmd_check.proofs.Shown.{shown_at}
+use Rattle.cmd_check.proofs.FirstNumbers.{shown_at}
 use Rattle.cmd_check.proofs.gathering.clocks_of.Goals as goal
 
 pub bounds-as_slice-block : goal.bounds-as_slice-block

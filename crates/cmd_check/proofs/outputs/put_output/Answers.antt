@@ -1,10 +1,10 @@
 use Rattle.std.proofs.Common.{◌++◌, ◌<◌, ℕ, List, All, codes, drop, length, ap, sym, subst}
 use Rattle.hw_rules.specs.Times.{timing_in}
-use Rattle.fx_io.proofs.Taken.{rest-whole}
+use Rattle.fx_io.proofs.SinkBytes.{rest-whole}
 use Rattle.cmd_check.specs.CheckText.{head_text, steps_text}
-use Rattle.cmd_check.proofs.Handing.{adds_as, both}
-use Rattle.cmd_check.proofs.Listing.{one_output, output_is}
-use Rattle.cmd_check.proofs.Spelling.{head_is}
+use Rattle.cmd_check.proofs.PieceBytes.{adds_as, both}
+use Rattle.cmd_check.proofs.OutputLines.{one_output, output_is}
+use Rattle.cmd_check.proofs.PieceTexts.{head_is}
 use Rattle.cmd_check.proofs.outputs.put_output.Goals as goal
 
 pub returns-clause-puts : goal.returns-clause-puts

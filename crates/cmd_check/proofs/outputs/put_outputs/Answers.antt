@@ -2,8 +2,8 @@ use Rattle.std.proofs.Common.{◌≡◌, ℕ, List, length, get_or, refl, ap, su
 use Rattle.std.proofs.lemmas.List.{get_or-map, length-map}
 use Rattle.hw_rules.specs.Times.{timing_in}
 use Rattle.cmd_check.specs.Gathered.{clocks_at}
-use Rattle.cmd_check.specs.inner.Listed.{PutsOutputs}
-use Rattle.cmd_check.proofs.Listing.{puts_more, puts_none}
+use Rattle.cmd_check.specs.inner.OutputLines.{PutsOutputs}
+use Rattle.cmd_check.proofs.OutputLines.{puts_more, puts_none}
 use Rattle.cmd_check.proofs.outputs.put_outputs.Goals as goal
 
 pub loop-place-init : goal.loop-place-init

@@ -1,6 +1,6 @@
 use Rattle.std.proofs.Common.{◌≡◌, length}
 use Rattle.hw_rules.specs.Times.{timing_in}
-use Rattle.cmd_check.specs.inner.Listed.{PutsOutputs}
+use Rattle.cmd_check.specs.inner.OutputLines.{PutsOutputs}
 use Rattle.cmd_check.proofs.outputs.put_outputs.Given as goal
 
 abbrev pub invariant-loop-place : goal.invariant-loop-place

@@ -1,7 +1,7 @@
 use Rattle.cmd_check.specs.CheckText.{step_text}
-use Rattle.cmd_check.proofs.Handing.{adds_as, both}
-use Rattle.cmd_check.proofs.Listing.{next_of}
-use Rattle.cmd_check.proofs.Spelling.{step_is}
+use Rattle.cmd_check.proofs.PieceBytes.{adds_as, both}
+use Rattle.cmd_check.proofs.OutputLines.{next_of}
+use Rattle.cmd_check.proofs.PieceTexts.{step_is}
 use Rattle.cmd_check.proofs.outputs.put_steps.Goals as goal
 
 pub loop-block-preserved : goal.loop-block-preserved

@@ -2,8 +2,8 @@ use Rattle.std.proofs.Common.{◌-◌, ℕ, List, None, Some, Option, length, dr
 use Rattle.std.specs.Prelude.{slice_index_or}
 use Rattle.std.proofs.lemmas.List.{length-set}
 use Rattle.cmd_check.specs.inner.Way.{Follows}
-use Rattle.cmd_check.proofs.Followed.{block_inside, follow_begins, follow_ends, follow_more, follow_room, follow_there, tight_at, tight_inside}
-use Rattle.cmd_check.proofs.Handing.{none_of}
+use Rattle.cmd_check.proofs.WayBack.{block_inside, follow_begins, follow_ends, follow_more, follow_room, follow_there, tight_at, tight_inside}
+use Rattle.cmd_check.proofs.PieceBytes.{none_of}
 use Rattle.cmd_check.proofs.Rooms.{before_set, last_set}
 use Rattle.cmd_check.proofs.paths.path_to.Goals as goal
 

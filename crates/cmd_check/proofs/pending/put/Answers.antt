@@ -1,7 +1,7 @@
 use Rattle.std.proofs.Common.{ℕ, subst}
 use Rattle.arrayvec.specs.ArrayVec.{ArrayVec}
 use Rattle.cmd_check.specs.Handed.{Adds}
-use Rattle.cmd_check.proofs.Handing.{none_of, passed_over, waits_more}
+use Rattle.cmd_check.proofs.PieceBytes.{none_of, passed_over, waits_more}
 use Rattle.cmd_check.proofs.pending.put.Goals as goal
 
 pub returns-in-Some : goal.returns-in-Some

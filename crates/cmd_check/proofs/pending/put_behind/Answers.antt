@@ -1,6 +1,6 @@
 use Rattle.std.proofs.Common.{◌≡◌, ◌∙◌, ◌++◌, [], List, Some, ℕ, ap, refl}
 use Rattle.arrayvec.specs.ArrayVec.{ArrayVec}
-use Rattle.cmd_check.proofs.Handing.{all_put, both, none_of, part_put, passed_over, waits_more}
+use Rattle.cmd_check.proofs.PieceBytes.{all_put, both, none_of, part_put, passed_over, waits_more}
 use Rattle.cmd_check.proofs.pending.put_behind.Goals as goal
 
 pub returns-in-Some : goal.returns-in-Some

@@ -1,4 +1,4 @@
-use Rattle.cmd_check.proofs.Handing.{ended, ended_short}
+use Rattle.cmd_check.proofs.PieceBytes.{ended, ended_short}
 use Rattle.cmd_check.proofs.pending.put_last.Goals as goal
 
 pub returns-in-None : goal.returns-in-None

@@ -1,6 +1,6 @@
 use Rattle.std.proofs.Common.{[], Some, refl, append-nil, subst, List, ℕ}
 use Rattle.fx_io.specs.Sink.{TookProperPrefix}
-use Rattle.cmd_check.proofs.Handing.{part_put}
+use Rattle.cmd_check.proofs.PieceBytes.{part_put}
 use Rattle.cmd_check.proofs.pending.put_waiting.Goals as goal
 
 pub returns-in-Err-clause-adds : goal.returns-in-Err-clause-adds

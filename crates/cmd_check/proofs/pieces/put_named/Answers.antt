@@ -1,6 +1,6 @@
 use Rattle.std.proofs.Common.{◌∙◌}
-use Rattle.cmd_check.proofs.Handing.{adds_as, both}
-use Rattle.cmd_check.proofs.Spelling.{named_is}
+use Rattle.cmd_check.proofs.PieceBytes.{adds_as, both}
+use Rattle.cmd_check.proofs.PieceTexts.{named_is}
 use Rattle.cmd_check.proofs.pieces.put_named.Goals as goal
 
 pub returns : goal.returns

@@ -1,8 +1,8 @@
 use Rattle.std.proofs.Common.{◌∙◌, ap, w16}
 use Rattle.std.specs.Fmt.{signed_decimal}
 use Rattle.std.proofs.lemmas.Int.{to_z-of_z}
-use Rattle.cmd_check.proofs.Handing.{adds_as, both}
-use Rattle.cmd_check.proofs.Spelling.{num_is}
+use Rattle.cmd_check.proofs.PieceBytes.{adds_as, both}
+use Rattle.cmd_check.proofs.PieceTexts.{num_is}
 use Rattle.cmd_check.proofs.pieces.put_num.Goals as goal
 
 pub returns : goal.returns

@@ -1,5 +1,5 @@
-use Rattle.cmd_check.proofs.Handing.{adds_as}
-use Rattle.cmd_check.proofs.Spelling.{no_period, some_period}
+use Rattle.cmd_check.proofs.PieceBytes.{adds_as}
+use Rattle.cmd_check.proofs.PieceTexts.{no_period, some_period}
 use Rattle.cmd_check.proofs.pieces.put_period.Goals as goal
 
 pub returns-in-Some : goal.returns-in-Some

@@ -1,8 +1,8 @@
 use Rattle.std.proofs.Common.{ap, ◌∙◌}
 use Rattle.std.specs.Option.{option_copied}
 use Rattle.dg_model.specs.Joined.{joined}
-use Rattle.cmd_check.proofs.Handing.{adds_as, both}
-use Rattle.cmd_check.proofs.Spelling.{quoted_within}
+use Rattle.cmd_check.proofs.PieceBytes.{adds_as, both}
+use Rattle.cmd_check.proofs.PieceTexts.{quoted_within}
 use Rattle.cmd_check.proofs.quoting.+put_names.Goals as goal
 
 pub returns : goal.returns

@@ -1,7 +1,7 @@
 use Rattle.std.proofs.Common.{ℕ, List, take, drop, ◌-◌, length, arith, length-drop}
-use Rattle.fx_io.proofs.Taken.{rest-whole}
-use Rattle.cmd_check.proofs.Handing.{adds_as, both}
-use Rattle.cmd_check.proofs.Spelling.{quoted_more}
+use Rattle.fx_io.proofs.SinkBytes.{rest-whole}
+use Rattle.cmd_check.proofs.PieceBytes.{adds_as, both}
+use Rattle.cmd_check.proofs.PieceTexts.{quoted_more}
 use Rattle.cmd_check.proofs.quoting.put_name.Goals as goal
 
 pub loop-done-preserved : goal.loop-done-preserved

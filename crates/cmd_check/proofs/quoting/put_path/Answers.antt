@@ -1,4 +1,4 @@
-use Rattle.cmd_check.proofs.Handing.{both}
+use Rattle.cmd_check.proofs.PieceBytes.{both}
 use Rattle.cmd_check.proofs.quoting.put_path.Goals as goal
 
 pub returns : goal.returns

@@ -1,8 +1,8 @@
 use Rattle.std.proofs.Common.{ℕ, List, ap}
 use Rattle.std.specs.Prelude.{slice_index_or}
 use Rattle.hw_rules.specs.Times.{timing_in}
-use Rattle.cmd_check.proofs.Handing.{adds_as, both}
-use Rattle.cmd_check.proofs.Spelling.{begun_is, block_is}
+use Rattle.cmd_check.proofs.PieceBytes.{adds_as, both}
+use Rattle.cmd_check.proofs.PieceTexts.{begun_is, block_is}
 use Rattle.cmd_check.proofs.writing.put_block.Goals as goal
 
 pub returns : goal.returns

@@ -5,8 +5,8 @@ use Rattle.dg_model.specs.declared.diagram.Block.{Block}
 use Rattle.dg_model.specs.declared.diagram.Diagram.{Diagram}
 use Rattle.hw_rules.specs.Times.{timing_in}
 use Rattle.cmd_check.specs.CheckText.{block_line}
-use Rattle.cmd_check.proofs.Handing.{adds_as, both}
-use Rattle.cmd_check.proofs.Spelling.{next_number}
+use Rattle.cmd_check.proofs.PieceBytes.{adds_as, both}
+use Rattle.cmd_check.proofs.PieceTexts.{next_number}
 use Rattle.cmd_check.proofs.writing.put_blocks.Goals as goal
 
 pub loop-place-preserved : goal.loop-place-preserved

@@ -3,8 +3,8 @@ use Rattle.std.specs.Prelude.{drop}
 use Rattle.dg_model.specs.Attributes.{attributes_of}
 use Rattle.hw_rules.specs.Times.{timing_in}
 use Rattle.cmd_check.specs.CheckText.{blocks_text, front_text}
-use Rattle.cmd_check.proofs.Handing.{adds_as, both, written}
-use Rattle.cmd_check.proofs.Spelling.{front_is}
+use Rattle.cmd_check.proofs.PieceBytes.{adds_as, both, written}
+use Rattle.cmd_check.proofs.PieceTexts.{front_is}
 use Rattle.cmd_check.proofs.Whole.{blocks_there, few_outputs, left_behind, names_left, text_of}
 use Rattle.cmd_check.proofs.writing.put_check.Goals as goal
 

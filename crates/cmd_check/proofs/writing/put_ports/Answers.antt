@@ -2,8 +2,8 @@ use Rattle.std.proofs.Common.{◌+◌, arith}
 use Rattle.std.proofs.lemmas.Option.{slice_get_within}
 use Rattle.hw_sched.proofs.Widths.{widths_at}
 use Rattle.cmd_check.specs.CheckText.{port_text}
-use Rattle.cmd_check.proofs.Handing.{adds_as, both}
-use Rattle.cmd_check.proofs.Spelling.{next_number, port_is}
+use Rattle.cmd_check.proofs.PieceBytes.{adds_as, both}
+use Rattle.cmd_check.proofs.PieceTexts.{next_number, port_is}
 use Rattle.cmd_check.proofs.writing.put_ports.Goals as goal
 
 pub width-width-requires-clause-there : goal.width-width-requires-clause-there

@@ -1,7 +1,7 @@
 use Rattle.std.proofs.Common.{◌+◌, None, Some, drop, refl, sym, ap, ◌∙◌}
 use Rattle.std.proofs.lemmas.List.{take_rest}
 use Rattle.cmd_explore.specs.RangeWord.{plain_number}
-use Rattle.cmd_explore.proofs.Cut.{no_points, ended}
+use Rattle.cmd_explore.proofs.RangeWord.{no_points, ended}
 use Rattle.cmd_explore.proofs.range_word.ends_of.Goals as goal
 
 pub returns-then-not-starts_with : goal.returns-then-not-starts_with

@@ -1,6 +1,6 @@
 use Rattle.std.proofs.Common.{◌+◌, None, Some, drop, refl, sym, ap, ◌∙◌}
 use Rattle.cmd_explore.specs.RangeWord.{ends_of}
-use Rattle.cmd_explore.proofs.Cut.{ranged}
+use Rattle.cmd_explore.proofs.RangeWord.{ranged}
 use Rattle.cmd_explore.proofs.range_word.read_range.Goals as goal
 
 pub returns-in_default-clause-is : goal.returns-in_default-clause-is

@@ -1,6 +1,6 @@
 use Rattle.std.proofs.Common.{subst, sym}
 use Rattle.std.proofs.lemmas.Result.{IfOk-weaker}
-use Rattle.cmd_generate.proofs.Ported.{stalls}
+use Rattle.cmd_generate.proofs.Ports.{stalls}
 use Rattle.cmd_generate.proofs.Streams.{Laws, column-names, is-core, stream-all}
 use Rattle.cmd_generate.proofs.streamed.stream_of.Goals as goal
 use Rattle.hw_names.specs.Names.{AreStreamNames}

@@ -1,7 +1,7 @@
 use Rattle.std.proofs.Common.{◌≡◌, [], sym, ◌∙◌}
 use Rattle.cmd_model.specs.declared.accepting.ModelFault.TheVariants.{Broken}
-use Rattle.cmd_model.specs.inner.Accepting.{fault_of}
-use Rattle.cmd_model.proofs.Refused.{refused-tree}
+use Rattle.cmd_model.specs.inner.ModelFault.{fault_of}
+use Rattle.cmd_model.proofs.TreeFaults.{refused-tree}
 use Rattle.cmd_model.proofs.accepting.accept.Goals as goal
 
 pub returns-in-Err-clause-broken : goal.returns-in-Err-clause-broken

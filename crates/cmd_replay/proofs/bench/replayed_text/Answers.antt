@@ -1,7 +1,7 @@
 use Rattle.std.proofs.Common.{ℕ, List, sym, subst}
 use Rattle.cmd_replay.specs.Replayed.{IsReplayOf}
 use Rattle.cmd_replay.specs.Responding.{IsRefusedReplay}
-use Rattle.cmd_replay.proofs.Unreplayed.{no-module, no-rows, no-sound}
+use Rattle.cmd_replay.proofs.NoResponse.{no-module, no-rows, no-sound}
 use Rattle.cmd_replay.proofs.bench.replayed_text.Goals as goal
 
 pub returns-in-Err-NotVerilog : goal.returns-in-Err-NotVerilog

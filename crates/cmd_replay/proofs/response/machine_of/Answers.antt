@@ -1,5 +1,5 @@
 use Rattle.std.proofs.Common.{sym, ◌∙◌}
-use Rattle.cmd_replay.proofs.Replayed.{broken-by, machine-is}
+use Rattle.cmd_replay.proofs.Machines.{broken-by, machine-is}
 use Rattle.cmd_replay.proofs.response.machine_of.Goals as goal
 
 pub returns-then-is_condition-clause-refused : goal.returns-then-is_condition-clause-refused

@@ -6,7 +6,7 @@ use Rattle.fx_tables.proofs.ResponseLines.{took-part}
 use Rattle.vl_ast.specs.Driven.{output_ports}
 use Rattle.vl_ast.specs.declared.modules.Module.{Module}
 use Rattle.cmd_replay.proofs.Responses.{goes-on, line-on, more-on}
-use Rattle.fx_io.proofs.Taken.{also_took-append}
+use Rattle.fx_io.proofs.SinkBytes.{also_took-append}
 use Rattle.cmd_replay.proofs.response.put_lines.Goals as goal
 
 pub line-requires : goal.line-requires

@@ -3,7 +3,7 @@ use Rattle.std.specs.Int.{w64}
 use Rattle.std.specs.Int.Signed.{shr_z}
 use Rattle.std.proofs.lemmas.Int.{ints, to_z-of_z}
 use Rattle.dg_blocks.specs.Narrow.{IsTie}
-use Rattle.dg_blocks.proofs.Narrowed.{shifted_modest}
+use Rattle.dg_blocks.proofs.NarrowWords.{shifted_modest}
 use Rattle.dg_blocks.proofs.Shifts.{shr-fits, shifted_is}
 use Rattle.dg_blocks.proofs.narrow.biased_shift.Goals as goal
 

@@ -1,6 +1,6 @@
 use Rattle.std.proofs.Common.{◌-◌, ◌^◌, ◌≤◌, arith, pow_pos, pow_mono}
 use Rattle.std.proofs.lemmas.Int.{ints}
-use Rattle.dg_blocks.proofs.Narrowed.{one_shifted, half_bounds}
+use Rattle.dg_blocks.proofs.NarrowWords.{one_shifted, half_bounds}
 use Rattle.dg_blocks.proofs.narrow.half_of.Goals as goal
 
 pub returns-clause-twice : goal.returns-clause-twice

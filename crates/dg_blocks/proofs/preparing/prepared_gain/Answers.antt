@@ -5,7 +5,7 @@ use Rattle.dg_model.specs.declared.op.Op.{Op}
 use Rattle.dg_model.specs.declared.op.Op.TheVariants.{Gain}
 use Rattle.dg_model.specs.Operation.{HasParameters}
 use Rattle.dg_blocks.specs.Narrow.{magnitude_of}
-use Rattle.dg_blocks.proofs.Narrowed.{range_within, whole_fits}
+use Rattle.dg_blocks.proofs.NarrowWords.{range_within, whole_fits}
 use Rattle.dg_blocks.proofs.preparing.prepared_gain.Goals as goal
 
 pub short-requires : goal.short-requires

@@ -7,7 +7,7 @@ use Rattle.dg_model.specs.Operation.{operation_of}
 use Rattle.dg_blocks.specs.declared.narrow.Narrow.{Narrow}
 use Rattle.dg_blocks.specs.Narrow.{IsNarrow, HasRoom}
 use Rattle.dg_blocks.specs.Prepared.{IsReady, product_bits}
-use Rattle.dg_blocks.proofs.Listed.{both_of}
+use Rattle.dg_blocks.proofs.TypeLists.{both_of}
 use Rattle.dg_blocks.proofs.preparing.product_narrow.Goals as goal
 use Rattle.dg_blocks.proofs.preparing.product_narrow.Goals.{After-product_frac-frac}
 

@@ -1,7 +1,7 @@
 use Rattle.std.proofs.Common.{◌^◌, ◌*ℤ◌, pos, arith}
 use Rattle.std.specs.Int.{w64}
 use Rattle.std.proofs.lemmas.Int.{to_z-of_z}
-use Rattle.dg_blocks.proofs.Narrowed.{one_shifted}
+use Rattle.dg_blocks.proofs.NarrowWords.{one_shifted}
 use Rattle.dg_blocks.proofs.short_sums.left_shift.Goals as goal
 
 pub overflow_mul-result : goal.overflow_mul-result

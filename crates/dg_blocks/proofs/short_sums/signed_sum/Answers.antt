@@ -4,7 +4,7 @@ use Rattle.std.specs.Int.{w16, w64, w128}
 use Rattle.std.proofs.lemmas.Int.{ints, to_z-of_z}
 use Rattle.dg_model.specs.Operation.{signed_sum, type_of, value_of}
 use Rattle.dg_blocks.proofs.Sums.{term_of}
-use Rattle.dg_blocks.proofs.Weighted.{inside, value_fits, aligned_small, sum_step, part_fits, all_of}
+use Rattle.dg_blocks.proofs.Weights.{inside, value_fits, aligned_small, sum_step, part_fits, all_of}
 use Rattle.dg_blocks.proofs.short_sums.signed_sum.Goals as goal
 use Rattle.dg_blocks.proofs.short_sums.signed_sum.Goals.{After-short, After-term-total}
 

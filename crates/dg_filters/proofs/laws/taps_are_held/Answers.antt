@@ -1,4 +1,4 @@
-use Rattle.dg_filters.proofs.Tapped.{taps_held}
+use Rattle.dg_filters.proofs.Taps.{taps_held}
 use Rattle.dg_filters.proofs.laws.taps_are_held.Goals as goal
 
 pub returns : goal.returns

@@ -3,7 +3,7 @@ use Rattle.std.proofs.lemmas.Option.{get_or_from_slice_get}
 use Rattle.dg_flat.specs.Flat.{flat_block, control_as, placed}
 use Rattle.dg_flat.specs.Parts.{control_of}
 use Rattle.dg_flat.proofs.FlatBlock.{flat_is}
-use Rattle.dg_flat.proofs.Found.{control_inside}
+use Rattle.dg_flat.proofs.Positions.{control_inside}
 use Rattle.dg_flat.proofs.PathTable.{path_is}
 use Rattle.dg_flat.proofs.PortReads.{some_inside}
 use Rattle.dg_flat.proofs.blocks.flat_block.Goals as goal

@@ -5,7 +5,7 @@ use Rattle.dg_flat.specs.declared.numbering.Side.TheVariants.{Out}
 use Rattle.dg_flat.specs.Flat.{first_port}
 use Rattle.dg_flat.specs.Parts.{is_subsystem}
 use Rattle.dg_flat.proofs.Ends.{port_inner, port_own, port_with}
-use Rattle.dg_flat.proofs.Found.{found_is, found_inside}
+use Rattle.dg_flat.proofs.Positions.{found_is, found_inside}
 use Rattle.dg_flat.proofs.PortReads.{read_at}
 use Rattle.dg_flat.proofs.edges.source_of.Goals as goal
 

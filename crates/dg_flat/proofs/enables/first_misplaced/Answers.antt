@@ -1,7 +1,7 @@
 use Rattle.std.proofs.Common.{List, refl, sym, subst}
 use Rattle.dg_model.specs.declared.nested.NestedBlock.{NestedBlock}
 use Rattle.dg_flat.specs.Rules.{KeepsEnable, MayStandAt}
-use Rattle.dg_flat.proofs.Kept.{keep_more, keep_all}
+use Rattle.dg_flat.proofs.WireRules.{keep_more, keep_all}
 use Rattle.dg_flat.proofs.PortReads.{read_at}
 use Rattle.dg_flat.proofs.enables.first_misplaced.Goals as goal
 

@@ -8,9 +8,9 @@ use Rattle.dg_model.specs.Faults.{IsRefusal, fault_of}
 use Rattle.dg_flat.specs.Parts.{nested_path}
 use Rattle.dg_flat.specs.Rules.{BreaksNested, BreaksWiringOrEnable, KeepsWiring, KeepsEnable}
 use Rattle.dg_flat.specs.inner.Verdict.{IsFirst, IsFirstBroken}
-use Rattle.dg_model.proofs.Refused.{refused_as}
+use Rattle.dg_model.proofs.Refusals.{refused_as}
 use Rattle.dg_flat.proofs.FromSound.{have_parents, have_ends}
-use Rattle.dg_flat.proofs.Kept.{broken_inside}
+use Rattle.dg_flat.proofs.WireRules.{broken_inside}
 use Rattle.dg_flat.proofs.flattening.check.Goals as goal
 
 abbrev told : Rule → Nested → ℕ → RuleFault → Type 0

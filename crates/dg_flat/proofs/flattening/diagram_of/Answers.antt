@@ -1,5 +1,5 @@
 use Rattle.std.proofs.lemmas.Result.{err_from_is_err_and}
-use Rattle.dg_flat.proofs.Found.{numbers_within}
+use Rattle.dg_flat.proofs.Positions.{numbers_within}
 use Rattle.dg_flat.proofs.FromSound.{have_parents, have_ends}
 use Rattle.dg_flat.proofs.Law.{flat_of}
 use Rattle.dg_flat.proofs.flattening.diagram_of.Goals as goal

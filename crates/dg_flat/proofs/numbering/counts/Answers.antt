@@ -2,7 +2,7 @@ use Rattle.std.proofs.Common.{◌≤◌, suc, [], refl, length, sym, ap, subst, 
 use Rattle.std.proofs.lemmas.List.{take_all}
 use Rattle.std.specs.Option.{is_some}
 use Rattle.dg_flat.specs.inner.Slots.{system_of}
-use Rattle.dg_flat.specs.inner.Numbering.{number_on, count_at}
+use Rattle.dg_flat.specs.inner.PortNumbers.{number_on, count_at}
 use Rattle.dg_flat.specs.inner.Tables.{IsTable}
 use Rattle.dg_model.specs.declared.nested.NestedBlock.{NestedBlock}
 use Rattle.dg_model.specs.declared.nested.Part.{Part}

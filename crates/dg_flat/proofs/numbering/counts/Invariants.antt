@@ -1,5 +1,5 @@
 use Rattle.std.proofs.Common.{suc, length, take}
-use Rattle.dg_flat.specs.inner.Numbering.{count_at}
+use Rattle.dg_flat.specs.inner.PortNumbers.{count_at}
 use Rattle.dg_flat.specs.inner.Tables.{IsTable}
 use Rattle.dg_flat.proofs.numbering.counts.Given as goal
 

@@ -1,6 +1,6 @@
 use Rattle.std.proofs.Common.{refl}
 use Rattle.dg_flat.specs.Rules.{KeepsWiring}
-use Rattle.dg_flat.proofs.Kept.{keep_more, keep_all}
+use Rattle.dg_flat.proofs.WireRules.{keep_more, keep_all}
 use Rattle.dg_flat.proofs.PortReads.{read_at}
 use Rattle.dg_flat.proofs.wiring.first_unwired.Goals as goal
 

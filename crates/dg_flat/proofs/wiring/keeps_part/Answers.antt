@@ -4,7 +4,7 @@ use Rattle.std.proofs.lemmas.Bool.{eqb-true, eqb-false}
 use Rattle.dg_model.specs.declared.nested.NestedBlock.{NestedBlock}
 use Rattle.dg_flat.specs.declared.numbering.Side.TheVariants.{In, Out}
 use Rattle.dg_flat.specs.inner.Slots.{HaveParents}
-use Rattle.dg_flat.proofs.Kept.{in_kept, in_broken, out_kept, out_broken, control_kept, control_broken}
+use Rattle.dg_flat.proofs.WireRules.{in_kept, in_broken, out_kept, out_broken, control_kept, control_broken}
 use Rattle.dg_flat.proofs.PortReads.{some_inside}
 use Rattle.dg_flat.proofs.wiring.keeps_part.Goals as goal
 

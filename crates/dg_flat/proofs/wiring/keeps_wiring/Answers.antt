@@ -1,5 +1,5 @@
 use Rattle.std.proofs.Common.{refl, sym, ◌∙◌, arith}
-use Rattle.dg_flat.proofs.Kept.{put_together, its_meets, its_part}
+use Rattle.dg_flat.proofs.WireRules.{put_together, its_meets, its_part}
 use Rattle.dg_flat.proofs.PortReads.{some_inside}
 use Rattle.dg_flat.proofs.Verdicts.{meets, meets_not, all_driven, not_driven}
 use Rattle.dg_flat.proofs.wiring.keeps_wiring.Goals as goal

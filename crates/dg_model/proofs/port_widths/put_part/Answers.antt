@@ -1,6 +1,6 @@
 use Rattle.std.proofs.Common.{◌≡◌, ◌≤◌, ◌++◌, ◌∷◌, [], length, ap, sym, ◌∙◌, List, ℕ, get_or, take, arith}
 use Rattle.std.proofs.lemmas.List.{append_assoc, take_all, take_more}
-use Rattle.dg_model.proofs.Flattened.{parts_grown, starts_grown}
+use Rattle.dg_model.proofs.Flat.{parts_grown, starts_grown}
 use Rattle.dg_model.proofs.port_widths.put_part.Goals as goal
 
 pub loop-width-preserved : goal.loop-width-preserved

@@ -2,8 +2,8 @@ use Rattle.std.proofs.Common.{◌≡◌, ◌<◌, List, ℕ, Some, None, length,
 use Rattle.std.specs.Prelude.{slice_get, All}
 use Rattle.dg_model.specs.Periods.{drivers_of, period_at, sources_of}
 use Rattle.dg_model.specs.Rate.{KeepsPeriods}
-use Rattle.dg_rates.proofs.Agreed.{all_asked, breaks_periods, found_is, some_source}
-use Rattle.dg_rates.proofs.Keeping.{keep_more, keep_all, read_at}
+use Rattle.dg_rates.proofs.Agreement.{all_asked, breaks_periods, found_is, some_source}
+use Rattle.dg_rates.proofs.FirstFault.{keep_more, keep_all, read_at}
 use Rattle.dg_rates.proofs.agreeing.check_periods.Goals as goal
 use Rattle.dg_rates.proofs.agreeing.check_periods.Goals.{After-sources_of}
 

@@ -1,5 +1,5 @@
 use Rattle.dg_model.specs.Rate.{KeepsPeriods}
-use Rattle.dg_rates.proofs.Keeping.{KeepBefore}
+use Rattle.dg_rates.proofs.FirstFault.{KeepBefore}
 use Rattle.dg_rates.proofs.agreeing.check_periods.Given as goal
 
 abbrev pub invariant-loop-place : goal.invariant-loop-place

@@ -1,8 +1,8 @@
 use Rattle.std.proofs.Common.{Some, sym, ap, ◌∙◌}
 use Rattle.dg_model.specs.Periods.{units_of}
-use Rattle.dg_rates.specs.inner.Declared.{first_in}
-use Rattle.dg_rates.proofs.Aligning.{some_zeros}
-use Rattle.dg_rates.proofs.Declaring.{times_are}
+use Rattle.dg_rates.specs.inner.Above.{first_in}
+use Rattle.dg_rates.proofs.OneUnit.{some_zeros}
+use Rattle.dg_rates.proofs.BasePeriods.{times_are}
 use Rattle.dg_rates.proofs.declared.first_period.Goals as goal
 
 pub returns-in-Some-clause-known : goal.returns-in-Some-clause-known

@@ -4,8 +4,8 @@ use Rattle.std.proofs.Math.Seq.{take-length}
 use Rattle.dg_model.specs.declared.fault.Shown.TheVariants.{Word}
 use Rattle.dg_model.specs.Periods.{first_period, units_of}
 use Rattle.dg_model.specs.Rate.{KeepsDeclared}
-use Rattle.dg_rates.proofs.Declaring.{first_is, first_more, kept_in, kept_out}
-use Rattle.dg_rates.proofs.Keeping.{breaks_at, keep_more, keep_all, read_at}
+use Rattle.dg_rates.proofs.BasePeriods.{first_is, first_more, kept_in, kept_out}
+use Rattle.dg_rates.proofs.FirstFault.{breaks_at, keep_more, keep_all, read_at}
 use Rattle.dg_rates.proofs.declared.first_periods.Goals as goal
 
 pub loop-block-preserved : goal.loop-block-preserved

@@ -2,7 +2,7 @@ use Rattle.std.proofs.Common.{◌≡◌, ◌<◌, drop}
 use Rattle.std.specs.Prelude.{IfSome}
 use Rattle.std.specs.Option.{option_map}
 use Rattle.dg_model.specs.Periods.{least_of, units_of}
-use Rattle.dg_rates.specs.inner.Declared.{least_units}
+use Rattle.dg_rates.specs.inner.Above.{least_units}
 use Rattle.dg_rates.proofs.declared.least_declared.Given as goal
 
 abbrev pub invariant-loop-block : goal.invariant-loop-block

@@ -3,9 +3,9 @@ use Rattle.std.specs.Prelude.{slice_get}
 use Rattle.std.proofs.lemmas.List.{take_all}
 use Rattle.dg_model.specs.declared.diagram.Edge.{Edge}
 use Rattle.dg_rates.specs.inner.Links.{AreDrivers, AreTied}
-use Rattle.dg_rates.proofs.Keeping.{read_at}
-use Rattle.dg_rates.proofs.Linking.{control_inside, controlled_first, controlled_more, controlled_same, drivers_first, drivers_more, from_inside, sources_all, tied_first, to_inside}
-use Rattle.dg_rates.proofs.Tying.{own_more, tie_more}
+use Rattle.dg_rates.proofs.FirstFault.{read_at}
+use Rattle.dg_rates.proofs.LinkRows.{control_inside, controlled_first, controlled_more, controlled_same, drivers_first, drivers_more, from_inside, sources_all, tied_first, to_inside}
+use Rattle.dg_rates.proofs.RowTies.{own_more, tie_more}
 use Rattle.dg_rates.proofs.links.put_links.Goals as goal
 use Rattle.dg_rates.proofs.links.put_links.Goals.{in-Some+in_ok-link-2, in_default}
 

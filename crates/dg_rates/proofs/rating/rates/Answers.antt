@@ -8,9 +8,9 @@ use Rattle.dg_model.specs.declared.rule.Rule.{Rule}
 use Rattle.dg_model.specs.Faults.{AllKeep, BreaksAt}
 use Rattle.dg_model.specs.Periods.{Period, next_periods, or_one, periods_of}
 use Rattle.dg_model.specs.Rate.{BreaksRate, KeepsDeclared, KeepsPeriods, shown_periods}
-use Rattle.dg_rates.proofs.Declaring.{all_above}
+use Rattle.dg_rates.proofs.BasePeriods.{all_above}
 use Rattle.dg_model.proofs.Propagation.{length_periods}
-use Rattle.dg_model.proofs.Refused.{refused_as}
+use Rattle.dg_model.proofs.Refusals.{refused_as}
 use Rattle.dg_rates.proofs.rating.rates.Goals as goal
 
 pub base_period-base-requires : goal.base_period-base-requires

@@ -1,5 +1,5 @@
 use Rattle.std.proofs.Common.{◌*◌, ◌^◌, ◌-◌, ◌≤◌, sym, ap, ◌∙◌, inl, inr, arith}
-use Rattle.dg_rates.proofs.Aligning.{raised, some_zeros, ten_positive}
+use Rattle.dg_rates.proofs.OneUnit.{raised, some_zeros, ten_positive}
 use Rattle.dg_rates.proofs.units.in_one_unit.Goals as goal
 
 pub returns-then-rank-other : goal.returns-then-rank-other

@@ -2,7 +2,7 @@ use Rattle.std.proofs.Common.{◌≡◌, ◌^◌, ◌≤◌, sym, subst, true≢
 use Rattle.std.proofs.lemmas.Bool.{ltb-true, lt-ltb}
 use Rattle.dg_model.specs.Periods.{units_of}
 use Rattle.dg_rates.specs.inner.Units.{Shows}
-use Rattle.dg_rates.proofs.Aligning.{less_aligned, other_few}
+use Rattle.dg_rates.proofs.OneUnit.{less_aligned, other_few}
 use Rattle.dg_rates.proofs.units.is_less.Goals as goal
 
 pub returns-in-Some-second : goal.returns-in-Some-second

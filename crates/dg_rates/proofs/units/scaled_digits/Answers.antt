@@ -1,6 +1,6 @@
 use Rattle.std.proofs.Common.{◌^◌, arith}
 use Rattle.std.proofs.lemmas.Nat.{mul-le}
-use Rattle.dg_rates.proofs.Aligning.{ten_mono}
+use Rattle.dg_rates.proofs.OneUnit.{ten_mono}
 use Rattle.dg_rates.proofs.units.scaled_digits.Goals as goal
 
 pub returns-then-zeros-gt38 : goal.returns-then-zeros-gt38

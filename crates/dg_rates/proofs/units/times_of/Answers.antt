@@ -1,7 +1,7 @@
 use Rattle.std.proofs.Common.{◌≡◌, ◌^◌, ◌≤◌, sym, subst}
 use Rattle.dg_model.specs.Periods.{units_of}
 use Rattle.dg_rates.specs.inner.Units.{IsTimes, Shows}
-use Rattle.dg_rates.proofs.Aligning.{times_aligned, too_small, first_few, if_some_also}
+use Rattle.dg_rates.proofs.OneUnit.{times_aligned, too_small, first_few, if_some_also}
 use Rattle.dg_rates.proofs.units.times_of.Goals as goal
 
 pub returns-in_default-second-clause-none : goal.returns-in_default-second-clause-none

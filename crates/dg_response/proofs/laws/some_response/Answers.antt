@@ -1,4 +1,4 @@
-use Rattle.dg_response.proofs.Stepping.{has-response}
+use Rattle.dg_response.proofs.SampleSteps.{has-response}
 use Rattle.dg_response.proofs.laws.some_response.Goals as goal
 
 pub returns : goal.returns

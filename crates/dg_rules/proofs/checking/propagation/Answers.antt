@@ -3,7 +3,7 @@ use Rattle.std.proofs.lemmas.Result.{err_from_is_err_and}
 use Rattle.dg_model.specs.Checked.{BreaksRule}
 use Rattle.dg_model.specs.Dimension.{BreaksDimension}
 use Rattle.dg_model.specs.TypeRule.{BreaksType}
-use Rattle.dg_model.proofs.Refused.{refused_as}
+use Rattle.dg_model.proofs.Refusals.{refused_as}
 use Rattle.dg_rules.proofs.checking.propagation.Goals as goal
 
 pub returns-in_err-widths-clause-broken : goal.returns-in_err-widths-clause-broken

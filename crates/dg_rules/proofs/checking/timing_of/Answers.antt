@@ -4,7 +4,7 @@ use Rattle.dg_model.specs.Attributes.{attributes_of}
 use Rattle.dg_model.specs.Checked.{BreaksRule}
 use Rattle.dg_model.specs.Loop.{BreaksLoop}
 use Rattle.dg_model.specs.Rate.{BreaksRate}
-use Rattle.dg_model.proofs.Refused.{refused_as}
+use Rattle.dg_model.proofs.Refusals.{refused_as}
 use Rattle.dg_rules.proofs.checking.timing_of.Goals as goal
 
 pub returns-in_err-periods-clause-broken : goal.returns-in_err-periods-clause-broken

@@ -10,7 +10,7 @@ use Rattle.dg_model.specs.PlanNames.{BreaksPlan}
 use Rattle.dg_rules.specs.declared.standing.Standing.{Standing}
 use Rattle.dg_rules.specs.declared.standing.Standing.TheVariants.{Unseen, Found}
 use Rattle.dg_rules.specs.inner.Standings.{AllFound}
-use Rattle.dg_model.proofs.Refused.{refused_as}
+use Rattle.dg_model.proofs.Refusals.{refused_as}
 use Rattle.dg_rules.proofs.LineStates.{plan_kept, plan_broken}
 use Rattle.dg_rules.proofs.PlanOf.{plan_of}
 use Rattle.dg_rules.proofs.resolving.resolve.Goals as goal

@@ -2,7 +2,7 @@ use Rattle.std.proofs.Common.{◌≡◌, ℕ, refl, List, length, ap, sym, subst
 use Rattle.dg_model.specs.Attributes.{attributes_of}
 use Rattle.dg_tables.specs.declared.entries.Place.{Place}
 use Rattle.dg_tables.specs.Finding.{Finds}
-use Rattle.dg_sim.specs.inner.Building.{IsFilled}
+use Rattle.dg_sim.specs.inner.ProgramSteps.{IsFilled}
 use Rattle.dg_sim.proofs.building.fill.Goals as goal
 
 pub loop-k-init : goal.loop-k-init

@@ -1,6 +1,6 @@
 use Rattle.std.proofs.Common.{◌≡◌}
 use Rattle.dg_model.specs.Attributes.{attributes_of}
-use Rattle.dg_sim.specs.inner.Building.{IsFilled}
+use Rattle.dg_sim.specs.inner.ProgramSteps.{IsFilled}
 use Rattle.dg_sim.specs.inner.Cursors.{AreCursors}
 use Rattle.dg_sim.proofs.building.fill.Given as goal
 

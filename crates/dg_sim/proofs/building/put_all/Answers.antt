@@ -2,9 +2,9 @@ use Rattle.std.proofs.Common.{◌≡◌, ◌∙◌, List, length, slice_get, ap,
 use Rattle.dg_model.specs.Attributes.{attributes_of}
 use Rattle.dg_tables.specs.declared.entries.Place.{Place}
 use Rattle.dg_tables.specs.declared.roots.Root.{Root}
-use Rattle.dg_sim.specs.inner.Building.{AreShown}
-use Rattle.dg_sim.proofs.Filled.{finished}
-use Rattle.dg_sim.proofs.Shown.{output_entry}
+use Rattle.dg_sim.specs.inner.ProgramSteps.{AreShown}
+use Rattle.dg_sim.proofs.Cells.{finished}
+use Rattle.dg_sim.proofs.TableEntries.{output_entry}
 use Rattle.dg_sim.proofs.building.put_all.Goals as goal
 
 pub returns : goal.returns

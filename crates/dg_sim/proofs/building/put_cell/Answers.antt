@@ -6,7 +6,7 @@ use Rattle.dg_model.specs.Attributes.{attributes_of}
 use Rattle.dg_tables.specs.declared.entries.Place.{Place}
 use Rattle.dg_tables.specs.Entries.{IsEntry}
 use Rattle.dg_sim.proofs.Entries.{block_there}
-use Rattle.dg_sim.proofs.Filled.{filled_more}
+use Rattle.dg_sim.proofs.Cells.{filled_more}
 use Rattle.dg_sim.proofs.Turns.{turn_of}
 use Rattle.dg_sim.proofs.building.put_cell.Goals as goal
 use Rattle.dg_sim.proofs.building.put_cell.Goals.{After-as_slice}

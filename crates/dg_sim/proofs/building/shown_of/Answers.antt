@@ -4,7 +4,7 @@ use Rattle.std.proofs.lemmas.List.{length_push}
 use Rattle.std.proofs.lemmas.Option.{same_Some, slice_get-get_or}
 use Rattle.math_list.proofs.Places.{push_cases}
 use Rattle.dg_tables.specs.declared.roots.Root.{Root}
-use Rattle.dg_sim.specs.inner.Building.{AreShown}
+use Rattle.dg_sim.specs.inner.ProgramSteps.{AreShown}
 use Rattle.dg_sim.proofs.building.shown_of.Goals as goal
 
 pub look_up-requires-clause-entry : goal.look_up-requires-clause-entry

@@ -1,4 +1,4 @@
-use Rattle.dg_sim.specs.inner.Building.{AreShown}
+use Rattle.dg_sim.specs.inner.ProgramSteps.{AreShown}
 use Rattle.dg_sim.proofs.building.shown_of.Given as goal
 
 abbrev pub invariant-loop-root : goal.invariant-loop-root

@@ -1,6 +1,6 @@
 use Rattle.std.proofs.Common.{◌≡◌, ◌+◌, ◌-◌, ◌/◌, ◌<◌, ◌≤◌, ℕ, length, slice_get, ap, sym, ◌∙◌, arith}
 use Rattle.std.proofs.lemmas.Option.{slice_get_within, slice_get-get_or}
-use Rattle.dg_sim.proofs.Sorted.{stands_after, stands_up_to}
+use Rattle.dg_sim.proofs.RootOrder.{stands_after, stands_up_to}
 use Rattle.dg_sim.proofs.columns.find_root.Goals as goal
 
 pub loop-low-init : goal.loop-low-init

@@ -2,7 +2,7 @@ use Rattle.std.proofs.Common.{◌∙◌, length, ap, refl}
 use Rattle.dg_model.specs.Attributes.{attributes_of}
 use Rattle.dg_model.specs.declared.kind.Kind.TheVariants.{EnableTest}
 use Rattle.dg_sim.proofs.Turns.{turn_now}
-use Rattle.dg_sim.proofs.Tested.{above_made}
+use Rattle.dg_sim.proofs.EnableTest.{above_made}
 use Rattle.dg_sim.proofs.enabling.above.Goals as goal
 
 pub returns : goal.returns

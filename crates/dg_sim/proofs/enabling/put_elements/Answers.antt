@@ -3,7 +3,7 @@ use Rattle.std.proofs.lemmas.Option.{none-some}
 use Rattle.fx_type.specs.declared.kind.FxType.{FxType}
 use Rattle.fx_type.specs.declared.kind.FxType.TheVariants.{Logical}
 use Rattle.dg_model.specs.Attributes.{attributes_of}
-use Rattle.dg_sim.proofs.Tested.{elements_more}
+use Rattle.dg_sim.proofs.EnableTest.{elements_more}
 use Rattle.dg_sim.proofs.Turns.{below_read}
 use Rattle.dg_sim.proofs.enabling.put_elements.Goals as goal
 

@@ -1,7 +1,7 @@
 use Rattle.std.proofs.Common.{◌≡◌, ℕ, List, ◌++◌, length}
 use Rattle.fx_type.specs.declared.kind.FxType.{FxType}
 use Rattle.dg_model.specs.Attributes.{attributes_of}
-use Rattle.dg_sim.specs.inner.Building.{AreElements}
+use Rattle.dg_sim.specs.inner.ProgramSteps.{AreElements}
 use Rattle.dg_sim.proofs.enabling.put_elements.Given as goal
 
 abbrev pub invariant-loop-element : goal.invariant-loop-element

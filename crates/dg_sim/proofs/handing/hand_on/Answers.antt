@@ -1,6 +1,6 @@
 use Rattle.dg_model.specs.Attributes.{attributes_of}
-use Rattle.dg_sim.proofs.Serving.{same_rule}
-use Rattle.dg_sim.proofs.Grown.{grows_same}
+use Rattle.dg_sim.proofs.RuleEquations.{same_rule}
+use Rattle.dg_sim.proofs.Growth.{grows_same}
 use Rattle.dg_sim.proofs.handing.hand_on.Goals as goal
 
 pub returns : goal.returns

@@ -6,7 +6,7 @@ use Rattle.dg_model.specs.Instant.{reads_now}
 use Rattle.dg_model.specs.Wires.{period_into}
 use Rattle.dg_model.specs.declared.kind.Kind.TheVariants.{RateTransition}
 use Rattle.dg_sim.proofs.Entries.{ports_are}
-use Rattle.dg_sim.proofs.Kept.{fast_hands}
+use Rattle.dg_sim.proofs.LookBack.{fast_hands}
 use Rattle.dg_sim.proofs.Turns.{turn_now, turn_read}
 use Rattle.dg_sim.proofs.handing.transition.Goals as goal
 

@@ -4,7 +4,7 @@ use Rattle.dg_model.specs.Attributes.{attributes_of}
 use Rattle.dg_model.specs.Wires.{width_into}
 use Rattle.dg_tables.proofs.Lists.{part_here}
 use Rattle.math_list.proofs.Sums.{sum_last}
-use Rattle.dg_sim.proofs.Joined.{before_end}
+use Rattle.dg_sim.proofs.MuxDemux.{before_end}
 use Rattle.dg_sim.proofs.joining.part_into.Goals as goal
 use Rattle.dg_sim.proofs.joining.part_into.Goals.{After-start_cursor-start, In-loop-width}
 

@@ -4,8 +4,8 @@ use Rattle.dg_model.specs.Attributes.{attributes_of}
 use Rattle.dg_model.specs.Wires.{width_into}
 use Rattle.dg_model.specs.declared.kind.Kind.TheVariants.{Mux, Demux}
 use Rattle.dg_tables.specs.Finding.{IsRead}
-use Rattle.dg_sim.proofs.Joined.{mux_hands, demux_hands}
-use Rattle.dg_sim.proofs.Shared.{mux_below, part_read, small, demux_to, demux_few, demux_below, demux_read}
+use Rattle.dg_sim.proofs.MuxDemux.{mux_hands, demux_hands}
+use Rattle.dg_sim.proofs.MuxElements.{mux_below, part_read, small, demux_to, demux_few, demux_below, demux_read}
 use Rattle.dg_sim.proofs.Turns.{turn_now}
 use Rattle.dg_sim.proofs.joining.spread.Goals as goal
 

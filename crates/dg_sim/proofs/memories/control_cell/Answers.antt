@@ -1,5 +1,5 @@
 use Rattle.dg_model.specs.Attributes.{attributes_of}
-use Rattle.dg_tables.proofs.Fitting.{widths_fit}
+use Rattle.dg_tables.proofs.Widths.{widths_fit}
 use Rattle.dg_tables.proofs.Sources.{control_shown}
 use Rattle.dg_sim.proofs.memories.control_cell.Goals as goal
 

@@ -4,7 +4,7 @@ use Rattle.std.proofs.lemmas.Int.{to_z-of_z}
 use Rattle.std.proofs.lemmas.Option.{slice_get_within}
 use Rattle.dg_model.specs.Attributes.{attributes_of}
 use Rattle.dg_tables.specs.State.{kept_count}
-use Rattle.dg_sim.proofs.Kept.{delay_made, delay_move_is}
+use Rattle.dg_sim.proofs.LookBack.{delay_made, delay_move_is}
 use Rattle.dg_sim.proofs.Turns.{delay_reads}
 use Rattle.dg_sim.proofs.ListEntries.{delay_entry}
 use Rattle.dg_sim.proofs.memories.delay_rule.Goals as goal

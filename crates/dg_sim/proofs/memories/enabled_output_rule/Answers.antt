@@ -13,10 +13,10 @@ use Rattle.dg_model.specs.Attributes.{attributes_of}
 use Rattle.dg_tables.specs.declared.entries.Place.{Place}
 use Rattle.dg_tables.specs.Entries.{Reads}
 use Rattle.dg_tables.specs.State.{kept_count}
-use Rattle.dg_sim.specs.inner.Building.{IsControlCell}
-use Rattle.dg_sim.proofs.Grown.{grows_same}
+use Rattle.dg_sim.specs.inner.ProgramSteps.{IsControlCell}
+use Rattle.dg_sim.proofs.Growth.{grows_same}
 use Rattle.dg_sim.proofs.Turns.{control_before, output_reads, turn_now}
-use Rattle.dg_sim.proofs.Kept.{gated_moves, reset_rule, held_rule}
+use Rattle.dg_sim.proofs.LookBack.{gated_moves, reset_rule, held_rule}
 use Rattle.dg_sim.proofs.ListEntries.{output_entry_there}
 use Rattle.dg_sim.proofs.memories.enabled_output_rule.Goals as goal
 use Rattle.dg_sim.proofs.memories.enabled_output_rule.Goals.{After-own_stored-first}

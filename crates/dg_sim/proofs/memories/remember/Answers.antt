@@ -1,7 +1,7 @@
 use Rattle.std.proofs.Common.{◌∙◌, length, ap, refl}
 use Rattle.dg_model.specs.Attributes.{attributes_of}
 use Rattle.dg_sim.specs.declared.program.Memory.{Memory}
-use Rattle.dg_sim.proofs.Kept.{remembered}
+use Rattle.dg_sim.proofs.LookBack.{remembered}
 use Rattle.dg_sim.proofs.memories.remember.Goals as goal
 
 pub returns : goal.returns

@@ -3,7 +3,7 @@ use Rattle.std.specs.Int.{w128}
 use Rattle.std.proofs.lemmas.Int.{to_z-of_z}
 use Rattle.dg_model.specs.Attributes.{attributes_of}
 use Rattle.dg_tables.specs.State.{kept_count}
-use Rattle.dg_sim.proofs.Kept.{slow_made, slow_moves}
+use Rattle.dg_sim.proofs.LookBack.{slow_made, slow_moves}
 use Rattle.dg_sim.proofs.Turns.{rate_reads}
 use Rattle.dg_sim.proofs.ListEntries.{rate_entry}
 use Rattle.dg_sim.proofs.memories.transition_rule.Goals as goal

@@ -3,7 +3,7 @@ use Rattle.std.proofs.lemmas.Option.{slice_get-get_or}
 use Rattle.dg_model.specs.Attributes.{attributes_of}
 use Rattle.dg_sim.specs.declared.program.Cell.{Cell}
 use Rattle.dg_sim.specs.Ready.{AreReady}
-use Rattle.dg_sim.proofs.Readied.{can_some, ready_more}
+use Rattle.dg_sim.proofs.Readiness.{can_some, ready_more}
 use Rattle.dg_sim.proofs.readying.prepare.Goals as goal
 
 pub ready_for-requires : goal.ready_for-requires

@@ -3,7 +3,7 @@ use Rattle.std.specs.Int.{w128}
 use Rattle.std.proofs.lemmas.Int.{to_z-of_z}
 use Rattle.dg_model.specs.Attributes.{attributes_of}
 use Rattle.dg_sim.proofs.ByKind.{constant_always}
-use Rattle.dg_sim.proofs.Grown.{fixed_made}
+use Rattle.dg_sim.proofs.Growth.{fixed_made}
 use Rattle.dg_sim.proofs.ListEntries.{constant_entry}
 use Rattle.dg_sim.proofs.rules.constant.Goals as goal
 

@@ -3,9 +3,9 @@ use Rattle.dg_model.specs.Attributes.{attributes_of}
 use Rattle.dg_model.specs.Wired.{root_input}
 use Rattle.dg_tables.specs.declared.roots.Root.{Root}
 use Rattle.dg_sim.specs.inner.Columns.{AreSorted}
-use Rattle.dg_sim.proofs.Grown.{grows_same}
-use Rattle.dg_sim.proofs.Sorted.{roots_sorted}
-use Rattle.dg_sim.proofs.Taken.{input_rule, input_there}
+use Rattle.dg_sim.proofs.Growth.{grows_same}
+use Rattle.dg_sim.proofs.RootOrder.{roots_sorted}
+use Rattle.dg_sim.proofs.RootInputs.{input_rule, input_there}
 use Rattle.dg_sim.proofs.rules.from_row.Goals as goal
 
 pub find_root-column-requires : goal.find_root-column-requires

@@ -7,10 +7,10 @@ use Rattle.dg_model.specs.Attributes.{attributes_of}
 use Rattle.dg_model.specs.Equation.{IsOpOf}
 use Rattle.dg_model.specs.Wires.{type_into}
 use Rattle.dg_model.specs.Solves.{shown_ports}
-use Rattle.dg_sim.specs.inner.Building.{is_worked}
+use Rattle.dg_sim.specs.inner.ProgramSteps.{is_worked}
 use Rattle.dg_sim.proofs.ByKind.{ground_always, op_hands}
 use Rattle.dg_sim.proofs.Entries.{delay_some, ports_are}
-use Rattle.dg_sim.proofs.Grown.{fixed_made}
+use Rattle.dg_sim.proofs.Growth.{fixed_made}
 use Rattle.dg_sim.proofs.Turns.{op_now, op_reads}
 use Rattle.dg_sim.proofs.rules.rule_by_kind.Goals as goal
 

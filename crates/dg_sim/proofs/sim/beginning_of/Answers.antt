@@ -1,7 +1,7 @@
 use Rattle.std.proofs.Common.{◌∙◌, List, length, slice_get, ap, sym, subst}
 use Rattle.std.proofs.lemmas.Option.{slice_get-get_or}
 use Rattle.dg_sim.specs.declared.program.Memory.{Memory}
-use Rattle.dg_sim.specs.inner.Building.{AreRooms}
+use Rattle.dg_sim.specs.inner.ProgramSteps.{AreRooms}
 use Rattle.dg_sim.proofs.sim.beginning_of.Goals as goal
 
 pub pasts_of-requires : goal.pasts_of-requires

@@ -1,7 +1,7 @@
 use Rattle.std.proofs.Common.{◌≡◌, ℕ, length, subst, arith}
 use Rattle.std.proofs.lemmas.Option.{slice_get-get_or}
-use Rattle.dg_sim.specs.inner.Building.{AreRooms}
-use Rattle.dg_sim.proofs.Begun.{rooms_more}
+use Rattle.dg_sim.specs.inner.ProgramSteps.{AreRooms}
+use Rattle.dg_sim.proofs.Start.{rooms_more}
 use Rattle.dg_sim.proofs.sim.pasts_of.Goals as goal
 
 pub returns : goal.returns

@@ -1,4 +1,4 @@
-use Rattle.dg_sim.specs.inner.Building.{AreRooms}
+use Rattle.dg_sim.specs.inner.ProgramSteps.{AreRooms}
 use Rattle.dg_sim.proofs.sim.pasts_of.Given as goal
 
 abbrev pub invariant-loop-memory : goal.invariant-loop-memory

@@ -7,7 +7,7 @@ use Rattle.dg_sim.specs.declared.program.Cell.{Cell}
 use Rattle.dg_sim.specs.Program.{value_at}
 use Rattle.dg_sim.specs.Sim.{Agrees}
 use Rattle.math_list.proofs.Places.{get_some}
-use Rattle.dg_sim.proofs.Swept.{can_give, swept_hit, swept_miss}
+use Rattle.dg_sim.proofs.Sweep.{can_give, swept_hit, swept_miss}
 use Rattle.dg_sim.proofs.sweeping.sweep.Goals as goal
 use Rattle.dg_sim.proofs.sweeping.sweep.Goals.{then-hits, else-hits}
 

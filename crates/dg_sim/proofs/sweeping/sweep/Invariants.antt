@@ -1,6 +1,6 @@
 use Rattle.std.proofs.Common.{◌≡◌, ◌≤◌, ℕ, length}
 use Rattle.dg_sim.specs.Program.{value_at}
-use Rattle.dg_sim.proofs.Swept.{IsSwept}
+use Rattle.dg_sim.proofs.Sweep.{IsSwept}
 use Rattle.dg_sim.proofs.sweeping.sweep.Given as goal
 
 abbrev pub invariant-loop-k : goal.invariant-loop-k

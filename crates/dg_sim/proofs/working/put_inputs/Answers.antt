@@ -3,7 +3,7 @@ use Rattle.fx_type.specs.declared.kind.FxType.{FxType}
 use Rattle.dg_model.specs.Attributes.{attributes_of}
 use Rattle.dg_model.specs.Wires.{type_into}
 use Rattle.dg_tables.specs.Entries.{Reads}
-use Rattle.dg_sim.proofs.Serving.{read_more}
+use Rattle.dg_sim.proofs.RuleEquations.{read_more}
 use Rattle.math_list.proofs.Numbers.{map_last}
 use Rattle.dg_sim.proofs.working.put_inputs.Goals as goal
 

@@ -1,7 +1,7 @@
 use Rattle.std.proofs.Common.{◌≡◌, ℕ, List, ◌++◌, length}
 use Rattle.dg_model.specs.Attributes.{attributes_of}
 use Rattle.dg_model.specs.Wires.{types_into}
-use Rattle.dg_sim.specs.inner.Building.{AreRead}
+use Rattle.dg_sim.specs.inner.ProgramSteps.{AreRead}
 use Rattle.dg_sim.proofs.working.put_inputs.Given as goal
 
 abbrev pub invariant-loop-i : goal.invariant-loop-i

@@ -3,7 +3,7 @@ use Rattle.std.proofs.lemmas.Option.{slice_get_within}
 use Rattle.dg_model.specs.Attributes.{attributes_of}
 use Rattle.dg_sim.proofs.ByKind.{op_elementwise}
 use Rattle.dg_sim.proofs.Turns.{op_inputs, op_now, op_reads, op_signs}
-use Rattle.dg_sim.proofs.Worked.{works_made}
+use Rattle.dg_sim.proofs.Operations.{works_made}
 use Rattle.dg_sim.proofs.working.works.Goals as goal
 
 pub returns : goal.returns

@@ -1,5 +1,5 @@
 use Rattle.std.proofs.Common.{arith}
-use Rattle.dg_sort.proofs.Walking.{walk_begins, walk_lower, walk_goes, walk_ends}
+use Rattle.dg_sort.proofs.CycleSearch.{walk_begins, walk_lower, walk_goes, walk_ends}
 use Rattle.dg_sort.proofs.cycle.cycle_from.Goals as goal
 
 pub loop-at-init : goal.loop-at-init

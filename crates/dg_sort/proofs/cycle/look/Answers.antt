@@ -1,6 +1,6 @@
 use Rattle.std.proofs.Common.{◌≡◌, ◌≤◌, true, false, length, get_or, subst, arith}
 use Rattle.fx_io.specs.Rows.{row_at}
-use Rattle.dg_sort.proofs.Walking.{step_inside, row_is, source_at, looking_begins, looking_inside, looking_there, looking_finds, looking_meets, looking_passes, looking_ends, met_at}
+use Rattle.dg_sort.proofs.CycleSearch.{step_inside, row_is, source_at, looking_begins, looking_inside, looking_there, looking_finds, looking_meets, looking_passes, looking_ends, met_at}
 use Rattle.dg_sort.proofs.cycle.look.Goals.{then-not-index+in_ok-push, else-not-index}
 use Rattle.dg_sort.proofs.cycle.look.Goals as goal
 

@@ -1,6 +1,6 @@
 use Rattle.std.proofs.Common.{◌≡◌, ◌∷◌, [], false, length, replicate, ap, ◌∙◌, arith, rules}
 use Rattle.std.proofs.lemmas.List.{length-append}
-use Rattle.dg_sort.proofs.Walking.{steps_begin_as, closed_none, few_steps, more_steps_left}
+use Rattle.dg_sort.proofs.CycleSearch.{steps_begin_as, closed_none, few_steps, more_steps_left}
 use Rattle.dg_sort.proofs.cycle.steps_back.Goals as goal
 
 pub back-init : goal.back-init

@@ -5,7 +5,7 @@ use Rattle.dg_model.specs.declared.diagram.Diagram.{Diagram}
 use Rattle.dg_model.specs.declared.fault.Shown.TheVariants.{Cycle}
 use Rattle.dg_model.specs.declared.rule.Rule.{Rule}
 use Rattle.dg_model.specs.Faults.{fault_of, path_of}
-use Rattle.dg_sort.proofs.Noting.{block_read}
+use Rattle.dg_sort.proofs.EdgeRows.{block_read}
 use Rattle.dg_sort.proofs.ordering.loop_fault.Goals as goal
 
 path_is : (diagram : Diagram) (place : ℕ) (block : Block) → slice_get diagram.blocks place ≡ Some block → block.path ≡ path_of diagram place

@@ -1,6 +1,6 @@
 use Rattle.std.proofs.Common.{List, ℕ, subst}
 use Rattle.dg_sort.specs.inner.Cycle.{IsReadCycle}
-use Rattle.dg_sort.proofs.Telling.{order_is, loop_is_kept, loop_breaks, found_none, found_some}
+use Rattle.dg_sort.proofs.Outcome.{order_is, loop_is_kept, loop_breaks, found_none, found_some}
 use Rattle.dg_sort.proofs.ordering.order.Goals as goal
 
 pub returns-in-None-clause-order : goal.returns-in-None-clause-order

@@ -2,7 +2,7 @@ use Rattle.std.proofs.Common.{◌≤◌, [], true, false, length, replicate, get
 use Rattle.dg_model.specs.LatencyEdges.{enable_edges_from}
 use Rattle.dg_model.proofs.Propagation.{length_periods}
 use Rattle.dg_sort.proofs.Lines.{from_there, to_there}
-use Rattle.dg_sort.proofs.Noting.{edge_read, block_read, instant_as, noting_begins, line_more, line_skips, lines_end, control_more, control_skips, controls_end}
+use Rattle.dg_sort.proofs.EdgeRows.{edge_read, block_read, instant_as, noting_begins, line_more, line_skips, lines_end, control_more, control_skips, controls_end}
 use Rattle.dg_sort.proofs.rows.rows_of.Goals.{then-is_instant+in_ok-push_at, else-is_instant, in-Some+in_ok-push_at-2, in_default}
 use Rattle.dg_sort.proofs.rows.rows_of.Goals as goal
 

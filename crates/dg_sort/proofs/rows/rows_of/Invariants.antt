@@ -1,6 +1,6 @@
 use Rattle.std.proofs.Common.{◌++◌, drop, map}
 use Rattle.dg_model.specs.LatencyEdges.{signal_edge, enable_edges_from}
-use Rattle.dg_sort.proofs.Noting.{Noting}
+use Rattle.dg_sort.proofs.EdgeRows.{Noting}
 use Rattle.dg_sort.proofs.rows.rows_of.Given as goal
 
 abbrev pub invariant-loop-edge : goal.invariant-loop-edge

@@ -1,4 +1,4 @@
-use Rattle.dg_tables.proofs.Staying.{entries_stay}
+use Rattle.dg_tables.proofs.BetweenHits.{entries_stay}
 use Rattle.dg_tables.proofs.laws.entries_stay.Goals as goal
 
 pub returns : goal.returns

@@ -1,4 +1,4 @@
-use Rattle.dg_tables.proofs.Grounded.{checked_entry_one}
+use Rattle.dg_tables.proofs.Runnable.{checked_entry_one}
 use Rattle.dg_tables.proofs.laws.entry_is_one.Goals as goal
 
 pub returns : goal.returns

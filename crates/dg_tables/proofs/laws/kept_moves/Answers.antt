@@ -1,4 +1,4 @@
-use Rattle.dg_tables.proofs.Moved.{kept_step, kept_read, steps_stand}
+use Rattle.dg_tables.proofs.Moves.{kept_step, kept_read, steps_stand}
 use Rattle.dg_tables.specs.State.{kept_hits, kept_count}
 use Rattle.dg_tables.proofs.laws.kept_moves.Goals as goal
 

@@ -1,4 +1,4 @@
-use Rattle.dg_tables.proofs.Grounded.{checked_prepares, checked_valid, checked_fit}
+use Rattle.dg_tables.proofs.Runnable.{checked_prepares, checked_valid, checked_fit}
 use Rattle.dg_tables.proofs.laws.operations_prepare.Goals as goal
 
 pub returns-clause-operations : goal.returns-clause-operations

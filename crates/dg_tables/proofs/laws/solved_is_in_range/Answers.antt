@@ -1,4 +1,4 @@
-use Rattle.dg_tables.proofs.Grounded.{checked_in_range}
+use Rattle.dg_tables.proofs.Runnable.{checked_in_range}
 use Rattle.dg_tables.proofs.laws.solved_is_in_range.Goals as goal
 
 pub returns : goal.returns

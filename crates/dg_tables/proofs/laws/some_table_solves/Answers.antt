@@ -1,4 +1,4 @@
-use Rattle.dg_tables.proofs.Grounded.{checked_table_solves}
+use Rattle.dg_tables.proofs.Runnable.{checked_table_solves}
 use Rattle.dg_tables.proofs.laws.some_table_solves.Goals as goal
 
 pub returns : goal.returns

@@ -1,4 +1,4 @@
-use Rattle.dg_tables.proofs.Grounded.{checked_tables_one}
+use Rattle.dg_tables.proofs.Runnable.{checked_tables_one}
 use Rattle.dg_tables.proofs.laws.tables_are_one.Goals as goal
 
 pub returns : goal.returns

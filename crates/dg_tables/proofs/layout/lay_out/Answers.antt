@@ -3,7 +3,7 @@ use Rattle.std.proofs.lemmas.Option.{slice_get-get_or}
 use Rattle.dg_model.specs.declared.diagram.Block.{Block}
 use Rattle.dg_model.specs.declared.diagram.Diagram.{Diagram}
 use Rattle.math_list.proofs.Places.{held}
-use Rattle.dg_tables.proofs.Laid.{laid_none, laid_more, laid_entries, laid_finds}
+use Rattle.dg_tables.proofs.EntryLayout.{laid_none, laid_more, laid_entries, laid_finds}
 use Rattle.dg_tables.proofs.layout.lay_out.Goals as goal
 
 pub loop-block-init : goal.loop-block-init

@@ -1,4 +1,4 @@
-use Rattle.dg_tables.specs.inner.Laying.{AreLaid}
+use Rattle.dg_tables.specs.inner.Layout.{AreLaid}
 use Rattle.dg_tables.proofs.layout.lay_out.Given as goal
 
 abbrev pub invariant-loop-block : goal.invariant-loop-block

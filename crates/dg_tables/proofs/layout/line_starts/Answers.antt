@@ -3,7 +3,7 @@ use Rattle.std.proofs.lemmas.List.{length-replicate}
 use Rattle.std.proofs.lemmas.Option.{slice_get_within, slice_get-get_or}
 use Rattle.dg_model.specs.declared.diagram.Diagram.{Diagram}
 use Rattle.dg_model.specs.declared.diagram.Edge.{Edge}
-use Rattle.dg_tables.specs.inner.Laying.{AreLinesTo}
+use Rattle.dg_tables.specs.inner.Layout.{AreLinesTo}
 use Rattle.dg_tables.proofs.Lines.{target, lines_more, lines_all}
 use Rattle.dg_tables.proofs.layout.line_starts.Goals as goal
 

@@ -1,4 +1,4 @@
-use Rattle.dg_tables.specs.inner.Laying.{AreLinesTo}
+use Rattle.dg_tables.specs.inner.Layout.{AreLinesTo}
 use Rattle.dg_tables.proofs.layout.line_starts.Given as goal
 
 abbrev pub invariant-loop-place : goal.invariant-loop-place

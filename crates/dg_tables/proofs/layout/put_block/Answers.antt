@@ -2,8 +2,8 @@ use Rattle.std.proofs.Common.{◌≡◌, ◌≤◌, ◌+◌, ℕ, List, length, 
 use Rattle.std.specs.Prelude.{slice_set}
 use Rattle.dg_model.specs.Attributes.{attributes_of}
 use Rattle.dg_model.specs.Solves.{shown_ports}
-use Rattle.dg_tables.specs.inner.Laying.{ArePut}
-use Rattle.dg_tables.proofs.Laid.{put_none, put_more}
+use Rattle.dg_tables.specs.inner.Layout.{ArePut}
+use Rattle.dg_tables.proofs.EntryLayout.{put_none, put_more}
 use Rattle.dg_tables.proofs.layout.put_block.Goals as goal
 
 pub loop-i-preserved : goal.loop-i-preserved

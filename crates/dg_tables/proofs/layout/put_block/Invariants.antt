@@ -1,6 +1,6 @@
 use Rattle.std.proofs.Common.{◌≡◌}
 use Rattle.dg_model.specs.Attributes.{attributes_of}
-use Rattle.dg_tables.specs.inner.Laying.{ArePut}
+use Rattle.dg_tables.specs.inner.Layout.{ArePut}
 use Rattle.dg_tables.proofs.layout.put_block.Given as goal
 
 abbrev pub invariant-loop-i : goal.invariant-loop-i

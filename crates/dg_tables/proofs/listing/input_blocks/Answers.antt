@@ -1,6 +1,6 @@
 use Rattle.std.proofs.Common.{◌∙◌}
 use Rattle.std.proofs.lemmas.Result.{IfOk-weaker}
-use Rattle.dg_tables.proofs.Listed.{listed}
+use Rattle.dg_tables.proofs.RootBlocks.{listed}
 use Rattle.dg_tables.proofs.listing.input_blocks.Goals as goal
 
 pub returns : goal.returns

@@ -3,7 +3,7 @@ use Rattle.dg_model.specs.Attributes.{attributes_of}
 use Rattle.dg_tables.specs.declared.entries.Place.{Place}
 use Rattle.dg_tables.specs.Entries.{IsEntry}
 use Rattle.dg_tables.specs.Finding.{source_of}
-use Rattle.dg_tables.proofs.Offered.{source_is, source_entry, source_before}
+use Rattle.dg_tables.proofs.SourceEntries.{source_is, source_entry, source_before}
 use Rattle.dg_tables.proofs.reading.input.Goals as goal
 
 pub source-requires : goal.source-requires

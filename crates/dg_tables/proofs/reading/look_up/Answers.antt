@@ -1,6 +1,6 @@
 use Rattle.std.proofs.Common.{◌+◌, ◌-◌, length, ap, arith}
 use Rattle.std.proofs.lemmas.Option.{slice_get_within}
-use Rattle.dg_tables.proofs.Laid.{read_there, entry_read}
+use Rattle.dg_tables.proofs.EntryLayout.{read_there, entry_read}
 use Rattle.dg_tables.proofs.reading.look_up.Goals as goal
 
 pub overflow_add-first : goal.overflow_add-first

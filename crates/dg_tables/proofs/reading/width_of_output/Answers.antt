@@ -1,5 +1,5 @@
 use Rattle.std.proofs.Common.{arith}
-use Rattle.dg_tables.proofs.Fitting.{outputs_there}
+use Rattle.dg_tables.proofs.Widths.{outputs_there}
 use Rattle.dg_tables.proofs.reading.width_of_output.Goals as goal
 
 pub width-requires-clause-there : goal.width-requires-clause-there

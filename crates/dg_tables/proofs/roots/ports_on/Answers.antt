@@ -3,8 +3,8 @@ use Rattle.std.proofs.lemmas.List.{length-replicate}
 use Rattle.std.proofs.lemmas.Option.{slice_get_read}
 use Rattle.dg_model.specs.RootElements.{number_in}
 use Rattle.dg_tables.specs.inner.Ports.{ArePortsTo, root_on}
-use Rattle.dg_tables.proofs.Ported.{port_number, ports_put}
-use Rattle.dg_tables.proofs.Rooted.{counted_map}
+use Rattle.dg_tables.proofs.RootPorts.{port_number, ports_put}
+use Rattle.dg_tables.proofs.RootElements.{counted_map}
 use Rattle.dg_tables.proofs.roots.ports_on.Goals as goal
 
 pub put_number-requires : goal.put_number-requires

@@ -4,8 +4,8 @@ use Rattle.dg_model.specs.Attributes.{attributes_of}
 use Rattle.dg_model.specs.RootElements.{has_number}
 use Rattle.dg_tables.specs.declared.roots.Root.{Root}
 use Rattle.dg_tables.specs.inner.Ports.{root_on, width_on}
-use Rattle.dg_tables.proofs.Ported.{numbered_on, port_read}
-use Rattle.dg_tables.proofs.Rooted.{port_roots}
+use Rattle.dg_tables.proofs.RootPorts.{numbered_on, port_read}
+use Rattle.dg_tables.proofs.RootElements.{port_roots}
 use Rattle.dg_tables.proofs.roots.put_port_on.Goals as goal
 
 pub returns : goal.returns

@@ -9,8 +9,8 @@ use Rattle.dg_model.specs.Wired.{AreNumbered}
 use Rattle.dg_tables.specs.declared.roots.Root.{Root}
 use Rattle.dg_tables.specs.Roots.{roots_of}
 use Rattle.dg_tables.specs.inner.Ports.{root_on, width_on}
-use Rattle.dg_tables.proofs.Ported.{numbered_on}
-use Rattle.dg_tables.proofs.Rooted.{filtered_at_most, roots_more}
+use Rattle.dg_tables.proofs.RootPorts.{numbered_on}
+use Rattle.dg_tables.proofs.RootElements.{filtered_at_most, roots_more}
 use Rattle.dg_tables.proofs.roots.roots_on.Goals as goal
 use Rattle.dg_tables.proofs.roots.roots_on.Goals.{After-as_slice-blocks, In_ok-ports}
 

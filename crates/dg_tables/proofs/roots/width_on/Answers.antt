@@ -3,7 +3,7 @@ use Rattle.dg_model.specs.Attributes.{attributes_of}
 use Rattle.dg_model.specs.RootElements.{number_in}
 use Rattle.dg_tables.specs.declared.roots.Side.{Side}
 use Rattle.dg_tables.specs.inner.Ports.{FindsWidths, root_on, width_on}
-use Rattle.dg_tables.proofs.Rooted.{input_shows}
+use Rattle.dg_tables.proofs.RootElements.{input_shows}
 use Rattle.dg_tables.proofs.roots.width_on.Goals as goal
 
 pub width_of_output-requires : goal.width_of_output-requires

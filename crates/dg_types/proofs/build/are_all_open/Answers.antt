@@ -1,5 +1,5 @@
 use Rattle.std.proofs.Common.{sym}
-use Rattle.dg_types.proofs.Built.{open_by_first}
+use Rattle.dg_types.proofs.LinkRows.{open_by_first}
 use Rattle.dg_types.proofs.build.are_all_open.Goals as goal
 
 pub returns : goal.returns

@@ -3,8 +3,8 @@ use Rattle.std.proofs.lemmas.List.{take_all, take_more}
 use Rattle.std.proofs.lemmas.Option.{slice_get-get_or}
 use Rattle.dg_model.specs.declared.diagram.Edge.{Edge}
 use Rattle.dg_types.specs.inner.Build.{Gathered, Known}
-use Rattle.dg_types.specs.inner.Shown.{source_of}
-use Rattle.dg_types.proofs.Built.{gathered_more, gathered_none, known_more, known_none, own_more}
+use Rattle.dg_types.specs.inner.WidthShapes.{source_of}
+use Rattle.dg_types.proofs.LinkRows.{gathered_more, gathered_none, known_more, known_none, own_more}
 use Rattle.dg_types.proofs.build.put_links.Goals as goal
 
 abbrev none : Edge

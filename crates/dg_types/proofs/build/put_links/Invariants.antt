@@ -1,6 +1,6 @@
 use Rattle.std.proofs.Common.{length, take}
 use Rattle.dg_types.specs.inner.Build.{Gathered, Known}
-use Rattle.dg_types.specs.inner.Shown.{source_of}
+use Rattle.dg_types.specs.inner.WidthShapes.{source_of}
 use Rattle.dg_types.proofs.build.put_links.Given as goal
 
 abbrev pub invariant-loop-edge : goal.invariant-loop-edge

@@ -3,7 +3,7 @@ use Rattle.std.proofs.lemmas.Option.{slice_get-get_or}
 use Rattle.dg_model.specs.declared.diagram.Block.{Block}
 use Rattle.dg_types.specs.declared.linked.Share.{Share}
 use Rattle.dg_types.specs.declared.linked.Source.{Source}
-use Rattle.dg_types.specs.inner.Shown.{source_share}
+use Rattle.dg_types.specs.inner.WidthShapes.{source_share}
 use Rattle.dg_types.proofs.build.source_of.Goals as goal
 
 abbrev made : ℕ → Share → Source

@@ -1,7 +1,7 @@
 use Rattle.std.proofs.Common.{length, ap, ◌∙◌}
 use Rattle.dg_types.specs.inner.Build.{Gathered, Known}
-use Rattle.dg_types.specs.inner.Shown.{source_of}
-use Rattle.dg_types.proofs.Built.{are_linked, mirrors_built}
+use Rattle.dg_types.specs.inner.WidthShapes.{source_of}
+use Rattle.dg_types.proofs.LinkRows.{are_linked, mirrors_built}
 use Rattle.dg_types.proofs.build.width_round.Goals as goal
 
 pub invariant_of-result : goal.invariant_of-result

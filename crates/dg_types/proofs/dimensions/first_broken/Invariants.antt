@@ -1,4 +1,4 @@
-use Rattle.dg_types.specs.inner.Scanned.{KeepAllBelow}
+use Rattle.dg_types.specs.inner.WidthScan.{KeepAllBelow}
 use Rattle.dg_types.proofs.dimensions.first_broken.Given as goal
 
 abbrev pub invariant-loop-place : goal.invariant-loop-place

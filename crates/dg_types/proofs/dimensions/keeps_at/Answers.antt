@@ -1,6 +1,6 @@
 use Rattle.std.proofs.Common.{◌≡◌, ◌∙◌}
 use Rattle.std.proofs.lemmas.Option.{get_or_from_slice_get}
-use Rattle.dg_types.proofs.Deciding.{looked_at_decides}
+use Rattle.dg_types.proofs.DimensionTests.{looked_at_decides}
 use Rattle.dg_types.proofs.dimensions.keeps_at.Goals as goal
 
 pub returns : goal.returns

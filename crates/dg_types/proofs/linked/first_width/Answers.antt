@@ -4,7 +4,7 @@ use Rattle.std.specs.Option.{option_copied}
 use Rattle.std.proofs.lemmas.Option.{none-some, same_Some}
 use Rattle.math_list.proofs.Places.{held}
 use Rattle.dg_types.specs.declared.linked.Source.{Source}
-use Rattle.dg_types.specs.inner.Linked.{source_widths, width_through}
+use Rattle.dg_types.specs.inner.Widths.{source_widths, width_through}
 use Rattle.dg_types.proofs.linked.first_width.Goals as goal
 
 first_shown : (values : List ℕ) (sources : List Source) (source : Source) → slice_get sources 0 ≡ Some source → width_through source.share (get_or values source.block 0) ≡ get_or (source_widths values sources) 0 0

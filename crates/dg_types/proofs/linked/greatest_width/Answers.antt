@@ -2,7 +2,7 @@ use Rattle.std.proofs.Common.{◌≡◌, List, [], drop, max, refl, subst, arith
 use Rattle.std.proofs.lemmas.List.{drop_all}
 use Rattle.math_list.specs.Numbers.{greatest}
 use Rattle.dg_types.specs.declared.linked.Source.{Source}
-use Rattle.dg_types.specs.inner.Linked.{source_widths}
+use Rattle.dg_types.specs.inner.Widths.{source_widths}
 use Rattle.dg_types.proofs.linked.greatest_width.Goals as goal
 
 pub bounds-values-source : goal.bounds-values-source

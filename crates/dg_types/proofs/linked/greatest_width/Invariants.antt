@@ -1,5 +1,5 @@
 use Rattle.std.proofs.Common.{◌≡◌, drop, max}
-use Rattle.dg_types.specs.inner.Linked.{source_widths}
+use Rattle.dg_types.specs.inner.Widths.{source_widths}
 use Rattle.math_list.specs.Numbers.{greatest}
 use Rattle.dg_types.proofs.linked.greatest_width.Given as goal
 

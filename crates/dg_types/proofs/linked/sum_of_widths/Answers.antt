@@ -1,7 +1,7 @@
 use Rattle.std.proofs.Common.{◌≡◌, ℕ, ◌+◌, List, [], drop, min, sum, zero-add, ap, subst, arith}
 use Rattle.std.proofs.lemmas.List.{drop_all}
 use Rattle.dg_types.specs.declared.linked.Source.{Source}
-use Rattle.dg_types.specs.inner.Linked.{source_widths}
+use Rattle.dg_types.specs.inner.Widths.{source_widths}
 use Rattle.dg_types.proofs.linked.sum_of_widths.Goals as goal
 
 pub bounds-values-source : goal.bounds-values-source

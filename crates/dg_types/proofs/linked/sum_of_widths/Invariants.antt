@@ -1,5 +1,5 @@
 use Rattle.std.proofs.Common.{◌≡◌, ◌+◌, ◌≤◌, drop, min, sum}
-use Rattle.dg_types.specs.inner.Linked.{source_widths}
+use Rattle.dg_types.specs.inner.Widths.{source_widths}
 use Rattle.dg_types.proofs.linked.sum_of_widths.Given as goal
 
 abbrev pub invariant-loop-source : goal.invariant-loop-source

@@ -3,7 +3,7 @@ use Rattle.std.proofs.lemmas.List.{take_all, take_more}
 use Rattle.dg_model.specs.declared.diagram.Edge.{Edge}
 use Rattle.dg_types.specs.inner.Build.{Gathered}
 use Rattle.dg_types.specs.inner.Rows.{width_of_edge}
-use Rattle.dg_types.proofs.Built.{gathered_more, gathered_none}
+use Rattle.dg_types.proofs.LinkRows.{gathered_more, gathered_none}
 use Rattle.dg_types.proofs.rows.input_rows.Goals as goal
 
 abbrev none : Edge

@@ -1,7 +1,7 @@
 use Rattle.std.proofs.Common.{◌≡◌, ℕ, ◌+◌, List, [], ◌∷◌, ◌++◌, drop, get_or, sym, ap, ◌∙◌, arith}
 use Rattle.std.proofs.lemmas.List.{append-nil, append_assoc, drop_all, drop_more}
 use Rattle.dg_model.specs.declared.diagram.Block.{Block}
-use Rattle.dg_types.specs.inner.Shown.{shown}
+use Rattle.dg_types.specs.inner.WidthShapes.{shown}
 use Rattle.dg_types.proofs.rows.put_rows.Goals as goal
 
 pub loop-place-init : goal.loop-place-init

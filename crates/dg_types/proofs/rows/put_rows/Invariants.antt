@@ -1,5 +1,5 @@
 use Rattle.std.proofs.Common.{◌≡◌, ◌++◌, drop}
-use Rattle.dg_types.specs.inner.Shown.{shown}
+use Rattle.dg_types.specs.inner.WidthShapes.{shown}
 use Rattle.dg_types.proofs.rows.put_rows.Given as goal
 
 abbrev pub invariant-loop-place : goal.invariant-loop-place

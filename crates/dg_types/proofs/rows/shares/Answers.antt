@@ -1,6 +1,6 @@
 use Rattle.std.proofs.Common.{ℕ, List, [], ◌∷◌, ◌++◌, sym, ap, ◌∙◌}
 use Rattle.dg_model.specs.Widths.{share}
-use Rattle.dg_types.proofs.Numbered.{mapped_more}
+use Rattle.dg_types.proofs.Counts.{mapped_more}
 use Rattle.dg_types.proofs.rows.shares.Goals as goal
 
 pub loop-place-preserved : goal.loop-place-preserved

@@ -1,8 +1,8 @@
 use Rattle.std.proofs.Common.{Some, sym, ap, ◌∙◌}
 use Rattle.std.proofs.lemmas.List.{take_all}
 use Rattle.std.proofs.lemmas.Option.{slice_get-get_or}
-use Rattle.dg_types.specs.inner.Shown.{all_first}
-use Rattle.dg_types.proofs.Numbered.{made_more}
+use Rattle.dg_types.specs.inner.WidthShapes.{all_first}
+use Rattle.dg_types.proofs.Counts.{made_more}
 use Rattle.dg_types.proofs.scanning.all_first.Goals as goal
 
 pub first_held-requires : goal.first_held-requires

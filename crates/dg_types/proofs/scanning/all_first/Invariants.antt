@@ -1,5 +1,5 @@
 use Rattle.std.proofs.Common.{◌≡◌, take}
-use Rattle.dg_types.specs.inner.Shown.{all_first}
+use Rattle.dg_types.specs.inner.WidthShapes.{all_first}
 use Rattle.dg_types.proofs.scanning.all_first.Given as goal
 
 abbrev pub invariant-loop-block : goal.invariant-loop-block

@@ -2,12 +2,12 @@ use Rattle.std.proofs.Common.{◌≡◌, List, length, sym, ap, ◌∙◌, arith
 use Rattle.std.specs.Prelude.{slice_get}
 use Rattle.dg_model.specs.declared.diagram.Block.{Block}
 use Rattle.dg_waves.specs.Rounds.{after_rounds}
-use Rattle.dg_waves.proofs.Waved.{length_after}
-use Rattle.dg_types.specs.inner.Linked.{next_held}
-use Rattle.dg_types.specs.inner.Shown.{shown, all_first}
+use Rattle.dg_waves.proofs.WaveRounds.{length_after}
+use Rattle.dg_types.specs.inner.Widths.{next_held}
+use Rattle.dg_types.specs.inner.WidthShapes.{shown, all_first}
 use Rattle.dg_types.specs.inner.Build.{all_forms}
-use Rattle.dg_types.proofs.FromWired.{have_rows, is_laid}
-use Rattle.dg_types.proofs.Shown.{first_fits, length_first, length_shown}
+use Rattle.dg_types.proofs.WidthRounds.{have_rows, is_laid}
+use Rattle.dg_types.proofs.WidthTables.{first_fits, length_first, length_shown}
 use Rattle.dg_types.proofs.ScanFacts.{ends_there, is_scan}
 use Rattle.dg_types.proofs.scanning.put_scan.Goals as goal
 use Rattle.dg_types.proofs.scanning.put_scan.Goals.{After-as_slice, After-as_slice-4}

@@ -5,7 +5,7 @@ use Rattle.dg_model.specs.declared.diagram.Block.{Block}
 use Rattle.dg_model.specs.declared.fault.Shown.TheVariants.{Word}
 use Rattle.dg_model.specs.declared.rule.Rule.{Rule}
 use Rattle.dg_model.specs.Faults.{fault_of, path_of}
-use Rattle.dg_types.specs.inner.TypedScan.{word_of}
+use Rattle.dg_types.specs.inner.TypeScan.{word_of}
 use Rattle.dg_types.proofs.typed.check.Goals as goal
 
 pub returns-in_default-clause-kept : goal.returns-in_default-clause-kept

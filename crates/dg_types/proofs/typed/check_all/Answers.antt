@@ -11,7 +11,7 @@ use Rattle.dg_model.specs.TypeRounds.{types_of}
 use Rattle.dg_model.specs.TypeRule.{BreaksType}
 use Rattle.dg_types.specs.declared.typed.Part.{Part}
 use Rattle.dg_types.specs.declared.typed.Part.TheVariants.{Narrow, Known, Agree}
-use Rattle.dg_types.specs.inner.TypedScan.{keeps_part, word_of}
+use Rattle.dg_types.specs.inner.TypeScan.{keeps_part, word_of}
 use Rattle.dg_types.proofs.typed.check_all.Goals as goal
 
 abbrev breaks_part : Part → Diagram → RuleFault → Type 0

@@ -1,7 +1,7 @@
 use Rattle.std.proofs.Common.{◌≡◌, ℕ, length, true, below_more, ap, arith}
 use Rattle.std.specs.Prelude.{slice_get, Some}
 use Rattle.dg_model.specs.declared.diagram.Block.{Block}
-use Rattle.dg_types.specs.inner.TypedScan.{KeepsPart}
+use Rattle.dg_types.specs.inner.TypeScan.{KeepsPart}
 use Rattle.dg_types.proofs.typed.first_broken.Goals as goal
 
 pub loop-place-preserved : goal.loop-place-preserved

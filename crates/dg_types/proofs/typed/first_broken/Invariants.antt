@@ -1,4 +1,4 @@
-use Rattle.dg_types.specs.inner.TypedScan.{KeepBelow}
+use Rattle.dg_types.specs.inner.TypeScan.{KeepBelow}
 use Rattle.dg_types.proofs.typed.first_broken.Given as goal
 
 abbrev pub invariant-loop-place : goal.invariant-loop-place

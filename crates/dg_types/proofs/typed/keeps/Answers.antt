@@ -7,11 +7,11 @@ use Rattle.dg_model.specs.Periods.{known_at}
 use Rattle.dg_model.specs.TypeRounds.{Types, input_types, types_of}
 use Rattle.dg_types.specs.declared.linked.Form.{Form}
 use Rattle.dg_types.specs.declared.linked.Source.{Source}
-use Rattle.dg_types.specs.inner.TypedInputs.{source_types}
-use Rattle.dg_types.specs.inner.TypedScan.{IsTyped}
+use Rattle.dg_types.specs.inner.TypeInputs.{source_types}
+use Rattle.dg_types.specs.inner.TypeScan.{IsTyped}
 use Rattle.dg_types.specs.inner.Build.{all_forms}
-use Rattle.dg_types.proofs.TypedParts.{ready_at, is_narrow_part, is_known_part, is_agree_part}
-use Rattle.dg_types.proofs.TypedWired.{inputs_are_typed}
+use Rattle.dg_types.proofs.TypeParts.{ready_at, is_narrow_part, is_known_part, is_agree_part}
+use Rattle.dg_types.proofs.TypeRounds.{inputs_are_typed}
 use Rattle.dg_types.proofs.typed.keeps.Goals as goal
 
 -- the block and the types of its inputs that are read are the diagram's

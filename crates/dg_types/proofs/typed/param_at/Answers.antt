@@ -8,11 +8,11 @@ use Rattle.dg_model.specs.Library.{row_of}
 use Rattle.dg_model.specs.Periods.{known_at}
 use Rattle.dg_model.specs.TypeRounds.{Types, input_types, types_of}
 use Rattle.dg_types.specs.declared.linked.Source.{Source}
-use Rattle.dg_types.specs.inner.TypedInputs.{source_types}
+use Rattle.dg_types.specs.inner.TypeInputs.{source_types}
 use Rattle.dg_types.specs.inner.Build.{all_forms}
-use Rattle.dg_types.proofs.TypedParts.{ready_at}
-use Rattle.dg_types.proofs.TypedSums.{known_step}
-use Rattle.dg_types.proofs.TypedWired.{inputs_are_typed}
+use Rattle.dg_types.proofs.TypeParts.{ready_at}
+use Rattle.dg_types.proofs.SumTypes.{known_step}
+use Rattle.dg_types.proofs.TypeRounds.{inputs_are_typed}
 use Rattle.dg_types.proofs.typed.param_at.Goals as goal
 
 pub coefficient_type-requires-clause-read : goal.coefficient_type-requires-clause-read

@@ -1,5 +1,5 @@
 use Rattle.std.proofs.Common.{◌≤◌, arith}
-use Rattle.dg_types.proofs.TypedRanges.{between, between_far, above, above_far}
+use Rattle.dg_types.proofs.FractionRanges.{between, between_far, above, above_far}
 use Rattle.dg_types.proofs.typed_fit.fits_doubled.Goals as goal
 
 pub returns-in-Some : goal.returns-in-Some

@@ -1,5 +1,5 @@
 use Rattle.std.proofs.Common.{arith}
-use Rattle.dg_types.proofs.TypedRanges.{halved_up, halved_down, halved_far}
+use Rattle.dg_types.proofs.FractionRanges.{halved_up, halved_down, halved_far}
 use Rattle.dg_types.proofs.typed_fit.fits_halved.Goals as goal
 use Rattle.dg_types.proofs.typed_fit.fits_halved.Goals.{then-fraction, else-fraction}
 

@@ -1,8 +1,8 @@
 use Rattle.std.proofs.Common.{◌≡◌, ◌<◌, Bool, ap, sym, ◌∙◌, arith}
 use Rattle.std.specs.Int.{w16}
 use Rattle.std.proofs.lemmas.Int.{to_z-of_z}
-use Rattle.dg_types.specs.inner.TypedFit.{bits_of}
-use Rattle.dg_types.proofs.TypedFits.{fits_is, zero_fits, some_negative}
+use Rattle.dg_types.specs.inner.TypeFit.{bits_of}
+use Rattle.dg_types.proofs.FracFits.{fits_is, zero_fits, some_negative}
 use Rattle.dg_types.proofs.typed_param.fits_at.Goals as goal
 use Rattle.dg_types.proofs.typed_param.fits_at.Goals.{then-signed, else-signed}
 

@@ -5,7 +5,7 @@ use Rattle.std.proofs.lemmas.Int.{ints}
 use Rattle.fx_type.specs.declared.kind.FxType.TheVariants.{Num}
 use Rattle.fx_type.specs.StoredOf.{rounded_of, is_in_range}
 use Rattle.dg_model.specs.GainParam.{frac_down}
-use Rattle.dg_types.specs.inner.TypedFit.{at_step}
+use Rattle.dg_types.specs.inner.TypeFit.{at_step}
 use Rattle.math_list.proofs.Places.{search_step}
 use Rattle.dg_types.proofs.typed_param.fitting_step.Goals as goal
 use Rattle.dg_types.proofs.typed_param.fitting_step.Goals.{After-fits_at}

@@ -1,6 +1,6 @@
 use Rattle.std.proofs.Common.{◌≡◌, ◌-◌}
 use Rattle.std.specs.List.{find, range_with_len}
-use Rattle.dg_types.specs.inner.TypedFit.{at_step}
+use Rattle.dg_types.specs.inner.TypeFit.{at_step}
 use Rattle.dg_types.proofs.typed_param.fitting_step.Given as goal
 
 abbrev pub invariant-loop-k : goal.invariant-loop-k

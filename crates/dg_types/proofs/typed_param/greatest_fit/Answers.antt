@@ -6,9 +6,9 @@ use Rattle.std.proofs.lemmas.List.{take_all}
 use Rattle.std.proofs.lemmas.List.Elements.{All-take}
 use Rattle.fx_type.specs.declared.decimal.Decimal.{Decimal}
 use Rattle.dg_model.specs.GainParam.{frac_down}
-use Rattle.dg_types.specs.inner.TypedFit.{at_step, HasSign}
-use Rattle.dg_types.proofs.TypedSearch.{lowered_more}
-use Rattle.dg_types.proofs.TypedGreatest.{greatest_none, greatest_some}
+use Rattle.dg_types.specs.inner.TypeFit.{at_step, HasSign}
+use Rattle.dg_types.proofs.FracSearch.{lowered_more}
+use Rattle.dg_types.proofs.GreatestFrac.{greatest_none, greatest_some}
 use Rattle.dg_types.proofs.typed_param.greatest_fit.Goals as goal
 
 pub returns-in_default-clause-value : goal.returns-in_default-clause-value

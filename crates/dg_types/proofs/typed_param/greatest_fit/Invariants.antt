@@ -1,5 +1,5 @@
 use Rattle.std.proofs.Common.{take}
-use Rattle.dg_types.specs.inner.TypedFit.{IsLowered}
+use Rattle.dg_types.specs.inner.TypeFit.{IsLowered}
 use Rattle.dg_types.proofs.typed_param.greatest_fit.Given as goal
 
 abbrev pub invariant-loop-decimal : goal.invariant-loop-decimal

@@ -2,7 +2,7 @@ use Rattle.std.proofs.Common.{◌≡◌, ◌∙◌, ap, sym, ℤ, Some, FitsSign
 use Rattle.std.specs.Int.{w16}
 use Rattle.std.proofs.lemmas.Int.{to_z-of_z}
 use Rattle.fx_type.specs.declared.kind.FxType.TheVariants.{Num}
-use Rattle.dg_types.proofs.TypedGreatest.{internal_zero, internal_none, internal_some, width_is}
+use Rattle.dg_types.proofs.GreatestFrac.{internal_zero, internal_none, internal_some, width_is}
 use Rattle.dg_types.proofs.typed_param.internal_param.Goals as goal
 
 pub returns-then-are_zero-clause-value : goal.returns-then-are_zero-clause-value

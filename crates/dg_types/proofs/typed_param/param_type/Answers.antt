@@ -1,5 +1,5 @@
 use Rattle.std.proofs.Common.{◌∙◌}
-use Rattle.dg_types.proofs.TypedGreatest.{by_fixed, by_internal, by_same, by_auto}
+use Rattle.dg_types.proofs.GreatestFrac.{by_fixed, by_internal, by_same, by_auto}
 use Rattle.dg_types.proofs.typed_param.param_type.Goals as goal
 
 pub returns-in-Fixed-clause-value : goal.returns-in-Fixed-clause-value

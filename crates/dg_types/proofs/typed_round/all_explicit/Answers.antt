@@ -3,7 +3,7 @@ use Rattle.std.proofs.lemmas.List.{map_more, take_all}
 use Rattle.fx_type.specs.declared.kind.FxType.{FxType}
 use Rattle.dg_model.specs.declared.diagram.Block.{Block}
 use Rattle.dg_model.specs.TypeRounds.{Types, explicit_type}
-use Rattle.dg_types.specs.inner.TypedLaws.{first_types}
+use Rattle.dg_types.specs.inner.TypeLaws.{first_types}
 use Rattle.dg_types.proofs.typed_round.all_explicit.Goals as goal
 
 pub loop-block-preserved : goal.loop-block-preserved

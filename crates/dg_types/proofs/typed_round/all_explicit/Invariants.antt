@@ -1,5 +1,5 @@
 use Rattle.std.proofs.Common.{◌≡◌, take}
-use Rattle.dg_types.specs.inner.TypedLaws.{first_types}
+use Rattle.dg_types.specs.inner.TypeLaws.{first_types}
 use Rattle.dg_types.proofs.typed_round.all_explicit.Given as goal
 
 abbrev pub invariant-loop-block : goal.invariant-loop-block

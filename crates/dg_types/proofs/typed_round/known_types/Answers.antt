@@ -3,9 +3,9 @@ use Rattle.std.proofs.lemmas.List.{length-map}
 use Rattle.dg_model.specs.declared.diagram.Block.{Block}
 use Rattle.dg_model.specs.TypeRounds.{Types, explicit_type}
 use Rattle.dg_waves.specs.Rounds.{after_rounds}
-use Rattle.dg_types.specs.inner.TypedInputs.{next_typed}
+use Rattle.dg_types.specs.inner.TypeInputs.{next_typed}
 use Rattle.dg_types.specs.inner.Build.{all_forms}
-use Rattle.dg_types.proofs.TypedWired.{types_agree, first_valid, is_typed}
+use Rattle.dg_types.proofs.TypeRounds.{types_agree, first_valid, is_typed}
 use Rattle.dg_types.proofs.typed_round.known_types.Goals as goal
 
 pub after_rounds-requires-clause-fit : goal.after_rounds-requires-clause-fit

@@ -1,6 +1,6 @@
 use Rattle.dg_types.specs.inner.Build.{all_forms}
-use Rattle.dg_types.proofs.FromWired.{can_link}
-use Rattle.dg_types.proofs.TypedWired.{are_ready, full_types_are}
+use Rattle.dg_types.proofs.WidthRounds.{can_link}
+use Rattle.dg_types.proofs.TypeRounds.{are_ready, full_types_are}
 use Rattle.dg_types.proofs.typed_round.round_of.Goals as goal
 
 pub width_round-requires-clause-can : goal.width_round-requires-clause-can

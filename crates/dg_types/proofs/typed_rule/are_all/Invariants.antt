@@ -1,6 +1,6 @@
 use Rattle.std.proofs.Common.{◌≡◌, ℕ, ◌<◌}
 use Rattle.dg_model.specs.Periods.{known_at}
-use Rattle.dg_types.specs.inner.TypedInputs.{source_types}
+use Rattle.dg_types.specs.inner.TypeInputs.{source_types}
 use Rattle.dg_types.proofs.typed_rule.are_all.Given as goal
 
 abbrev pub invariant-loop-source : goal.invariant-loop-source

@@ -3,8 +3,8 @@ use Rattle.std.proofs.lemmas.Bool.{false≢true}
 use Rattle.std.specs.Prelude.{IsSome}
 use Rattle.fx_type.specs.declared.kind.FxType.{FxType}
 use Rattle.dg_model.specs.Periods.{known_at}
-use Rattle.dg_types.specs.inner.TypedInputs.{source_types}
-use Rattle.dg_types.proofs.TypedTests.{source_at, all_inputs, at_input}
+use Rattle.dg_types.specs.inner.TypeInputs.{source_types}
+use Rattle.dg_types.proofs.InputTests.{source_at, all_inputs, at_input}
 use Rattle.dg_types.proofs.typed_rule.are_known.Goals as goal
 
 pub returns : goal.returns

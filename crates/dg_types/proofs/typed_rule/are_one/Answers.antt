@@ -1,7 +1,7 @@
 use Rattle.std.proofs.Common.{◌≡◌, All, Option, sym, subst}
 use Rattle.fx_type.specs.declared.kind.FxType.{FxType}
-use Rattle.dg_types.specs.inner.TypedInputs.{source_types}
-use Rattle.dg_types.proofs.TypedTests.{one_type}
+use Rattle.dg_types.specs.inner.TypeInputs.{source_types}
+use Rattle.dg_types.proofs.InputTests.{one_type}
 use Rattle.dg_types.proofs.typed_rule.are_one.Goals as goal
 
 pub returns : goal.returns

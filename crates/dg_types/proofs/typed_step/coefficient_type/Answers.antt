@@ -4,9 +4,9 @@ use Rattle.dg_model.specs.GainParam.{param_type_of}
 use Rattle.dg_model.specs.Library.{row_of}
 use Rattle.dg_model.specs.KindRow.{FullRule}
 use Rattle.dg_model.specs.Periods.{known_at}
-use Rattle.dg_types.specs.inner.TypedInputs.{source_types}
-use Rattle.dg_types.proofs.TypedGreatest.{param_is}
-use Rattle.dg_types.proofs.TypedSums.{known_step}
+use Rattle.dg_types.specs.inner.TypeInputs.{source_types}
+use Rattle.dg_types.proofs.GreatestFrac.{param_is}
+use Rattle.dg_types.proofs.SumTypes.{known_step}
 use Rattle.dg_types.proofs.typed_step.coefficient_type.Goals as goal
 
 pub returns-in-Some : goal.returns-in-Some

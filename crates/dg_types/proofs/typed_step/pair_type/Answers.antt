@@ -2,7 +2,7 @@ use Rattle.std.proofs.Common.{◌∙◌}
 use Rattle.fx_type.specs.declared.kind.FxType.{FxType}
 use Rattle.fx_type.specs.FullType.{IsFullProduct, IsUnion}
 use Rattle.fx_type.specs.FullTypeOf.{full_product_of, union_of}
-use Rattle.dg_types.proofs.TypedSums.{given_is}
+use Rattle.dg_types.proofs.SumTypes.{given_is}
 use Rattle.dg_types.proofs.typed_step.pair_type.Goals as goal
 
 pub returns-in-Product : goal.returns-in-Product

@@ -1,5 +1,5 @@
 use Rattle.std.proofs.Common.{◌≡◌, false, not, length, None, sym, ap, ◌∙◌, arith}
-use Rattle.dg_types.proofs.Stepping.{step_fails, step_goes, step_ends}
+use Rattle.dg_types.proofs.AccumSteps.{step_fails, step_goes, step_ends}
 use Rattle.dg_types.proofs.typed_step.stepped.Goals as goal
 
 pub returns-then-is_none : goal.returns-then-is_none

@@ -3,8 +3,8 @@ use Rattle.std.proofs.lemmas.List.{length-map, length-set}
 use Rattle.dg_model.specs.TypeRounds.{sum_named}
 use Rattle.dg_model.specs.Periods.{known_at}
 use Rattle.dg_types.specs.declared.linked.Source.{Source}
-use Rattle.dg_types.specs.inner.TypedInputs.{source_types}
-use Rattle.dg_types.proofs.TypedSums.{sum_step, sum_stops, sum_ends, valid_more}
+use Rattle.dg_types.specs.inner.TypeInputs.{source_types}
+use Rattle.dg_types.proofs.SumTypes.{sum_step, sum_stops, sum_ends, valid_more}
 use Rattle.dg_types.proofs.typed_step.sum_at.Goals as goal
 
 pub returns-in_default : goal.returns-in_default

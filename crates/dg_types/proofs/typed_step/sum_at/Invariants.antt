@@ -1,6 +1,6 @@
 use Rattle.std.proofs.Common.{◌≡◌, take, drop, length, All}
 use Rattle.fx_type.specs.FxType.{IsType}
-use Rattle.dg_types.specs.inner.TypedInputs.{source_types, joined, terms_of}
+use Rattle.dg_types.specs.inner.TypeInputs.{source_types, joined, terms_of}
 use Rattle.dg_types.proofs.typed_step.sum_at.Given as goal
 
 abbrev pub invariant-loop-input : goal.invariant-loop-input

@@ -1,7 +1,7 @@
 use Rattle.std.proofs.Common.{◌≡◌, sym, subst}
 use Rattle.fx_type.specs.declared.spec.TypeSpec.{TypeSpec}
 use Rattle.dg_model.specs.TypeRounds.{sum_named}
-use Rattle.dg_types.proofs.Stepping.{first_steps}
+use Rattle.dg_types.proofs.AccumSteps.{first_steps}
 use Rattle.dg_types.proofs.typed_step.sum_named.Goals as goal
 
 pub returns-in-SameFirst : goal.returns-in-SameFirst

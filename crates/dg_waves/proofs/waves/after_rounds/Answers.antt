@@ -1,7 +1,7 @@
 use Rattle.std.proofs.Common.{◌≡◌, ◌<◌, ℕ, true, false, All, length, replicate, refl, sym, ap, subst, ◌∙◌, add-one, arith}
 use Rattle.dg_waves.specs.inner.Waves.{is_in}
 use Rattle.dg_waves.specs.Rounds.{round, after_rounds}
-use Rattle.dg_waves.proofs.Waved.{between_first, written_back}
+use Rattle.dg_waves.proofs.WaveRounds.{between_first, written_back}
 use Rattle.dg_waves.proofs.waves.after_rounds.Goals as goal
 
 pub wave-requires : goal.wave-requires

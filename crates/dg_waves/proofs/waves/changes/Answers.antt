@@ -3,7 +3,7 @@ use Rattle.std.proofs.lemmas.List.{drop_more, drop_all}
 use Rattle.std.proofs.lemmas.List.Elements.{All-push}
 use Rattle.dg_waves.specs.declared.waves.Change.{Change}
 use Rattle.dg_waves.specs.inner.Waves.{MarkedWait}
-use Rattle.dg_waves.proofs.Waved.{sought_kept, sought_found, unmarked}
+use Rattle.dg_waves.proofs.WaveRounds.{sought_kept, sought_found, unmarked}
 use Rattle.math_list.proofs.Places.{length_set}
 use Rattle.dg_waves.proofs.waves.changes.Goals as goal
 use Rattle.dg_waves.proofs.waves.changes.Goals.{in-Some+in_ok-push, in_default}

@@ -3,7 +3,7 @@ use Rattle.std.proofs.lemmas.Grind.{common_steps}
 use Rattle.std.proofs.lemmas.List.{drop_more}
 use Rattle.std.proofs.lemmas.Option.{slice_get-get_or}
 use Rattle.dg_waves.specs.inner.Waves.{Marked}
-use Rattle.dg_waves.proofs.Waved.{waits_more, marked_more, marked_same, counted_more}
+use Rattle.dg_waves.proofs.WaveRounds.{waits_more, marked_more, marked_same, counted_more}
 use Rattle.dg_waves.proofs.waves.let_wait.Goals as goal
 use Rattle.dg_waves.proofs.waves.let_wait.Goals.{then-not-marks-block+in_ok-push, else-not-marks-block}
 

@@ -3,7 +3,7 @@ use Rattle.std.proofs.lemmas.Bool.{true≢false}
 use Rattle.std.proofs.lemmas.List.{drop_more, drop_all}
 use Rattle.dg_waves.specs.declared.waves.Change.{Change}
 use Rattle.dg_waves.specs.inner.Waves.{written}
-use Rattle.dg_waves.proofs.Waved.{readers_marked_more}
+use Rattle.dg_waves.proofs.WaveRounds.{readers_marked_more}
 use Rattle.math_list.proofs.Places.{length_set}
 use Rattle.dg_waves.proofs.waves.write.Goals as goal
 

@@ -1,6 +1,6 @@
 use Rattle.std.proofs.Common.{◌≡◌, ℕ, ◌+◌, ◌-◌, ◌*◌, ◌++◌, refl, arith}
 use Rattle.fir_block.specs.Expanded.{line, chain_of}
-use Rattle.fir_block.proofs.Leaving.{one_over, all_over}
+use Rattle.fir_block.proofs.Remainder.{one_over, all_over}
 use Rattle.fir_block.proofs.expanding.put_chain.Goals as goal
 
 pub loop-k-init : goal.loop-k-init

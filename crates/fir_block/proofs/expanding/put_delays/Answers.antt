@@ -1,7 +1,7 @@
 use Rattle.std.proofs.Common.{◌≡◌, ◌∙◌, ℕ, ◌-◌, ◌++◌, map, length, refl, ap, arith}
 use Rattle.std.specs.List.{range_with_len}
 use Rattle.fir_block.specs.Expanded.{delay_block, delay_blocks}
-use Rattle.fir_block.proofs.Leaving.{one_over, all_over}
+use Rattle.fir_block.proofs.Remainder.{one_over, all_over}
 use Rattle.fir_block.proofs.expanding.put_delays.Goals as goal
 
 pub loop-k-init : goal.loop-k-init

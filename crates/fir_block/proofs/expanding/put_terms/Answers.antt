@@ -1,7 +1,7 @@
 use Rattle.std.proofs.Common.{◌≡◌, ℕ, ◌+◌, ◌-◌, ◌*◌, ◌++◌, map, ap, refl, arith}
 use Rattle.std.specs.List.{range_with_len}
 use Rattle.fir_block.specs.Expanded.{line, terms_of}
-use Rattle.fir_block.proofs.Leaving.{one_over, all_over}
+use Rattle.fir_block.proofs.Remainder.{one_over, all_over}
 use Rattle.fir_block.proofs.expanding.put_terms.Goals as goal
 
 pub loop-k-init : goal.loop-k-init

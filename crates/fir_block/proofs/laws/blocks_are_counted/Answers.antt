@@ -1,4 +1,4 @@
-use Rattle.fir_block.proofs.Counting.{counted}
+use Rattle.fir_block.proofs.Counts.{counted}
 use Rattle.fir_block.proofs.laws.blocks_are_counted.Goals as goal
 
 pub returns : goal.returns

@@ -1,6 +1,6 @@
 use Rattle.std.proofs.Common.{◌-◌, ◌∙◌, ap, length, take, drop, arith, length-drop}
 use Rattle.fx_io.specs.Sink.{also_took}
-use Rattle.fx_io.proofs.Taken.{also_took-rest, rest-whole}
+use Rattle.fx_io.proofs.SinkBytes.{also_took-rest, rest-whole}
 use Rattle.fx_io.proofs.sink.put_all.Goals as goal
 
 pub loop-done-preserved : goal.loop-done-preserved

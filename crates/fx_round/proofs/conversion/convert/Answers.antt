@@ -8,7 +8,7 @@ use Rattle.fx_type.specs.declared.kind.FxType.TheVariants.{Num, Logical}
 use Rattle.fx_type.specs.FxType.{IsType, InRange}
 use Rattle.fx_type.specs.Conversion.{Settles, StoresQuotient}
 use Rattle.math_num.proofs.Integers.{gap_is, gap_none}
-use Rattle.fx_round.proofs.Converting.{converts_up, converts_down}
+use Rattle.fx_round.proofs.ConversionSteps.{converts_up, converts_down}
 use Rattle.fx_round.proofs.conversion.convert.Goals as goal
 
 -- a number type that is valid, and the limits of its frac

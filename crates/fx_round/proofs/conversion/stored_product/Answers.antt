@@ -5,8 +5,8 @@ use Rattle.std.proofs.lemmas.Nat.{le_or_l, le_or_r}
 use Rattle.math_num.specs.Word.{InWord}
 use Rattle.fx_type.specs.declared.kind.FxType.TheVariants.{Num}
 use Rattle.fx_type.specs.Conversion.{Settles}
-use Rattle.fx_round.proofs.Biased.{word_fits}
-use Rattle.fx_round.proofs.Widening.{raised_stays, raised_stays_in, settles_itself}
+use Rattle.fx_round.proofs.Bias.{word_fits}
+use Rattle.fx_round.proofs.UpShifts.{raised_stays, raised_stays_in, settles_itself}
 use Rattle.fx_round.proofs.conversion.stored_product.Goals as goal
 use Rattle.fx_round.proofs.conversion.stored_product.Goals.{Then-from-most-le63, After-shift_up-shifted}
 

@@ -4,7 +4,7 @@ use Rattle.std.proofs.lemmas.Int.{to_z-of_z}
 use Rattle.std.proofs.lemmas.Nat.{le_or_l, le_or_r}
 use Rattle.fx_type.specs.declared.kind.FxType.TheVariants.{Num}
 use Rattle.fx_type.specs.Conversion.{Rounds, Settles}
-use Rattle.fx_round.proofs.Biased.{word_fits, word_low}
+use Rattle.fx_round.proofs.Bias.{word_fits, word_low}
 use Rattle.fx_round.proofs.conversion.stored_quotient.Goals as goal
 use Rattle.fx_round.proofs.conversion.stored_quotient.Goals.{Then-from-by-le63}
 

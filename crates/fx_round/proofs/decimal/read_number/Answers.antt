@@ -2,8 +2,8 @@ use Rattle.std.proofs.Common.{◌≡◌, ℕ, ◌+◌, ◌≤◌, min, length, L
 use Rattle.std.specs.Int.{w16}
 use Rattle.std.proofs.lemmas.Int.{to_z-of_z}
 use Rattle.std.specs.Str.Parse.{digits_value_after}
-use Rattle.fx_round.specs.inner.DecimalReading.{whole_digits, fraction_of, all_digits, front_digits, after_digits, after_sign, fraction_digits, after_fraction, exponent_of}
-use Rattle.fx_round.proofs.Reading.{front_pass, fraction_pass}
+use Rattle.fx_round.specs.inner.PlainDecimals.{whole_digits, fraction_of, all_digits, front_digits, after_digits, after_sign, fraction_digits, after_fraction, exponent_of}
+use Rattle.fx_round.proofs.Digits.{front_pass, fraction_pass}
 use Rattle.fx_round.proofs.NumeralForms.{no_digit, no_exponent, read_known}
 use Rattle.fx_round.proofs.decimal.read_number.Goals as goal
 

@@ -1,6 +1,6 @@
 use Rattle.std.proofs.Common.{◌≡◌, ◌+◌, get_or, arith}
 use Rattle.std.specs.Char.{digit_value}
-use Rattle.fx_round.proofs.Reading.{digit_is, digit_range, after_more}
+use Rattle.fx_round.proofs.Digits.{digit_is, digit_range, after_more}
 use Rattle.fx_round.proofs.decimal.read_on.Goals as goal
 
 pub loop-byte-preserved : goal.loop-byte-preserved

@@ -1,5 +1,5 @@
 use Rattle.std.proofs.Common.{◌≡◌, ◌∙◌, sym, arith, inl, inr, take, drop, length, ap}
-use Rattle.fx_round.proofs.Reading.{front_split}
+use Rattle.fx_round.proofs.Digits.{front_split}
 use Rattle.fx_round.proofs.decimal.split_digits.Goals as goal
 
 pub returns-then-not-is_ascii_digit-clause-front : goal.returns-then-not-is_ascii_digit-clause-front

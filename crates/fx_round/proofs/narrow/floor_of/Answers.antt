@@ -3,7 +3,7 @@ use Rattle.std.specs.Int.{w64}
 use Rattle.std.specs.Int.Signed.{shr_z}
 use Rattle.std.proofs.lemmas.Int.{to_z-of_z}
 use Rattle.math_num.proofs.Shifts.{shr-fits}
-use Rattle.fx_round.proofs.Biased.{shift_floors}
+use Rattle.fx_round.proofs.Bias.{shift_floors}
 use Rattle.fx_round.proofs.narrow.floor_of.Goals as goal
 
 pub returns : goal.returns

@@ -4,7 +4,7 @@ use Rattle.std.specs.Int.Signed.{shr_z}
 use Rattle.std.proofs.lemmas.Int.{to_z-of_z}
 use Rattle.math_num.proofs.Arithmetic.{double}
 use Rattle.math_num.proofs.Shifts.{shr-fits}
-use Rattle.fx_round.proofs.Biased.{shift_floors, halves_floor, half_fits}
+use Rattle.fx_round.proofs.Bias.{shift_floors, halves_floor, half_fits}
 use Rattle.fx_round.proofs.narrow.floor_past_half.Goals as goal
 
 pub overflow_sub-result : goal.overflow_sub-result

@@ -1,4 +1,4 @@
-use Rattle.fx_round.proofs.Biased.{minus_shifted}
+use Rattle.fx_round.proofs.Bias.{minus_shifted}
 use Rattle.fx_round.proofs.narrow.minus_power.Goals as goal
 
 pub returns : goal.returns

@@ -1,4 +1,4 @@
-use Rattle.fx_round.proofs.Biased.{odd_bit-is}
+use Rattle.fx_round.proofs.Bias.{odd_bit-is}
 use Rattle.fx_round.proofs.narrow.odd_bit.Goals as goal
 
 pub returns : goal.returns

@@ -5,7 +5,7 @@ use Rattle.std.proofs.lemmas.Int.{ints, to_z-of_z}
 use Rattle.math_num.specs.Word.{IsWrapped}
 use Rattle.math_num.proofs.Shifts.{shr-fits, shl_fits, wrapped_signed}
 use Rattle.math_num.proofs.Words.{mask-suc, signed_word, word_width}
-use Rattle.fx_round.proofs.Biased.{masked_wrapped}
+use Rattle.fx_round.proofs.Bias.{masked_wrapped}
 use Rattle.fx_round.proofs.narrow.residue.Goals as goal
 use Rattle.fx_round.proofs.narrow.residue.Goals.{After-cast_unsigned}
 

@@ -4,7 +4,7 @@ use Rattle.std.proofs.lemmas.Int.{ints, to_z-of_z}
 use Rattle.math_num.proofs.Arithmetic.{double}
 use Rattle.fx_type.specs.Conversion.{twice, RoundsDown}
 use Rattle.fx_round.specs.inner.Narrow.{IsTie}
-use Rattle.fx_round.proofs.Biased.{toward_zero, ties_up, away_from_zero, ties_even}
+use Rattle.fx_round.proofs.Bias.{toward_zero, ties_up, away_from_zero, ties_even}
 use Rattle.fx_round.proofs.narrow.rounded_down.Goals as goal
 
 -- a number below 0 has room for what is less than a unit

@@ -1,7 +1,7 @@
 use Rattle.std.proofs.Common.{◌∙◌}
 use Rattle.std.specs.Int.{w64}
 use Rattle.std.proofs.lemmas.Int.{to_z-of_z}
-use Rattle.fx_round.proofs.Biased.{clamped}
+use Rattle.fx_round.proofs.Bias.{clamped}
 use Rattle.fx_round.proofs.narrow.stored_number.Goals as goal
 
 pub returns-then-saturate : goal.returns-then-saturate

@@ -4,9 +4,9 @@ use Rattle.std.specs.Int.Signed.{shr_z}
 use Rattle.std.proofs.lemmas.Int.{ints, to_z-of_z}
 use Rattle.math_num.proofs.Arithmetic.{double}
 use Rattle.math_num.proofs.Shifts.{shr-fits}
-use Rattle.fx_round.specs.inner.Split.{IsSplit}
+use Rattle.fx_round.specs.inner.Parts.{IsSplit}
 use Rattle.fx_round.proofs.Exactly.{part_of}
-use Rattle.fx_round.proofs.Rounding.{rounds_next, flag_small, odd_test, even_test}
+use Rattle.fx_round.proofs.Modes.{rounds_next, flag_small, odd_test, even_test}
 use Rattle.fx_round.proofs.Shifts.{near_split, near_room}
 use Rattle.fx_round.proofs.split.by_rest.Goals as goal
 use Rattle.fx_round.proofs.split.by_rest.Goals.{After-cast_unsigned, After-from}

@@ -1,6 +1,6 @@
 use Rattle.std.proofs.Common.{◌^◌}
 use Rattle.fx_type.specs.declared.rounding.Rounding.TheVariants.{Nearest}
-use Rattle.fx_round.proofs.Worded.{by_word, shift_by_word}
+use Rattle.fx_round.proofs.ByWord.{by_word, shift_by_word}
 use Rattle.fx_round.proofs.split.rounded_far.Goals as goal
 
 pub returns-in-Nearest : goal.returns-in-Nearest

@@ -1,7 +1,7 @@
 use Rattle.std.proofs.Common.{◌≡◌, pos, ◌+ℤ◌, FitsSigned, to_z, of_z, arith, sym, rules}
 use Rattle.std.specs.Int.{w128}
 use Rattle.std.proofs.lemmas.Int.{ints, to_z-of_z}
-use Rattle.fx_round.proofs.Rounding.{rounds_upper, rounds_lower, odd_test, even_test}
+use Rattle.fx_round.proofs.Modes.{rounds_upper, rounds_lower, odd_test, even_test}
 use Rattle.fx_round.proofs.split.rounded_value.Goals as goal
 
 pub returns-then-takes_upper : goal.returns-then-takes_upper

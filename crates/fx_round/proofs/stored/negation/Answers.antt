@@ -2,7 +2,7 @@ use Rattle.std.proofs.Common.{FitsSigned, arith, rules}
 use Rattle.std.specs.Int.{w128}
 use Rattle.std.proofs.lemmas.Int.{ints}
 use Rattle.fx_round.specs.declared.split.Part.TheVariants.{BelowHalf, Half, AboveHalf}
-use Rattle.fx_round.specs.inner.Split.{IsPart}
+use Rattle.fx_round.specs.inner.Parts.{IsPart}
 use Rattle.fx_round.proofs.Sizes.{mirror_split, mirror_whole}
 use Rattle.fx_round.proofs.stored.negation.Goals as goal
 

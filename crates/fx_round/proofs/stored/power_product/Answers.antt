@@ -1,6 +1,6 @@
 use Rattle.std.proofs.Common.{◌≡◌, ◌*◌, ◌^◌, ℕ, ap, sym, ◌∙◌, refl, arith}
 use Rattle.std.proofs.lemmas.Int.{ints}
-use Rattle.fx_round.specs.inner.Split.{mixed_count}
+use Rattle.fx_round.specs.inner.Parts.{mixed_count}
 use Rattle.fx_round.proofs.Sizes.{double_step, too_much, magnitude_is}
 use Rattle.fx_round.proofs.stored.power_product.Goals as goal
 

@@ -2,7 +2,7 @@ use Rattle.std.proofs.Common.{◌≡◌, ◌+◌, ◌*◌, ◌/◌, ◌%◌, ◌
 use Rattle.std.specs.Int.{w128}
 use Rattle.std.proofs.lemmas.Int.{ints}
 use Rattle.std.proofs.lemmas.Nat.{one_shl, and_mask, shr_le}
-use Rattle.fx_round.specs.inner.Split.{IsPart}
+use Rattle.fx_round.specs.inner.Parts.{IsPart}
 use Rattle.math_num.proofs.Arithmetic.{double}
 use Rattle.fx_round.proofs.Sizes.{halved_whole, halved_past}
 use Rattle.fx_round.proofs.stored.power_quotient.Goals as goal

@@ -3,7 +3,7 @@ use Rattle.std.specs.Int.{w128}
 use Rattle.std.proofs.lemmas.Int.{ints, to_z-of_z}
 use Rattle.fx_type.specs.FxType.{lowest_of, highest_of}
 use Rattle.fx_type.specs.Conversion.{Saturates}
-use Rattle.fx_round.specs.inner.Split.{IsMagnitude}
+use Rattle.fx_round.specs.inner.Parts.{IsMagnitude}
 use Rattle.fx_round.proofs.Sizes.{stores_high, huge_high, huge_low, highest_bound}
 use Rattle.fx_round.proofs.stored.settle_size.Goals as goal
 

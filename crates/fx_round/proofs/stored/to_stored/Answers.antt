@@ -3,7 +3,7 @@ use Rattle.std.specs.Int.{w16, w128, int_gap}
 use Rattle.std.proofs.lemmas.Int.{ints, to_z-of_z}
 use Rattle.fx_type.specs.declared.kind.FxType.TheVariants.{Num}
 use Rattle.fx_type.specs.FxType.{IsType}
-use Rattle.fx_round.specs.inner.Split.{IsSize}
+use Rattle.fx_round.specs.inner.Parts.{IsSize}
 use Rattle.fx_round.proofs.Sizes.{ten_positive}
 use Rattle.fx_round.proofs.stored.to_stored.Goals as goal
 

@@ -3,7 +3,7 @@ use Rattle.std.proofs.lemmas.Bool.{cond-true}
 use Rattle.std.proofs.lemmas.Bool.Decides.{nat_tests}
 use Rattle.std.proofs.lemmas.List.{drop-drop, take_rest}
 use Rattle.fx_text.specs.Strings.{string_behind}
-use Rattle.fx_tables.specs.inner.PlanReading.{counted_entry, pipeline_entry}
+use Rattle.fx_tables.specs.inner.PlainPlan.{counted_entry, pipeline_entry}
 use Rattle.fx_tables.proofs.entry.read_pipeline.Goals as goal
 
 entry_at : (quote inner rest content : List ℕ) (n : ℕ) → inner ≡ drop 1 quote → rest ≡ drop (1 + n) quote → get_or quote 0 0 ≡ 34 → string_behind inner ≡ Some (content, drop n inner) → counted_entry (Some (content, rest)) ≡ pipeline_entry quote

@@ -6,7 +6,7 @@ use Rattle.std.proofs.lemmas.Bool.{OnTrue_at, false≢true, eqb-true}
 use Rattle.std.proofs.lemmas.List.{append-nil, nil_from_length}
 use Rattle.fx_tables.specs.declared.entry.PlanEntry.{PlanEntry}
 use Rattle.fx_tables.specs.Plan.{cycles_of, multipliers_of, pipeline_of}
-use Rattle.fx_tables.specs.inner.PlanReading.{entry_of, entries_fault}
+use Rattle.fx_tables.specs.inner.PlainPlan.{entry_of, entries_fault}
 use Rattle.fx_tables.proofs.PlanLemmas.{entries_fault-bad, entries_fault-good, entries-more}
 use Rattle.fx_tables.proofs.PlanText.{plan_said, fault_said}
 use Rattle.fx_tables.proofs.plan.read_plan.Goals as goal

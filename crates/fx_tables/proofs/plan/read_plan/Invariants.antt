@@ -1,7 +1,7 @@
 use Rattle.std.proofs.Common.{◌≡◌, ◌+◌, ◌≤◌, ◌++◌, List, length}
 use Rattle.std.specs.List.{filter_map}
 use Rattle.std.specs.Str.Lines.{lines}
-use Rattle.fx_tables.specs.inner.PlanReading.{entry_of, entries_of, entries_fault, plan_fault}
+use Rattle.fx_tables.specs.inner.PlainPlan.{entry_of, entries_of, entries_fault, plan_fault}
 use Rattle.fx_tables.specs.inner.Draft.{Describes, IsDraftInRange}
 use Rattle.fx_tables.specs.declared.entry.PlanEntry.{PlanEntry}
 use Rattle.fx_tables.proofs.plan.read_plan.Given as goal

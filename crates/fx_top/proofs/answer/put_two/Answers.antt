@@ -1,4 +1,4 @@
-use Rattle.cmd_check.proofs.Handing.{took_behind}
+use Rattle.cmd_check.proofs.PieceBytes.{took_behind}
 use Rattle.fx_top.proofs.answer.put_two.Goals as goal
 
 pub returns-in-Err-clause-cut : goal.returns-in-Err-clause-cut

@@ -2,7 +2,7 @@ use Rattle.std.proofs.Common.{◌∷◌, ℕ, List, [], take, take_all, ap, subs
 use Rattle.std.specs.List.{flat_map}
 use Rattle.fx_io.specs.Sink.{TookProperPrefix, also_took}
 use Rattle.fx_top.specs.Messages.{names_end}
-use Rattle.fx_io.proofs.Taken.{took-split}
+use Rattle.fx_io.proofs.SinkBytes.{took-split}
 use Rattle.fx_top.proofs.Sayings.{names-split, said-cut, said-more}
 use Rattle.fx_top.proofs.answer.say_names.Goals as goal
 

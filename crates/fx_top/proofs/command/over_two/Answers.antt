@@ -1,6 +1,6 @@
 use Rattle.std.proofs.Common.{sym, ap, ◌∙◌}
 use Rattle.std.specs.Option.{option_map}
-use Rattle.fx_top.specs.inner.Named.{over_files}
+use Rattle.fx_top.specs.inner.FileCommands.{over_files}
 use Rattle.fx_top.proofs.command.over_two.Goals as goal
 
 pub returns-in-Some-clause-is : goal.returns-in-Some-clause-is

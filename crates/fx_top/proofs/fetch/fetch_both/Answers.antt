@@ -4,9 +4,9 @@ use Rattle.fx_io.specs.Cause.{Rose}
 use Rattle.fx_io.specs.Shelf.{Fetched, Told}
 use Rattle.fx_top.specs.Call.{files_in, file_limit}
 use Rattle.fx_top.specs.Output.{IsPlanText}
-use Rattle.fx_top.specs.inner.Fetching.{IsPairAnswer}
+use Rattle.fx_top.specs.inner.Fetch.{IsPairAnswer}
 use Rattle.fx_top.specs.inner.Tasks.{word_of}
-use Rattle.fx_top.proofs.Unfetched.{moved, pair-first}
+use Rattle.fx_top.proofs.FetchFaults.{moved, pair-first}
 use Rattle.fx_top.proofs.fetch.fetch_both.Goals as goal
 
 pub returns-in-Err-clause-refused : goal.returns-in-Err-clause-refused

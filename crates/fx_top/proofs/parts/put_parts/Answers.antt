@@ -1,6 +1,6 @@
 use Rattle.std.proofs.Common.{List, ℕ, subst}
 use Rattle.fx_io.specs.Sink.{TookProperPrefix}
-use Rattle.fx_io.proofs.Taken.{took-split}
+use Rattle.fx_io.proofs.SinkBytes.{took-split}
 use Rattle.fx_top.proofs.Sayings.{parts-split}
 use Rattle.fx_top.proofs.parts.put_parts.Goals as goal
 

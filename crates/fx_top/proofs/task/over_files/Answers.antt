@@ -6,7 +6,7 @@ use Rattle.fx_top.specs.Command.{PlanWord, plan_files}
 use Rattle.fx_top.specs.Output.{IsPlanText}
 use Rattle.fx_top.specs.inner.Tasks.{command_of, word_of}
 use Rattle.fx_top.proofs.Tasks.{files-are, task-caused, task-written}
-use Rattle.fx_top.proofs.Unfetched.{pair-unfetched, pair-unwritten}
+use Rattle.fx_top.proofs.FetchFaults.{pair-unfetched, pair-unwritten}
 use Rattle.fx_top.proofs.task.over_files.Goals as goal
 
 pub returns-in-Err-clause-cause : goal.returns-in-Err-clause-cause

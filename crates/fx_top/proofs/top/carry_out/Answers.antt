@@ -6,7 +6,7 @@ use Rattle.fx_top.specs.declared.command.Command.{Command as CommandOf}
 use Rattle.fx_top.specs.Call.{Files, Stream, files_in, stream_in}
 use Rattle.fx_top.specs.Caused.{IsCarriedOut}
 use Rattle.fx_top.specs.Command.{Asked}
-use Rattle.fx_top.specs.inner.Named.{named}
+use Rattle.fx_top.specs.inner.FileCommands.{named}
 use Rattle.fx_top.proofs.top.carry_out.Goals as goal
 
 -- what is right for the command that was read of the words is right for what they ask for

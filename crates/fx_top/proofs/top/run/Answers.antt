@@ -1,6 +1,6 @@
 use Rattle.std.proofs.Common.{map, string_bytes}
 use Rattle.fx_top.specs.Call.{files_in, stream_in}
-use Rattle.fx_top.proofs.Running.{due-clause, complete-clause}
+use Rattle.fx_top.proofs.Status.{due-clause, complete-clause}
 use Rattle.fx_top.proofs.Samples.{sample_due-clause, sample_complete-clause}
 use Rattle.fx_top.proofs.top.run.Goals as goal
 

@@ -1,4 +1,4 @@
-use Rattle.fx_type.proofs.Stored.{nearest_one}
+use Rattle.fx_type.proofs.Decimals.{nearest_one}
 use Rattle.fx_type.proofs.laws.nearest_is_one.Goals as goal
 
 pub returns : goal.returns

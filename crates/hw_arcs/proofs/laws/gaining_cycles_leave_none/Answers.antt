@@ -1,4 +1,4 @@
-use Rattle.hw_arcs.proofs.Leaving.{none_left}
+use Rattle.hw_arcs.proofs.GainfulCycles.{none_left}
 use Rattle.hw_arcs.proofs.laws.gaining_cycles_leave_none.Goals as goal
 
 pub returns : goal.returns

@@ -1,5 +1,5 @@
 use Rattle.std.proofs.Common.{length, drop, ap, ◌∙◌, arith}
-use Rattle.hw_arcs.proofs.Closing.{given_of, ended_bound, place_inside, ring_after, gaining_is}
+use Rattle.hw_arcs.proofs.Outcome.{given_of, ended_bound, place_inside, ring_after, gaining_is}
 use Rattle.hw_arcs.proofs.solving.cycle_behind.Goals as goal
 
 pub walk_back-requires-clause-given : goal.walk_back-requires-clause-given

@@ -1,8 +1,8 @@
 use Rattle.std.proofs.Common.{ℕ, ◌∙◌, List, ap, length, subst, sym, arith}
 use Rattle.hw_arcs.specs.Found.{AreKnown, IsWhole}
 use Rattle.hw_arcs.specs.inner.State.{AreRows, AreWithin, State, seen}
-use Rattle.hw_arcs.proofs.Closing.{found_is}
-use Rattle.hw_arcs.proofs.Stepping.{begun_by, begun_within}
+use Rattle.hw_arcs.proofs.Outcome.{found_is}
+use Rattle.hw_arcs.proofs.Steps.{begun_by, begun_within}
 use Rattle.hw_arcs.proofs.solving.latencies.Goals as goal
 
 pub parts_of-requires-clause-known : goal.parts_of-requires-clause-known

@@ -7,7 +7,7 @@ use Rattle.hw_arcs.specs.declared.relaxing.Step.TheVariants.{Settled, Above}
 use Rattle.hw_arcs.specs.Found.{AreKnown, IsGaining, most_gain, most_joined_blocks}
 use Rattle.hw_arcs.specs.inner.State.{State, AreRows, CanGoBack, IsAbove, IsRelaxing, IsState, IsStepEnd, IsStepOn, seen}
 use Rattle.hw_arcs.specs.Latencies.{latency_at}
-use Rattle.hw_arcs.proofs.Closing.{cycle_there}
+use Rattle.hw_arcs.proofs.Outcome.{cycle_there}
 use Rattle.hw_arcs.proofs.solving.relax_all.Goals as goal
 
 -- what a step tells

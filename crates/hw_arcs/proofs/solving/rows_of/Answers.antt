@@ -1,7 +1,7 @@
 use Rattle.std.proofs.Common.{false, get_or, arith}
 use Rattle.std.proofs.lemmas.Option.{slice_get-get_or}
 use Rattle.hw_arcs.specs.declared.arc.Arc.{Arc}
-use Rattle.hw_arcs.proofs.Stepping.{rows_begin, rows_next, rows_pass, rows_end}
+use Rattle.hw_arcs.proofs.Steps.{rows_begin, rows_next, rows_pass, rows_end}
 use Rattle.hw_arcs.proofs.solving.rows_of.Goals.{then-arc+in_ok-push_at, else-arc}
 use Rattle.hw_arcs.proofs.solving.rows_of.Goals as goal
 

@@ -1,6 +1,6 @@
 use Rattle.std.proofs.Common.{rules, ◌≡◌, ◌++◌, ◌∷◌, [], Some, length}
 use Rattle.hw_build.specs.declared.asks.Ask.{Ask}
-use Rattle.hw_build.proofs.Gathered.{asks_later}
+use Rattle.hw_build.proofs.AskLists.{asks_later}
 use Rattle.hw_build.proofs.asks.ask_later.Goals as goal
 
 pub returns : goal.returns

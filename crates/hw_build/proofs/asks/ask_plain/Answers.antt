@@ -1,6 +1,6 @@
 use Rattle.std.proofs.Common.{arith, ◌≡◌, ℕ, subst}
-use Rattle.hw_build.specs.inner.Seeking.{AsksAll, hub_from, plain_want}
-use Rattle.hw_build.proofs.Gathered.{asks_more}
+use Rattle.hw_build.specs.inner.EndSearch.{AsksAll, hub_from, plain_want}
+use Rattle.hw_build.proofs.AskLists.{asks_more}
 use Rattle.hw_build.proofs.asks.ask_plain.Goals as goal
 
 pub loop-element-preserved : goal.loop-element-preserved

@@ -1,4 +1,4 @@
-use Rattle.hw_build.specs.inner.Seeking.{AsksAll, hub_from, plain_want}
+use Rattle.hw_build.specs.inner.EndSearch.{AsksAll, hub_from, plain_want}
 use Rattle.hw_build.proofs.asks.ask_plain.Given as goal
 
 abbrev pub invariant-loop-element : goal.invariant-loop-element

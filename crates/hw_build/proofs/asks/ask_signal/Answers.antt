@@ -1,7 +1,7 @@
 use Rattle.std.proofs.Common.{◌≡◌, ◌+◌, ◌++◌, ◌∷◌, [], ℕ, None, arith, subst}
 use Rattle.hw_build.specs.declared.asks.Ask.{Ask}
-use Rattle.hw_build.specs.inner.Seeking.{AsksAll, hub_from, unasked}
-use Rattle.hw_build.proofs.Gathered.{asks_more, asks_now}
+use Rattle.hw_build.specs.inner.EndSearch.{AsksAll, hub_from, unasked}
+use Rattle.hw_build.proofs.AskLists.{asks_more, asks_now}
 use Rattle.hw_build.proofs.asks.ask_signal.Goals as goal
 
 pub loop-element-preserved : goal.loop-element-preserved

@@ -2,7 +2,7 @@ use Rattle.std.proofs.Common.{◌≡◌, ℕ, Some, None, slice_index_or, slice_
 use Rattle.std.proofs.lemmas.Option.{slice_get-get_or}
 use Rattle.hw_build.specs.declared.asks.Ask.{Ask}
 use Rattle.hw_build.specs.inner.Wants.{nets_at}
-use Rattle.hw_build.proofs.Gathered.{nets_more}
+use Rattle.hw_build.proofs.AskLists.{nets_more}
 use Rattle.hw_build.proofs.asks.nets_of.Goals as goal
 
 abbrev no_ask : Ask

@@ -1,4 +1,4 @@
-use Rattle.hw_build.specs.inner.Seeking.{AreNets}
+use Rattle.hw_build.specs.inner.EndSearch.{AreNets}
 use Rattle.hw_build.specs.inner.Wants.{nets_at}
 use Rattle.hw_build.proofs.asks.nets_of.Given as goal
 

@@ -2,7 +2,7 @@ use Rattle.std.proofs.Common.{arith}
 use Rattle.dg_model.specs.Attributes.{attributes_of}
 use Rattle.dg_model.specs.Solves.{shown_width}
 use Rattle.math_list.proofs.Sums.{sum_last}
-use Rattle.hw_build.proofs.Parting.{begins_more}
+use Rattle.hw_build.proofs.MuxNets.{begins_more}
 use Rattle.hw_build.proofs.block_inputs.put_begins.Goals as goal
 
 pub loop-port-preserved : goal.loop-port-preserved

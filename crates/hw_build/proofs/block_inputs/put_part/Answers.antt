@@ -1,7 +1,7 @@
 use Rattle.std.proofs.Common.{◌≡◌, ◌<◌, ℕ, ◌+◌, ◌-◌, ◌∙◌, ap, sym, subst, arith}
 use Rattle.hw_build.specs.inner.Offers.{ArePartsTo}
 use Rattle.hw_build.specs.inner.Operands.{offered_at}
-use Rattle.hw_build.proofs.Parting.{parts_more, parts_next, widths}
+use Rattle.hw_build.proofs.MuxNets.{parts_more, parts_next, widths}
 use Rattle.hw_build.proofs.block_inputs.put_part.Goals as goal
 
 pub loop-left-preserved : goal.loop-left-preserved

@@ -1,6 +1,6 @@
 use Rattle.std.proofs.Common.{ℕ, subst, sym, ◌∙◌}
-use Rattle.hw_build.specs.inner.Looping.{Reaches}
-use Rattle.hw_build.proofs.Reaching.{block_skipped}
+use Rattle.hw_build.specs.inner.ElementLoop.{Reaches}
+use Rattle.hw_build.proofs.HubNumbers.{block_skipped}
 use Rattle.hw_build.proofs.blocks.put_block.Goals as goal
 
 pub returns-then-is_input : goal.returns-then-is_input

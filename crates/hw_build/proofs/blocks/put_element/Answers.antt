@@ -2,9 +2,9 @@ use Rattle.std.proofs.Common.{rules, ◌≡◌, ◌∙◌, ◌<◌, ◌^◌, ℕ
 use Rattle.std.proofs.lemmas.Option.{slice_get_within}
 use Rattle.std.proofs.lemmas.Result.{on_ok_weaker}
 use Rattle.hw_net.specs.Growing.{IsConnected, IsResize}
-use Rattle.hw_build.specs.inner.Designed.{timing_for}
-use Rattle.hw_build.proofs.Looped.{hub_fits, element_waits, element_reached}
-use Rattle.hw_build.proofs.Piping.{resize_kept}
+use Rattle.hw_build.specs.inner.DesignTimes.{timing_for}
+use Rattle.hw_build.proofs.LoopElement.{hub_fits, element_waits, element_reached}
+use Rattle.hw_build.proofs.Stages.{resize_kept}
 use Rattle.hw_build.proofs.blocks.put_element.Goals as goal
 
 pub put_one-requires-clause-going : goal.put_one-requires-clause-going

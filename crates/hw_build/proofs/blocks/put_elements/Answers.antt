@@ -4,8 +4,8 @@ use Rattle.std.proofs.lemmas.Option.{slice_get_read}
 use Rattle.dg_model.specs.declared.diagram.Block.{Block}
 use Rattle.dg_model.specs.declared.diagram.Diagram.{Diagram}
 use Rattle.hw_build.specs.inner.HubPlaces.{hub_start}
-use Rattle.hw_build.specs.inner.Looping.{Reaches, roots_of}
-use Rattle.hw_build.proofs.Begun.{begun_reaches, all_stand, input_spots}
+use Rattle.hw_build.specs.inner.ElementLoop.{Reaches, roots_of}
+use Rattle.hw_build.proofs.BlockLoops.{begun_reaches, all_stand, input_spots}
 use Rattle.hw_build.proofs.blocks.put_elements.Goals as goal
 
 pub loop-block-init : goal.loop-block-init

@@ -1,5 +1,5 @@
 use Rattle.hw_build.specs.inner.HubPlaces.{hub_start}
-use Rattle.hw_build.specs.inner.Looping.{Reaches}
+use Rattle.hw_build.specs.inner.ElementLoop.{Reaches}
 use Rattle.hw_build.proofs.blocks.put_elements.Given as goal
 
 abbrev pub invariant-loop-block : goal.invariant-loop-block

@@ -1,7 +1,7 @@
 use Rattle.std.proofs.Common.{sym, subst, ◌∙◌, arith}
 use Rattle.hw_build.specs.inner.Offers.{Offer}
-use Rattle.hw_build.proofs.EnteringOne.{args_are, one_entered}
-use Rattle.hw_build.proofs.EnteringProduct.{product_word, shared_entered, multiplying}
+use Rattle.hw_build.proofs.BlockElement.{args_are, one_entered}
+use Rattle.hw_build.proofs.ProductElement.{product_word, shared_entered, multiplying}
 use Rattle.std.proofs.lemmas.Option.{slice_get_within}
 use Rattle.std.proofs.lemmas.Result.{IfOk-weaker}
 use Rattle.hw_build.proofs.blocks.put_one.Goals as goal

@@ -3,8 +3,8 @@ use Rattle.dg_model.specs.declared.diagram.Diagram.{Diagram}
 use Rattle.dg_model.specs.Attributes.{attributes_of}
 use Rattle.dg_model.specs.Solves.{IsShown, shown_width}
 use Rattle.hw_build.specs.inner.HubPlaces.{hub_at}
-use Rattle.hw_build.specs.inner.Looping.{Reaches, port_start}
-use Rattle.hw_build.proofs.Reaching.{hub_is, port_ends}
+use Rattle.hw_build.specs.inner.ElementLoop.{Reaches, port_start}
+use Rattle.hw_build.proofs.HubNumbers.{hub_is, port_ends}
 use Rattle.hw_build.proofs.blocks.put_port.Goals as goal
 
 pub loop-element-init : goal.loop-element-init

@@ -1,5 +1,5 @@
 use Rattle.std.specs.Prelude.{◌+◌, ◌-◌}
-use Rattle.hw_build.specs.inner.Looping.{Reaches, port_start}
+use Rattle.hw_build.specs.inner.ElementLoop.{Reaches, port_start}
 use Rattle.hw_build.proofs.blocks.put_port.Given as goal
 
 abbrev pub invariant-loop-element : goal.invariant-loop-element

@@ -1,7 +1,7 @@
 use Rattle.std.proofs.Common.{◌≡◌, ℕ, ◌+◌, ◌-◌, subst, arith, ◌∙◌}
 use Rattle.hw_build.specs.inner.HubPlaces.{hub_start}
-use Rattle.hw_build.specs.inner.Looping.{Reaches, port_start}
-use Rattle.hw_build.proofs.Reaching.{block_ends}
+use Rattle.hw_build.specs.inner.ElementLoop.{Reaches, port_start}
+use Rattle.hw_build.proofs.HubNumbers.{block_ends}
 use Rattle.dg_model.specs.Solves.{shown_ports}
 use Rattle.hw_build.proofs.blocks.put_ports.Goals as goal
 

@@ -1,4 +1,4 @@
-use Rattle.hw_build.specs.inner.Looping.{Reaches, port_start}
+use Rattle.hw_build.specs.inner.ElementLoop.{Reaches, port_start}
 use Rattle.hw_build.proofs.blocks.put_ports.Given as goal
 
 abbrev pub invariant-loop-port : goal.invariant-loop-port

@@ -1,9 +1,9 @@
 use Rattle.std.proofs.Common.{refl, ◌∙◌}
 use Rattle.std.proofs.lemmas.Result.{on_ok_weaker}
-use Rattle.hw_build.specs.inner.Building.{empty_circuit}
-use Rattle.hw_build.specs.inner.Designed.{times_for}
-use Rattle.hw_build.proofs.Assembling.{words_stand, steps_begin, steps_set, steps_fill}
-use Rattle.hw_build.proofs.Composed.{inputs_begin}
+use Rattle.hw_build.specs.inner.BuildSteps.{empty_circuit}
+use Rattle.hw_build.specs.inner.DesignTimes.{times_for}
+use Rattle.hw_build.proofs.StepNeeds.{words_stand, steps_begin, steps_set, steps_fill}
+use Rattle.hw_build.proofs.StepsTogether.{inputs_begin}
 use Rattle.hw_build.proofs.building.put_nets.Goals as goal
 
 pub put_lines-requires-clause-designed : goal.put_lines-requires-clause-designed

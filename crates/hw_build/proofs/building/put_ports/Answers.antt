@@ -1,4 +1,4 @@
-use Rattle.hw_build.proofs.Assembling.{ports_finish}
+use Rattle.hw_build.proofs.StepNeeds.{ports_finish}
 use Rattle.std.proofs.lemmas.Result.{on_ok_weaker}
 use Rattle.hw_build.proofs.building.put_ports.Goals as goal
 

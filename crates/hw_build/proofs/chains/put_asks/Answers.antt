@@ -1,6 +1,6 @@
 use Rattle.std.proofs.lemmas.Result.{IfOk-weaker}
 use Rattle.hw_build.specs.inner.Wants.{nets_at}
-use Rattle.hw_build.proofs.Chaining.{places_are, wants_are_met}
+use Rattle.hw_build.proofs.Classes.{places_are, wants_are_met}
 use Rattle.hw_build.proofs.chains.put_asks.Goals as goal
 
 pub put_classes-requires-clause-classes : goal.put_classes-requires-clause-classes

@@ -2,7 +2,7 @@ use Rattle.std.proofs.Common.{◌≡◌, ℕ, ◌++◌, ◌∷◌, [], List, Som
 use Rattle.std.proofs.lemmas.Option.{slice_get_read}
 use Rattle.hw_build.specs.declared.wants.Class.{Class}
 use Rattle.hw_build.specs.inner.Wants.{AreAnswered}
-use Rattle.hw_build.proofs.Chaining.{answered_none, class_next, answered_more}
+use Rattle.hw_build.proofs.Classes.{answered_none, class_next, answered_more}
 use Rattle.hw_build.proofs.chains.put_classes.Goals as goal
 
 pub loop-class-init : goal.loop-class-init

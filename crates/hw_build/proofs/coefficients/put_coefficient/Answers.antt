@@ -6,7 +6,7 @@ use Rattle.hw_net.specs.declared.netlist.NetKind.TheVariants.{Comb}
 use Rattle.hw_net.specs.declared.netlist.NetOp.TheVariants.{Const}
 use Rattle.math_list.proofs.Places.{if-both}
 use Rattle.hw_build.proofs.Constants.{adds_one, coefficient_is}
-use Rattle.hw_build.proofs.Entering.{typed_net}
+use Rattle.hw_build.proofs.ElementEntries.{typed_net}
 use Rattle.hw_build.proofs.coefficients.put_coefficient.Goals as goal
 
 pub returns-clause-is : goal.returns-clause-is

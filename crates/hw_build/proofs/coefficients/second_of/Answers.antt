@@ -9,7 +9,7 @@ use Rattle.dg_model.specs.Library.{row_of}
 use Rattle.hw_build.specs.inner.Factors.{IsCoefficient, IsSecond}
 use Rattle.hw_build.specs.inner.Operands.{offered_at}
 use Rattle.hw_build.proofs.Constants.{adds_none}
-use Rattle.hw_build.proofs.Serving.{product_by, reads_there, scaled_by}
+use Rattle.hw_build.proofs.Multipliers.{product_by, reads_there, scaled_by}
 use Rattle.std.proofs.lemmas.Option.{slice_get_within}
 use Rattle.hw_build.proofs.coefficients.second_of.Goals as goal
 

@@ -6,8 +6,8 @@ use Rattle.hw_net.specs.declared.netlist.NetKind.TheVariants.{Comb}
 use Rattle.hw_net.specs.declared.netlist.NetOp.TheVariants.{Const, Or}
 use Rattle.hw_net.specs.Growing.{with_net}
 use Rattle.hw_build.specs.inner.Controls.{PutsAny}
-use Rattle.hw_build.proofs.Controlling.{any_begun, any_next, any_all}
-use Rattle.hw_build.proofs.Entering.{typed_net}
+use Rattle.hw_build.proofs.AnyAbove.{any_begun, any_next, any_all}
+use Rattle.hw_build.proofs.ElementEntries.{typed_net}
 use Rattle.hw_build.proofs.controls.some_above.Goals as goal
 
 pub loop-operand-init : goal.loop-operand-init

@@ -1,5 +1,5 @@
 use Rattle.std.proofs.Common.{rules, ◌+◌, ◌*◌, ◌≤◌, slice_index_or}
-use Rattle.hw_build.specs.inner.Designed.{times_for}
+use Rattle.hw_build.specs.inner.DesignTimes.{times_for}
 use Rattle.hw_build.proofs.Limits.{most_late, little_behind}
 use Rattle.hw_build.proofs.design.frame_after.Goals as goal
 

@@ -4,9 +4,9 @@ use Rattle.std.proofs.lemmas.Int.{to_z-of_z}
 use Rattle.hw_net.specs.declared.netlist.NetKind.TheVariants.{Comb}
 use Rattle.hw_net.specs.declared.netlist.NetOp.TheVariants.{Const}
 use Rattle.hw_build.specs.declared.entry.Entry.{Entry}
-use Rattle.hw_build.specs.inner.Designed.{timing_for}
-use Rattle.hw_build.proofs.Entering.{typed_net}
-use Rattle.hw_build.proofs.EnteringPlain.{constant_entry}
+use Rattle.hw_build.specs.inner.DesignTimes.{timing_for}
+use Rattle.hw_build.proofs.ElementEntries.{typed_net}
+use Rattle.hw_build.proofs.PlainEntries.{constant_entry}
 use Rattle.dg_model.specs.declared.kind.Kind.{Kind}
 use Rattle.dg_model.specs.Library.{row_of}
 use Rattle.hw_build.proofs.entries.constant.Goals as goal

@@ -4,10 +4,10 @@ use Rattle.fx_type.specs.FxType.{IsType}
 use Rattle.hw_net.specs.declared.netlist.NetKind.TheVariants.{Comb}
 use Rattle.hw_net.specs.declared.netlist.NetOp.TheVariants.{Const}
 use Rattle.hw_build.specs.declared.entry.Entry.{Entry}
-use Rattle.hw_build.specs.inner.Designed.{timing_for}
-use Rattle.dg_tables.proofs.Given.{zero_range}
-use Rattle.hw_build.proofs.Entering.{typed_net}
-use Rattle.hw_build.proofs.EnteringPlain.{ground_entry}
+use Rattle.hw_build.specs.inner.DesignTimes.{timing_for}
+use Rattle.dg_tables.proofs.Equations.{zero_range}
+use Rattle.hw_build.proofs.ElementEntries.{typed_net}
+use Rattle.hw_build.proofs.PlainEntries.{ground_entry}
 use Rattle.hw_build.proofs.entries.ground.Goals as goal
 
 pub returns : goal.returns

@@ -1,7 +1,7 @@
 use Rattle.std.proofs.Common.{ap}
 use Rattle.hw_build.specs.declared.entry.Entry.{Entry}
-use Rattle.hw_build.specs.inner.Designed.{timing_for}
-use Rattle.hw_build.proofs.EnteringHanded.{handed_entry, one_there}
+use Rattle.hw_build.specs.inner.DesignTimes.{timing_for}
+use Rattle.hw_build.proofs.OfferEntries.{handed_entry, one_there}
 use Rattle.hw_build.proofs.entries.offered_entry.Goals as goal
 
 pub bounds-site-0 : goal.bounds-site-0

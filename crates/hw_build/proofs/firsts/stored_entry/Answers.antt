@@ -7,7 +7,7 @@ use Rattle.fx_type.specs.declared.decimal.Decimal.{Decimal}
 use Rattle.dg_model.specs.Wires.{entry_of}
 use Rattle.hw_sched.specs.Chained.{stored_in}
 use Rattle.hw_build.specs.inner.Operands.{or_zero}
-use Rattle.hw_build.proofs.Storing.{stored_as, entry_at}
+use Rattle.hw_build.proofs.FirstValues.{stored_as, entry_at}
 use Rattle.hw_build.proofs.firsts.stored_entry.Goals as goal
 
 pub returns-in-Some : goal.returns-in-Some

@@ -2,8 +2,8 @@ use Rattle.std.proofs.Common.{subst, sym}
 use Rattle.fx_type.specs.FullType.{IsFullProduct}
 use Rattle.fx_type.specs.FxType.{IsType}
 use Rattle.dg_model.specs.Readable.{IsReadable}
-use Rattle.hw_build.proofs.FullyTyped.{found_ok, full_is_there, second_is_valid}
-use Rattle.hw_build.proofs.Serving.{multiplies_input}
+use Rattle.hw_build.proofs.FullTypes.{found_ok, full_is_there, second_is_valid}
+use Rattle.hw_build.proofs.Multipliers.{multiplies_input}
 use Rattle.math_list.proofs.Places.{held}
 use Rattle.hw_build.proofs.full_types.full_type.Goals as goal
 

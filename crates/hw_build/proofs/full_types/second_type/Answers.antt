@@ -1,7 +1,7 @@
 use Rattle.std.proofs.Common.{ap, sym, ◌∙◌}
 use Rattle.dg_model.specs.Lent.{lent_full}
 use Rattle.dg_model.specs.Readable.{IsReadable}
-use Rattle.hw_build.proofs.Serving.{is_product, product_inputs}
+use Rattle.hw_build.proofs.Multipliers.{is_product, product_inputs}
 use Rattle.math_list.proofs.Places.{held}
 use Rattle.std.proofs.lemmas.Option.{slice_get_within}
 use Rattle.hw_build.proofs.full_types.second_type.Goals as goal

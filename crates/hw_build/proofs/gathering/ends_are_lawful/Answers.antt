@@ -1,4 +1,4 @@
-use Rattle.hw_build.specs.inner.Designed.{times_for}
+use Rattle.hw_build.specs.inner.DesignTimes.{times_for}
 use Rattle.hw_build.proofs.Widths.{late_are_wide}
 use Rattle.hw_build.proofs.gathering.ends_are_lawful.Goals as goal
 

@@ -2,7 +2,7 @@ use Rattle.std.proofs.Common.{rules, ◌≡◌, List, length, ap, sym, ◌∙◌
 use Rattle.dg_model.specs.declared.diagram.Diagram.{Diagram}
 use Rattle.dg_model.specs.declared.diagram.Block.{Block}
 use Rattle.hw_build.specs.declared.operands.Span.{Span}
-use Rattle.hw_build.specs.inner.Designed.{times_for}
+use Rattle.hw_build.specs.inner.DesignTimes.{times_for}
 use Rattle.hw_build.specs.inner.EndAsks.{AreEndsFor, IsSpan, controls_left}
 use Rattle.hw_build.proofs.AllEnds.{control_longer, controls_more, controls_end}
 use Rattle.math_list.proofs.Places.{get_some}

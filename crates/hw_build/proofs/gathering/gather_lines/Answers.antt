@@ -6,7 +6,7 @@ use Rattle.dg_model.specs.declared.diagram.Edge.{Edge}
 use Rattle.hw_build.specs.declared.asks.Ask.{Ask}
 use Rattle.hw_build.specs.declared.operands.Span.{Span}
 use Rattle.hw_build.specs.declared.wants.Want.{Want}
-use Rattle.hw_build.specs.inner.Designed.{times_for}
+use Rattle.hw_build.specs.inner.DesignTimes.{times_for}
 use Rattle.hw_build.specs.inner.EndAsks.{AreEnds, IsSpan, lines_left}
 use Rattle.hw_build.proofs.AllEnds.{line_longer, ends_begin, lines_more, lines_end}
 use Rattle.hw_build.proofs.gathering.gather_lines.Goals as goal

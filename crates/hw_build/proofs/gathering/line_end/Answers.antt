@@ -5,8 +5,8 @@ use Rattle.dg_model.specs.Solves.{shown_ports}
 use Rattle.dg_sort.proofs.Lines.{from_there, to_there}
 use Rattle.hw_sched.proofs.Widths.{source_there}
 use Rattle.hw_latency.specs.Weight.{samples}
-use Rattle.hw_build.proofs.PutLine.{still_line, plain_end, late_end, asked, late_fits, line_put, hub_there, hubs_fit}
-use Rattle.hw_build.proofs.Putting.{nothing_put}
+use Rattle.hw_build.proofs.LineEnds.{still_line, plain_end, late_end, asked, late_fits, line_put, hub_there, hubs_fit}
+use Rattle.hw_build.proofs.EndAsks.{nothing_put}
 use Rattle.std.proofs.lemmas.Result.{on_ok_weaker}
 use Rattle.hw_build.proofs.gathering.line_end.Goals as goal
 

@@ -6,7 +6,7 @@ use Rattle.dg_model.specs.declared.diagram.Block.{Block}
 use Rattle.dg_model.specs.declared.diagram.Diagram.{Diagram}
 use Rattle.hw_names.specs.Columns.{AreColumnsFrom}
 use Rattle.hw_build.specs.inner.HubPlaces.{HasHubs}
-use Rattle.hw_build.proofs.Started.{hubs_are, inputs_there}
+use Rattle.hw_build.proofs.HubStart.{hubs_are, inputs_there}
 use Rattle.std.proofs.lemmas.Result.{IfOk-weaker}
 use Rattle.hw_build.proofs.hubs.hubs_of.Goals as goal
 

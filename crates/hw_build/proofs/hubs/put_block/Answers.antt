@@ -6,7 +6,7 @@ use Rattle.dg_model.specs.Attributes.{attributes_of}
 use Rattle.dg_model.specs.Library.{row_of}
 use Rattle.dg_model.specs.Solves.{shown_width, shown_ports}
 use Rattle.hw_build.specs.inner.HubPlaces.{AddsFresh, AddsPorts, before, is_input_role, own_count, port_size}
-use Rattle.hw_build.proofs.Placing.{fresh_none, own_input, own_other, ports_none, ports_more}
+use Rattle.hw_build.proofs.HubSteps.{fresh_none, own_input, own_other, ports_none, ports_more}
 use Rattle.hw_build.proofs.hubs.put_block.Goals as goal
 
 pub loop-port-init : goal.loop-port-init

@@ -3,7 +3,7 @@ use Rattle.std.proofs.lemmas.Option.{slice_get_read}
 use Rattle.dg_model.specs.declared.diagram.Block.{Block}
 use Rattle.dg_model.specs.declared.diagram.Diagram.{Diagram}
 use Rattle.hw_build.specs.inner.HubPlaces.{AddsBlocks}
-use Rattle.hw_build.proofs.Placing.{blocks_none, blocks_more}
+use Rattle.hw_build.proofs.HubSteps.{blocks_none, blocks_more}
 use Rattle.hw_build.proofs.hubs.put_blocks.Goals as goal
 
 pub loop-block-init : goal.loop-block-init

@@ -7,8 +7,8 @@ use Rattle.hw_net.specs.declared.netlist.NetKind.TheVariants.{Comb}
 use Rattle.hw_net.specs.declared.netlist.NetOp.TheVariants.{Input}
 use Rattle.hw_net.specs.Growing.{with_net}
 use Rattle.hw_build.specs.inner.HubPlaces.{input_net}
-use Rattle.hw_build.proofs.Entering.{typed_net}
-use Rattle.hw_build.proofs.Placing.{inputs_more}
+use Rattle.hw_build.proofs.ElementEntries.{typed_net}
+use Rattle.hw_build.proofs.HubSteps.{inputs_more}
 use Rattle.hw_build.proofs.hubs.put_inputs.Goals as goal
 
 pub loop-column-preserved : goal.loop-column-preserved

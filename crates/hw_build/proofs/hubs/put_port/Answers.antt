@@ -1,8 +1,8 @@
 use Rattle.std.proofs.Common.{rules, ◌^◌, ◌<◌, []}
 use Rattle.hw_net.specs.declared.netlist.NetKind.TheVariants.{Comb}
 use Rattle.hw_net.specs.declared.netlist.NetOp.TheVariants.{Resize}
-use Rattle.hw_build.proofs.Entering.{typed_net}
-use Rattle.hw_build.proofs.Placing.{fresh_one, fresh_then}
+use Rattle.hw_build.proofs.ElementEntries.{typed_net}
+use Rattle.hw_build.proofs.HubSteps.{fresh_one, fresh_then}
 use Rattle.hw_build.proofs.hubs.put_port.Goals as goal
 
 pub loop-element-preserved : goal.loop-element-preserved

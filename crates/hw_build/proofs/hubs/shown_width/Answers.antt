@@ -1,5 +1,5 @@
 use Rattle.std.proofs.Common.{sym, ◌∙◌}
-use Rattle.hw_build.proofs.Placing.{width_there}
+use Rattle.hw_build.proofs.HubSteps.{width_there}
 use Rattle.hw_build.proofs.hubs.shown_width.Goals as goal
 
 pub width-requires-clause-there : goal.width-requires-clause-there

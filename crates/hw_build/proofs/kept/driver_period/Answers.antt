@@ -3,7 +3,7 @@ use Rattle.dg_model.specs.declared.diagram.Edge.{Edge}
 use Rattle.dg_model.specs.Attributes.{attributes_of}
 use Rattle.dg_model.specs.Wires.{at_source}
 use Rattle.hw_build.specs.inner.Operands.{line_number}
-use Rattle.hw_build.proofs.Searching.{driver_number}
+use Rattle.hw_build.proofs.LineSearch.{driver_number}
 use Rattle.hw_build.proofs.Parameters.{source_there}
 use Rattle.hw_build.proofs.kept.driver_period.Goals as goal
 

@@ -1,7 +1,7 @@
 use Rattle.std.proofs.Common.{ap}
 use Rattle.dg_model.specs.declared.kind.Kind.{Kind}
 use Rattle.dg_model.specs.Library.{row_of}
-use Rattle.hw_build.proofs.EnteringKept.{delay_entry, delay_enables}
+use Rattle.hw_build.proofs.StateEntries.{delay_entry, delay_enables}
 use Rattle.hw_build.proofs.Parameters.{some_delay}
 use Rattle.hw_build.proofs.kept.keep.Goals as goal
 

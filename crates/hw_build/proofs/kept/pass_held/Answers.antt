@@ -7,10 +7,10 @@ use Rattle.dg_model.specs.Library.{row_of}
 use Rattle.dg_model.specs.Attributes.{attributes_of}
 use Rattle.hw_net.specs.declared.netlist.NetKind.TheVariants.{Comb}
 use Rattle.hw_net.specs.declared.netlist.NetOp.TheVariants.{Choose}
-use Rattle.hw_build.specs.inner.Designed.{timing_for}
-use Rattle.hw_build.proofs.Entering.{typed_net}
-use Rattle.hw_build.proofs.EnteringKept.{second_operand}
-use Rattle.hw_build.proofs.EnteringOut.{held_entry}
+use Rattle.hw_build.specs.inner.DesignTimes.{timing_for}
+use Rattle.hw_build.proofs.ElementEntries.{typed_net}
+use Rattle.hw_build.proofs.StateEntries.{second_operand}
+use Rattle.hw_build.proofs.EnableEntries.{held_entry}
 use Rattle.hw_build.proofs.kept.pass_held.Goals as goal
 
 pub bounds-site-0 : goal.bounds-site-0

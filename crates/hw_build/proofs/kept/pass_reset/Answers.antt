@@ -9,10 +9,10 @@ use Rattle.dg_model.specs.Attributes.{attributes_of}
 use Rattle.hw_net.specs.declared.netlist.NetKind.TheVariants.{Comb}
 use Rattle.hw_net.specs.declared.netlist.NetOp.TheVariants.{Choose, Const}
 use Rattle.hw_build.specs.declared.entry.Entry.{Entry}
-use Rattle.hw_build.specs.inner.Designed.{timing_for}
-use Rattle.hw_build.proofs.Entering.{typed_net}
-use Rattle.hw_build.proofs.EnteringKept.{second_operand}
-use Rattle.hw_build.proofs.EnteringOut.{reset_entry}
+use Rattle.hw_build.specs.inner.DesignTimes.{timing_for}
+use Rattle.hw_build.proofs.ElementEntries.{typed_net}
+use Rattle.hw_build.proofs.StateEntries.{second_operand}
+use Rattle.hw_build.proofs.EnableEntries.{reset_entry}
 use Rattle.hw_build.proofs.kept.pass_reset.Goals as goal
 
 pub initial-begun-requires-clause-list : goal.initial-begun-requires-clause-list

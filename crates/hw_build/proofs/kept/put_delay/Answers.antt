@@ -5,7 +5,7 @@ use Rattle.dg_model.specs.Readable.{HasPorts}
 use Rattle.dg_model.specs.Wires.{period_into}
 use Rattle.hw_build.specs.inner.Entries.{hands_on}
 use Rattle.hw_build.specs.inner.Sites.{HasOperands}
-use Rattle.hw_build.proofs.EnteringKept.{second_operand}
+use Rattle.hw_build.proofs.StateEntries.{second_operand}
 use Rattle.hw_build.proofs.Parameters.{readable}
 use Rattle.hw_build.proofs.kept.put_delay.Goals as goal
 

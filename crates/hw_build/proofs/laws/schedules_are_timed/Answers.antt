@@ -1,4 +1,4 @@
-use Rattle.hw_build.proofs.Timed.{schedules_are_timed}
+use Rattle.hw_build.proofs.ScheduleTimes.{schedules_are_timed}
 use Rattle.hw_build.proofs.laws.schedules_are_timed.Goals as goal
 
 pub returns : goal.returns

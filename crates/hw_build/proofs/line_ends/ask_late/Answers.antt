@@ -3,8 +3,8 @@ use Rattle.std.specs.Int.{w128}
 use Rattle.std.specs.Prelude.{◌^◌}
 use Rattle.std.proofs.lemmas.Int.{to_z-of_z}
 use Rattle.dg_model.specs.Attributes.{attributes_of}
-use Rattle.hw_build.specs.inner.Seeking.{AsksAll, hub_spread, late_want}
-use Rattle.hw_build.proofs.Gathered.{asks_more, late_one}
+use Rattle.hw_build.specs.inner.EndSearch.{AsksAll, hub_spread, late_want}
+use Rattle.hw_build.proofs.AskLists.{asks_more, late_one}
 use Rattle.hw_build.proofs.line_ends.ask_late.Goals as goal
 
 pub overflow_add-hub : goal.overflow_add-hub

@@ -1,4 +1,4 @@
-use Rattle.hw_build.specs.inner.Seeking.{AsksAll, hub_spread, late_want}
+use Rattle.hw_build.specs.inner.EndSearch.{AsksAll, hub_spread, late_want}
 use Rattle.hw_build.proofs.line_ends.ask_late.Given as goal
 
 abbrev pub invariant-loop-element : goal.invariant-loop-element

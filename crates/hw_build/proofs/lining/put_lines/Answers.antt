@@ -1,8 +1,8 @@
 use Rattle.std.proofs.Common.{rules, ◌<◌, length}
 use Rattle.std.specs.Prelude.{◌^◌}
 use Rattle.dg_tables.specs.Laws.{IsOrdered}
-use Rattle.hw_build.specs.inner.Designed.{times_for}
-use Rattle.hw_build.proofs.Laying.{hub_places, hub_words, lines_put}
+use Rattle.hw_build.specs.inner.DesignTimes.{times_for}
+use Rattle.hw_build.proofs.LineNets.{hub_places, hub_words, lines_put}
 use Rattle.hw_build.proofs.lining.put_lines.Goals as goal
 
 pub ends_are_lawful-requires : goal.ends_are_lawful-requires

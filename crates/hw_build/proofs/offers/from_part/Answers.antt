@@ -4,8 +4,8 @@ use Rattle.dg_tables.specs.Laws.{IsOrdered, SignalsFit}
 use Rattle.hw_sched.proofs.Periods.{readable_at}
 use Rattle.hw_build.specs.declared.offers.Element.{Element}
 use Rattle.hw_build.specs.inner.Offers.{ArePartsTo, IsShownAt, Offer}
-use Rattle.hw_build.specs.inner.Looping.{diagram_of}
-use Rattle.hw_build.proofs.EnteringParts.{mux_inside}
+use Rattle.hw_build.specs.inner.ElementLoop.{diagram_of}
+use Rattle.hw_build.proofs.MuxEntries.{mux_inside}
 use Rattle.std.proofs.lemmas.Result.{on_ok_weaker}
 use Rattle.hw_build.proofs.offers.from_part.Goals as goal
 

@@ -2,7 +2,7 @@ use Rattle.std.proofs.Common.{rules, ◌<◌, ap, sym, ◌∙◌, Some, length}
 use Rattle.std.proofs.lemmas.Option.{slice_get_within, get_or_from_slice_get}
 use Rattle.dg_model.specs.declared.diagram.Diagram.{Diagram}
 use Rattle.dg_model.specs.declared.diagram.Edge.{Edge}
-use Rattle.hw_build.proofs.Searching.{line_read}
+use Rattle.hw_build.proofs.LineSearch.{line_read}
 use Rattle.hw_build.proofs.operands.line_into.Goals as goal
 
 pub offset_bounds-edges-line_number : goal.offset_bounds-edges-line_number

@@ -3,7 +3,7 @@ use Rattle.std.specs.List.Sorted.{IsPartitionedBy}
 use Rattle.std.proofs.lemmas.Fn.{always_returns_same}
 use Rattle.dg_model.specs.declared.diagram.Diagram.{Diagram}
 use Rattle.hw_build.specs.inner.Operands.{is_line_before, first_not}
-use Rattle.hw_build.proofs.Searching.{number_is, parted}
+use Rattle.hw_build.proofs.LineSearch.{number_is, parted}
 use Rattle.hw_build.proofs.operands.line_number.Goals as goal
 
 pub returns : goal.returns

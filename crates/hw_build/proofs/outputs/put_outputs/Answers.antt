@@ -3,9 +3,9 @@ use Rattle.std.specs.Prelude.{slice_index_or}
 use Rattle.dg_model.specs.declared.diagram.Block.{Block}
 use Rattle.dg_model.specs.declared.diagram.Diagram.{Diagram}
 use Rattle.hw_build.specs.inner.HubPlaces.{hub_at}
-use Rattle.hw_build.proofs.Porting.{outputs_there, ports_none}
-use Rattle.hw_build.proofs.Outgoing.{read_at, below_columns, output_here, element_is, outputs_next}
-use Rattle.hw_build.specs.inner.Outgoing.{AddsOutputs}
+use Rattle.hw_build.proofs.PortSteps.{outputs_there, ports_none}
+use Rattle.hw_build.proofs.OutputColumns.{read_at, below_columns, output_here, element_is, outputs_next}
+use Rattle.hw_build.specs.inner.RootOutputs.{AddsOutputs}
 use Rattle.hw_build.proofs.outputs.put_outputs.Goals as goal
 
 pub columns_of-requires : goal.columns_of-requires

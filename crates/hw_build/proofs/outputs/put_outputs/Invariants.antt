@@ -1,4 +1,4 @@
-use Rattle.hw_build.specs.inner.Outgoing.{AddsOutputs}
+use Rattle.hw_build.specs.inner.RootOutputs.{AddsOutputs}
 use Rattle.hw_build.proofs.outputs.put_outputs.Given as goal
 
 abbrev pub invariant-loop-column : goal.invariant-loop-column

@@ -4,11 +4,11 @@ use Rattle.dg_model.specs.Attributes.{attributes_of}
 use Rattle.hw_net.specs.declared.netlist.Frame.{Frame}
 use Rattle.hw_net.specs.declared.netlist.NetKind.TheVariants.{Comb}
 use Rattle.hw_net.specs.declared.netlist.NetOp.TheVariants.{Resize}
-use Rattle.hw_net.proofs.Extending.{one-longer}
-use Rattle.hw_build.specs.inner.Designed.{timing_for}
-use Rattle.hw_build.specs.inner.Piping.{stage_nets, wire_of}
-use Rattle.hw_build.proofs.Entering.{typed_net}
-use Rattle.hw_build.proofs.Piping.{pipeline_put, piped_put, with_nets}
+use Rattle.hw_net.proofs.Extends.{one-longer}
+use Rattle.hw_build.specs.inner.DesignTimes.{timing_for}
+use Rattle.hw_build.specs.inner.PipelineNets.{stage_nets, wire_of}
+use Rattle.hw_build.proofs.ElementEntries.{typed_net}
+use Rattle.hw_build.proofs.Stages.{pipeline_put, piped_put, with_nets}
 use Rattle.hw_build.proofs.Within.{entry_read}
 use Rattle.hw_build.proofs.pipelines.put_pipeline.Goals as goal
 

@@ -1,6 +1,6 @@
 use Rattle.std.proofs.Common.{◌≡◌, ◌+◌}
 use Rattle.hw_build.specs.Pipelined.{stage_name}
-use Rattle.hw_build.proofs.Piping.{stage_next, stage_number}
+use Rattle.hw_build.proofs.Stages.{stage_next, stage_number}
 use Rattle.hw_build.proofs.pipelines.put_stages.Goals as goal
 
 pub loop-stage-preserved : goal.loop-stage-preserved

@@ -1,6 +1,6 @@
 use Rattle.std.specs.Prelude.{◌≡◌, ◌+◌}
-use Rattle.hw_build.specs.inner.Piping.{stage_labels, stage_nets}
-use Rattle.hw_build.proofs.Piping.{with_labels, with_nets}
+use Rattle.hw_build.specs.inner.PipelineNets.{stage_labels, stage_nets}
+use Rattle.hw_build.proofs.Stages.{with_labels, with_nets}
 use Rattle.hw_build.proofs.pipelines.put_stages.Given as goal
 
 abbrev pub invariant-loop-stage : goal.invariant-loop-stage

@@ -2,7 +2,7 @@ use Rattle.std.proofs.Common.{ℕ, false, List, ◌∷◌, ap, ◌∙◌, subst,
 use Rattle.hw_latency.specs.Weight.{samples}
 use Rattle.hw_names.specs.Names.{undoubled, element_name, port_name, IsGiven}
 use Rattle.hw_names.specs.Taken.{AreTaken}
-use Rattle.hw_names.proofs.Taking.{path_is}
+use Rattle.hw_names.proofs.NameSets.{path_is}
 use Rattle.hw_build.proofs.ports.port_of.Goals as goal
 
 pub returns : goal.returns

@@ -3,8 +3,8 @@ use Rattle.std.specs.Prelude.{slice_index_or}
 use Rattle.dg_model.specs.Attributes.{attributes_of}
 use Rattle.dg_model.specs.Widths.{width_at}
 use Rattle.hw_build.specs.inner.HubPlaces.{hub_at}
-use Rattle.hw_build.specs.inner.Porting.{IsPortOf}
-use Rattle.hw_build.proofs.Porting.{input_ports_more, column_of}
+use Rattle.hw_build.specs.inner.PortSteps.{IsPortOf}
+use Rattle.hw_build.proofs.PortSteps.{input_ports_more, column_of}
 use Rattle.hw_build.proofs.ports.put_inputs.Goals as goal
 
 pub at-requires-clause-there : goal.at-requires-clause-there

@@ -1,4 +1,4 @@
-use Rattle.hw_build.specs.inner.Porting.{AddsInputPorts}
+use Rattle.hw_build.specs.inner.PortSteps.{AddsInputPorts}
 use Rattle.hw_build.proofs.ports.put_inputs.Given as goal
 
 abbrev pub invariant-loop-column : goal.invariant-loop-column

@@ -1,12 +1,12 @@
 use Rattle.std.proofs.Common.{◌≡◌, List, sym, subst, ◌∙◌}
 use Rattle.hw_share.specs.declared.operation.Operation.{Operation}
 use Rattle.hw_share.specs.Operations.{CanShare}
-use Rattle.hw_build.specs.inner.Designed.{times_for}
-use Rattle.hw_build.specs.inner.Multiplying.{AddsProducts}
+use Rattle.hw_build.specs.inner.DesignTimes.{times_for}
+use Rattle.hw_build.specs.inner.MultiplierStep.{AddsProducts}
 use Rattle.hw_build.specs.inner.Operands.{offered_at}
 use Rattle.hw_build.specs.inner.ResultNets.{AreProducts}
 use Rattle.hw_build.proofs.Owed.{can-share}
-use Rattle.hw_build.proofs.Factoring.{are_made}
+use Rattle.hw_build.proofs.Factors.{are_made}
 use Rattle.hw_build.proofs.ProductStep.{products_put}
 use Rattle.hw_build.proofs.products.products_of.Goals as goal
 

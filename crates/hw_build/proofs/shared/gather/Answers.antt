@@ -1,10 +1,10 @@
 use Rattle.std.proofs.Common.{◌≡◌, ℕ, ◌+◌, ◌++◌, ◌∷◌, List, [], Option, sym, ap, subst, arith, add-one, refl, ◌∙◌, length}
 use Rattle.hw_share.specs.declared.operation.Operation.{Operation}
-use Rattle.hw_build.specs.inner.Designed.{times_for}
+use Rattle.hw_build.specs.inner.DesignTimes.{times_for}
 use Rattle.hw_build.specs.inner.Factors.{AreFirsts, GathersFor, first_for}
 use Rattle.hw_build.specs.inner.Operands.{offered_at}
 use Rattle.hw_build.specs.inner.ResultNets.{shared_width}
-use Rattle.hw_build.proofs.Factoring.{firsts_none, firsts_more, gathers_none, gathers_then}
+use Rattle.hw_build.proofs.Factors.{firsts_none, firsts_more, gathers_none, gathers_then}
 use Rattle.dg_model.specs.declared.diagram.Block.{Block}
 use Rattle.dg_model.specs.declared.diagram.Diagram.{Diagram}
 use Rattle.hw_build.proofs.shared.gather.Goals as goal

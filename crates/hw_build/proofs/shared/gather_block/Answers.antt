@@ -1,11 +1,11 @@
 use Rattle.std.proofs.Common.{◌≡◌, ℕ, ◌+◌, ◌++◌, ◌∷◌, [], length, sym, subst, ◌∙◌, arith, rules, false, true}
 use Rattle.std.proofs.lemmas.Option.{slice_get_within}
 use Rattle.hw_sched.specs.Slots.{Operation, operation}
-use Rattle.hw_build.specs.inner.Designed.{times_for}
+use Rattle.hw_build.specs.inner.DesignTimes.{times_for}
 use Rattle.hw_build.specs.inner.Factors.{IsGatheredFor, IsNumbered, first_for, GathersFor}
 use Rattle.hw_build.specs.inner.Operands.{offered_at}
-use Rattle.hw_build.proofs.Factoring.{gathers_none, gathers_one, gathers_then}
-use Rattle.hw_build.proofs.Numbering.{operation_there}
+use Rattle.hw_build.proofs.Factors.{gathers_none, gathers_one, gathers_then}
+use Rattle.hw_build.proofs.OperationNumbers.{operation_there}
 use Rattle.dg_model.specs.Attributes.{attributes_of}
 use Rattle.std.proofs.lemmas.Bool.{cond-false, cond-true}
 use Rattle.hw_latency.specs.Shared.{is_shared}

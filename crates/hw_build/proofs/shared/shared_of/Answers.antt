@@ -7,11 +7,11 @@ use Rattle.dg_model.specs.Attributes.{attributes_of}
 use Rattle.hw_arcs.specs.Latencies.{latency_at}
 use Rattle.hw_latency.specs.Weight.{samples}
 use Rattle.hw_sched.specs.Slots.{Operation, operation, shared_operations, slot_of, unit_of}
-use Rattle.hw_build.specs.inner.Designed.{times_for}
+use Rattle.hw_build.specs.inner.DesignTimes.{times_for}
 use Rattle.hw_build.specs.declared.design.Design.{Design}
 use Rattle.hw_build.specs.inner.Factors.{IsNumbered, IsSecond}
 use Rattle.hw_build.specs.inner.Operands.{offered_at}
-use Rattle.hw_build.proofs.Factoring.{shared_multiplies}
+use Rattle.hw_build.proofs.Factors.{shared_multiplies}
 use Rattle.hw_build.proofs.Operations.{of_shared}
 use Rattle.hw_build.proofs.Within.{entry_read}
 use Rattle.hw_build.proofs.shared.shared_of.Goals as goal

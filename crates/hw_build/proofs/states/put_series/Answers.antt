@@ -3,8 +3,8 @@ use Rattle.std.specs.Int.{w128}
 use Rattle.std.proofs.lemmas.Int.{to_z-of_z}
 use Rattle.hw_net.specs.declared.netlist.NetKind.{NetKind}
 use Rattle.hw_net.specs.Growing.{with_net}
-use Rattle.hw_build.specs.inner.Registering.{AreSeries, enables_by, register_of, taken_by}
-use Rattle.hw_build.proofs.Keeping.{register_form, series_begun, series_more}
+use Rattle.hw_build.specs.inner.Series.{AreSeries, enables_by, register_of, taken_by}
+use Rattle.hw_build.proofs.Series.{register_form, series_begun, series_more}
 use Rattle.hw_build.proofs.states.put_series.Goals as goal
 
 pub loop-step-init : goal.loop-step-init

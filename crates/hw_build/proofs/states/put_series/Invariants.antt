@@ -1,5 +1,5 @@
 use Rattle.std.proofs.Common.{◌≡◌, ◌∷◌, ◌++◌, []}
-use Rattle.hw_build.specs.inner.Registering.{AreSeries, enables_by, register_of, taken_by}
+use Rattle.hw_build.specs.inner.Series.{AreSeries, enables_by, register_of, taken_by}
 use Rattle.hw_build.proofs.states.put_series.Given as goal
 
 abbrev pub invariant-loop-step : goal.invariant-loop-step

@@ -1,8 +1,8 @@
 use Rattle.std.proofs.Common.{rules, ◌≡◌, ◌++◌, ◌∷◌, [], length, Bool, Some, if◌then◌else◌, ap, sym, ◌∙◌, refl}
 use Rattle.hw_build.specs.declared.wants.Class.{Class}
 use Rattle.hw_build.specs.inner.Feeds.{number_at_feed}
-use Rattle.hw_build.proofs.Feeding.{tied_feed}
-use Rattle.hw_build.proofs.Seating.{class_found, class_new, indexed_new}
+use Rattle.hw_build.proofs.FeedOrder.{tied_feed}
+use Rattle.hw_build.proofs.Seats.{class_found, class_new, indexed_new}
 use Rattle.hw_build.proofs.wants.class_for.Goals as goal
 
 pub returns-in-Some-clause-is : goal.returns-in-Some-clause-is

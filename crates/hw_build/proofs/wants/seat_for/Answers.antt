@@ -3,7 +3,7 @@ use Rattle.std.proofs.lemmas.Option.{same_Some, slice_get_read, slice_get_within
 use Rattle.hw_build.specs.declared.wants.Class.{Class}
 use Rattle.hw_build.specs.declared.wants.Feed.{Feed}
 use Rattle.hw_build.specs.inner.Wants.{IsClassFor}
-use Rattle.hw_build.proofs.Seating.{seat_more, indexed_set}
+use Rattle.hw_build.proofs.Seats.{seat_more, indexed_set}
 use Rattle.hw_build.proofs.wants.seat_for.Goals as goal
 
 -- the class of a feed is one of the list

@@ -5,7 +5,7 @@ use Rattle.hw_build.specs.declared.wants.Feed.{Feed}
 use Rattle.hw_build.specs.declared.wants.Seat.{Seat}
 use Rattle.hw_build.specs.declared.wants.Want.{Want}
 use Rattle.hw_build.specs.inner.Wants.{AreIndexed, AreSeated}
-use Rattle.hw_build.proofs.Seating.{seated_none, indexed_none, seated_more}
+use Rattle.hw_build.proofs.Seats.{seated_none, indexed_none, seated_more}
 use Rattle.hw_build.proofs.wants.seats_of.Goals as goal
 
 abbrev no_want : Want

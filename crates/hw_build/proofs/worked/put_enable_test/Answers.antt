@@ -7,9 +7,9 @@ use Rattle.dg_model.specs.Attributes.{attributes_of}
 use Rattle.dg_tables.specs.Fit.{KeepsType}
 use Rattle.hw_build.specs.declared.entry.Entry.{Entry}
 use Rattle.hw_build.specs.inner.Controls.{PutsControl}
-use Rattle.hw_build.specs.inner.Designed.{timing_for}
+use Rattle.hw_build.specs.inner.DesignTimes.{timing_for}
 use Rattle.hw_build.specs.inner.Entries.{operand_types}
-use Rattle.hw_build.proofs.EnteringOut.{tested_entry}
+use Rattle.hw_build.proofs.EnableEntries.{tested_entry}
 use Rattle.hw_build.proofs.Parameters.{args_there, first_type, one_type}
 use Rattle.hw_build.proofs.worked.put_enable_test.Goals as goal
 

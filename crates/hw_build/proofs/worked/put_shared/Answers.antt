@@ -5,9 +5,9 @@ use Rattle.fx_type.specs.FxType.{IsType}
 use Rattle.dg_model.specs.Attributes.{attributes_of}
 use Rattle.hw_lower.specs.Lowered.{IsLowered}
 use Rattle.hw_build.specs.declared.entry.Entry.{Entry}
-use Rattle.hw_build.specs.inner.Designed.{timing_for}
-use Rattle.hw_build.specs.inner.Lowering.{conversion_of}
-use Rattle.hw_build.proofs.EnteringShared.{one_arg, shared_entry}
+use Rattle.hw_build.specs.inner.DesignTimes.{timing_for}
+use Rattle.hw_build.specs.inner.OperationNets.{conversion_of}
+use Rattle.hw_build.proofs.ProductEntries.{one_arg, shared_entry}
 use Rattle.hw_build.proofs.worked.put_shared.Goals as goal
 
 pub lower-requires-clause-args : goal.lower-requires-clause-args

@@ -5,10 +5,10 @@ use Rattle.rayon.specs.Numbers.{nat_range}
 use Rattle.rayon.proofs.ToStd.{nat_range-All}
 use Rattle.fx_io.specs.declared.fault.OutOfMemory.{OutOfMemory}
 use Rattle.hw_explore.specs.declared.finding.Finding.{Finding}
-use Rattle.hw_explore.proofs.Found.{found_all}
+use Rattle.hw_explore.proofs.WorkerFindings.{found_all}
 use Rattle.hw_explore.specs.Candidates.{IsFinding}
 use Rattle.hw_explore.specs.Range.{pairs_of}
-use Rattle.hw_explore.specs.inner.Timed.{CanFind}
+use Rattle.hw_explore.specs.inner.Latencies.{CanFind}
 use Rattle.hw_explore.proofs.exploring.all_found.Goals as goal
 
 pub collect-requires-clause-ready : goal.collect-requires-clause-ready

@@ -3,7 +3,7 @@ use Rattle.std.proofs.lemmas.Bool.{false≢true}
 use Rattle.std.proofs.lemmas.Option.{slice_get_read}
 use Rattle.hw_explore.specs.declared.exploring.Best.{Best}
 use Rattle.hw_explore.specs.inner.Best.{IsBest}
-use Rattle.hw_explore.proofs.Ranking.{best_kept, best_first, best_new, best_old}
+use Rattle.hw_explore.proofs.Ranks.{best_kept, best_first, best_new, best_old}
 use Rattle.hw_explore.proofs.exploring.best_with.Goals as goal
 
 pub returns-in_default : goal.returns-in_default

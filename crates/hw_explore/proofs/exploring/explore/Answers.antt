@@ -3,7 +3,7 @@ use Rattle.hw_explore.specs.declared.finding.Finding.{Finding}
 use Rattle.hw_explore.specs.Candidates.{IsFinding}
 use Rattle.hw_explore.specs.Findings.{IsLeast}
 use Rattle.hw_explore.specs.Range.{pairs_of}
-use Rattle.hw_explore.proofs.Found.{found_size, found_each}
+use Rattle.hw_explore.proofs.WorkerFindings.{found_size, found_each}
 use Rattle.hw_explore.proofs.Ranges.{few_pairs}
 use Rattle.hw_explore.proofs.exploring.explore.Goals as goal
 

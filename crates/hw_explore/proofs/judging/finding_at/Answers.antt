@@ -1,6 +1,6 @@
 use Rattle.std.proofs.Common.{sym, subst}
 use Rattle.dg_model.specs.declared.resolved.Resolved.{Resolved}
-use Rattle.hw_explore.specs.inner.Timed.{IsTimed}
+use Rattle.hw_explore.specs.inner.Latencies.{IsTimed}
 use Rattle.hw_explore.proofs.judging.finding_at.Goals as goal
 
 pub judge-verdict-requires-clause-timed : goal.judge-verdict-requires-clause-timed

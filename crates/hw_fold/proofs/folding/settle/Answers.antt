@@ -1,6 +1,6 @@
 use Rattle.std.proofs.Common.{arith}
 use Rattle.hw_fold.specs.inner.Roots.{fold_of}
-use Rattle.hw_fold.proofs.Settled.{pinned-still, settled}
+use Rattle.hw_fold.proofs.Standings.{pinned-still, settled}
 use Rattle.hw_fold.proofs.folding.settle.Goals as goal
 
 pub returns-clause-folding : goal.returns-clause-folding

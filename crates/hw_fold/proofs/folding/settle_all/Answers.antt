@@ -1,6 +1,6 @@
 use Rattle.std.proofs.Common.{ℕ, ◌+◌, ◌≡◌, slice_index, length, sym, subst, arith}
 use Rattle.hw_fold.specs.inner.Roots.{IsFolding, fold_of}
-use Rattle.hw_fold.proofs.Settled.{begun, not-yet, pinned-first}
+use Rattle.hw_fold.proofs.Standings.{begun, not-yet, pinned-first}
 use Rattle.hw_fold.proofs.folding.settle_all.Goals as goal
 
 pub loop-k-init : goal.loop-k-init

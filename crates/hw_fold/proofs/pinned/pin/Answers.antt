@@ -3,7 +3,7 @@ use Rattle.std.proofs.lemmas.Bool.{cases_lt}
 use Rattle.std.proofs.lemmas.Option.{get_or_from_slice_get, slice_get_within}
 use Rattle.hw_net.specs.declared.netlist.NetLabel.{NetLabel}
 use Rattle.math_list.proofs.Elements.{all-from}
-use Rattle.hw_fold.specs.inner.Pinned.{IsPinned}
+use Rattle.hw_fold.specs.inner.Pins.{IsPinned}
 use Rattle.hw_fold.proofs.Marks.{keeps-none, keeps-trans, pinned-on}
 use Rattle.hw_fold.proofs.pinned.pin.Goals as goal
 

@@ -1,6 +1,6 @@
 use Rattle.std.proofs.Common.{ℕ, ◌<◌, ◌≡◌, Some, slice_get}
 use Rattle.hw_net.specs.declared.netlist.NetLabel.{NetLabel}
-use Rattle.hw_fold.specs.inner.Pinned.{IsPinned, KeepsMarks}
+use Rattle.hw_fold.specs.inner.Pins.{IsPinned, KeepsMarks}
 use Rattle.hw_fold.proofs.pinned.pin.Given as goal
 
 abbrev pub invariant-loop-label : goal.invariant-loop-label

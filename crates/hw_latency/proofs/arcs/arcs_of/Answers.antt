@@ -4,7 +4,7 @@ use Rattle.dg_model.specs.declared.diagram.Block.{Block}
 use Rattle.dg_model.specs.declared.diagram.Diagram.{Diagram}
 use Rattle.dg_model.specs.declared.diagram.Edge.{Edge}
 use Rattle.dg_sort.proofs.Lines.{from_there, to_there}
-use Rattle.hw_latency.proofs.Listing.{control_put, line_put, lines_listed, listing_begins, listing_ends}
+use Rattle.hw_latency.proofs.ArcLists.{control_put, line_put, lines_listed, listing_begins, listing_ends}
 use Rattle.hw_latency.proofs.arcs.arcs_of.Goals as goal
 
 pub loop-edge-init : goal.loop-edge-init

@@ -1,6 +1,6 @@
 use Rattle.std.proofs.Common.{◌++◌, drop, map}
 use Rattle.dg_model.specs.LatencyEdges.{signal_edge, enable_edges_from}
-use Rattle.hw_latency.proofs.Listing.{IsListing}
+use Rattle.hw_latency.proofs.ArcLists.{IsListing}
 use Rattle.hw_latency.proofs.arcs.arcs_of.Given as goal
 
 abbrev pub invariant-loop-edge : goal.invariant-loop-edge

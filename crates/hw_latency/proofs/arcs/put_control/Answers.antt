@@ -1,5 +1,5 @@
 use Rattle.std.proofs.lemmas.Result.{on_ok_weaker}
-use Rattle.hw_latency.proofs.Listing.{control_inside, put_none, put_some}
+use Rattle.hw_latency.proofs.ArcLists.{control_inside, put_none, put_some}
 use Rattle.hw_latency.proofs.arcs.put_control.Goals as goal
 
 pub put_arc-requires-clause-from : goal.put_arc-requires-clause-from

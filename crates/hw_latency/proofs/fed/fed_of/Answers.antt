@@ -4,7 +4,7 @@ use Rattle.dg_model.specs.declared.diagram.Diagram.{Diagram}
 use Rattle.dg_model.specs.Periods.{periods_of}
 use Rattle.dg_model.specs.Wired.{IsWired}
 use Rattle.dg_sort.specs.Rows.{AreRows}
-use Rattle.hw_latency.proofs.Feeding.{feeding_begins, feeding_ends, next_of, next_there}
+use Rattle.hw_latency.proofs.FeedMarks.{feeding_begins, feeding_ends, next_of, next_there}
 use Rattle.hw_latency.proofs.fed.fed_of.Goals as goal
 
 pub mark_one-requires-clause-there : goal.mark_one-requires-clause-there

@@ -1,5 +1,5 @@
 use Rattle.std.proofs.Common.{sym, ◌∙◌}
-use Rattle.hw_latency.proofs.Marking.{mark_behind, mark_own}
+use Rattle.hw_latency.proofs.Marks.{mark_behind, mark_own}
 use Rattle.hw_latency.proofs.fed.is_mark.Goals as goal
 
 pub returns-then-is_shared : goal.returns-then-is_shared

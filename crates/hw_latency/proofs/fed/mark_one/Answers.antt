@@ -1,7 +1,7 @@
 use Rattle.std.proofs.Common.{◌≡◌, [], ap, ◌∙◌, length, arith}
 use Rattle.std.proofs.lemmas.List.{get_or_read}
 use Rattle.fx_io.specs.Rows.{row_at}
-use Rattle.hw_latency.proofs.Feeding.{row_below, marked_on}
+use Rattle.hw_latency.proofs.FeedMarks.{row_below, marked_on}
 use Rattle.hw_latency.proofs.fed.mark_one.Goals as goal
 
 pub bounds-rows-place : goal.bounds-rows-place

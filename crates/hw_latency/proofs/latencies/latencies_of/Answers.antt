@@ -1,7 +1,7 @@
 use Rattle.std.proofs.Common.{ap, ◌∙◌, arith}
 use Rattle.std.proofs.lemmas.Int.{ints}
 use Rattle.dg_model.specs.declared.diagram.Diagram.{Diagram}
-use Rattle.hw_latency.proofs.Answering.{gaining_found, latencies_found, whole_among}
+use Rattle.hw_latency.proofs.FromArcs.{gaining_found, latencies_found, whole_among}
 use Rattle.hw_latency.proofs.latencies.latencies_of.Goals as goal
 
 pub latencies-requires-clause-whole : goal.latencies-requires-clause-whole

@@ -1,4 +1,4 @@
-use Rattle.hw_latency.proofs.Bounded.{small_latencies}
+use Rattle.hw_latency.proofs.Bounds.{small_latencies}
 use Rattle.hw_latency.proofs.laws.latencies_are_small.Goals as goal
 
 pub returns : goal.returns

@@ -1,4 +1,4 @@
-use Rattle.hw_latency.proofs.Bounded.{unasked_zero}
+use Rattle.hw_latency.proofs.Bounds.{unasked_zero}
 use Rattle.hw_latency.proofs.laws.unasked_blocks_are_zero.Goals as goal
 
 pub returns : goal.returns

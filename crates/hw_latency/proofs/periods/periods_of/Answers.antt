@@ -1,7 +1,7 @@
 use Rattle.std.proofs.Common.{◌<◌, ◌≤◌, List, length, ap, subst, ◌∙◌}
 use Rattle.dg_model.specs.declared.diagram.Block.{Block}
 use Rattle.dg_model.specs.declared.diagram.Diagram.{Diagram}
-use Rattle.hw_latency.proofs.Timing.{period_more, periods_end}
+use Rattle.hw_latency.proofs.PeriodLists.{period_more, periods_end}
 use Rattle.hw_latency.proofs.periods.periods_of.Goals as goal
 
 pub loop-block-preserved : goal.loop-block-preserved

@@ -1,6 +1,6 @@
 use Rattle.std.proofs.Common.{ap, ◌∙◌}
 use Rattle.hw_latency.specs.Shared.{shares}
-use Rattle.hw_latency.proofs.Weighing.{shared_as, unshared_as}
+use Rattle.hw_latency.proofs.Weights.{shared_as, unshared_as}
 use Rattle.hw_latency.proofs.shared.is_shared.Goals as goal
 
 pub returns-then-not-multiplies : goal.returns-then-not-multiplies

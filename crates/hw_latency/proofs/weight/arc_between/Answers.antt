@@ -1,5 +1,5 @@
 use Rattle.std.proofs.Common.{List, ℕ, false, get_or, refl, ap}
-use Rattle.hw_latency.proofs.Weighing.{arc_as, idle_as}
+use Rattle.hw_latency.proofs.Weights.{arc_as, idle_as}
 use Rattle.hw_latency.proofs.weight.arc_between.Goals as goal
 
 pub returns-in_default-clause-is : goal.returns-in_default-clause-is

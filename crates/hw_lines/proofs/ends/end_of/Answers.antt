@@ -5,7 +5,7 @@ use Rattle.std.proofs.lemmas.Nat.{mod_below}
 use Rattle.std.proofs.Math.Nat.{le-mul_of_pos_right}
 use Rattle.hw_lines.specs.Register.{CanHold}
 use Rattle.hw_lines.specs.inner.Ends.{IsEnd, Ends}
-use Rattle.hw_lines.proofs.Ended.{nothing-ends, whole-ends, parted-rest, bridge-ends, phase-ends}
+use Rattle.hw_lines.proofs.LineEnds.{nothing-ends, whole-ends, parted-rest, bridge-ends, phase-ends}
 use Rattle.hw_lines.proofs.ends.end_of.Goals as goal
 
 pub bounds-taps-one : goal.bounds-taps-one

@@ -1,5 +1,5 @@
 use Rattle.std.proofs.Common.{◌≡◌}
-use Rattle.hw_net.proofs.Extending.{read-net}
+use Rattle.hw_net.proofs.Extends.{read-net}
 use Rattle.hw_lines.proofs.Parts.{bridge-part}
 use Rattle.hw_lines.proofs.registers.bridge_at.Goals as goal
 

@@ -1,7 +1,7 @@
 use Rattle.std.proofs.Common.{◌≡◌}
 use Rattle.std.specs.Int.{w128}
 use Rattle.std.proofs.lemmas.Int.{to_z-of_z}
-use Rattle.hw_net.proofs.Extending.{read-net}
+use Rattle.hw_net.proofs.Extends.{read-net}
 use Rattle.hw_lines.proofs.Parts.{register-part}
 use Rattle.hw_lines.proofs.registers.register_at.Goals as goal
 

@@ -5,7 +5,7 @@ use Rattle.math_num.specs.Word.{IsWrapped}
 use Rattle.fx_type.specs.FxType.{frac_of, aligned}
 use Rattle.fx_type.proofs.Ranges.{frac_bounds}
 use Rattle.math_num.proofs.Integers.{gap_is}
-use Rattle.hw_lower.proofs.Chained.{made-map}
+use Rattle.hw_lower.proofs.StepChains.{made-map}
 use Rattle.hw_lower.proofs.aligning.align.Goals as goal
 
 pub returns : goal.returns

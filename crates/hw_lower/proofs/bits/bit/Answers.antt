@@ -1,7 +1,7 @@
 use Rattle.std.proofs.Common.{◌≡◌, pos, Bool, true, false, ap, sym, ◌∙◌, subst}
 use Rattle.math_num.specs.Word.{IsWord, InWord}
-use Rattle.hw_lower.specs.inner.Planned.{bit_of}
-use Rattle.hw_lower.proofs.Chained.{made-map}
+use Rattle.hw_lower.specs.inner.PlanSteps.{bit_of}
+use Rattle.hw_lower.proofs.StepChains.{made-map}
 use Rattle.hw_lower.proofs.LowBits.{bit-past, bit-none}
 use Rattle.hw_lower.proofs.bits.bit.Goals as goal
 

@@ -1,6 +1,6 @@
 use Rattle.std.proofs.Common.{◌≡◌, pos, ap, ◌∙◌}
-use Rattle.hw_lower.specs.inner.Planned.{bit_of}
-use Rattle.hw_lower.proofs.Chained.{made-map}
+use Rattle.hw_lower.specs.inner.PlanSteps.{bit_of}
+use Rattle.hw_lower.proofs.StepChains.{made-map}
 use Rattle.hw_lower.proofs.LowBits.{one-bit}
 use Rattle.hw_lower.proofs.bits.bit_within.Goals as goal
 

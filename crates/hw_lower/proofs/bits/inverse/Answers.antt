@@ -1,8 +1,8 @@
 use Rattle.std.proofs.Common.{◌≡◌, pos, ◌-ℤ◌, subst}
 use Rattle.math_num.specs.Word.{InWord}
 use Rattle.hw_lower.specs.declared.plan.Word.{Word}
-use Rattle.hw_lower.proofs.Chained.{made-map}
-use Rattle.hw_lower.proofs.Cut.{not-bit}
+use Rattle.hw_lower.proofs.StepChains.{made-map}
+use Rattle.hw_lower.proofs.WordRests.{not-bit}
 use Rattle.hw_lower.proofs.bits.inverse.Goals as goal
 
 pub returns : goal.returns

@@ -1,6 +1,6 @@
 use Rattle.std.proofs.Common.{◌≡◌, ◌↔◌, pos}
 use Rattle.math_num.specs.Bits.{low_bits}
-use Rattle.hw_lower.proofs.Chained.{made-self}
+use Rattle.hw_lower.proofs.StepChains.{made-self}
 use Rattle.hw_lower.proofs.LowBits.{low-all}
 use Rattle.hw_lower.proofs.bits.lowest.Goals as goal
 

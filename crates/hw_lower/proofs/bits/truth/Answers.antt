@@ -2,11 +2,11 @@ use Rattle.std.proofs.Common.{◌≡◌, sym, ◌∙◌, subst}
 use Rattle.math_num.specs.Word.{InWord}
 use Rattle.fx_type.specs.Conversion.{IsTruthOf}
 use Rattle.hw_lower.specs.declared.plan.Word.{Word}
-use Rattle.hw_lower.specs.inner.Planned.{IsMade, bit_word}
-use Rattle.hw_lower.proofs.Made.{at-later}
-use Rattle.hw_lower.proofs.Chained.{made-self, made-then}
-use Rattle.hw_lower.proofs.Cut.{same-words}
-use Rattle.hw_lower.proofs.Rounded.{bit-truth}
+use Rattle.hw_lower.specs.inner.PlanSteps.{IsMade, bit_word}
+use Rattle.hw_lower.proofs.PlanSteps.{at-later}
+use Rattle.hw_lower.proofs.StepChains.{made-self, made-then}
+use Rattle.hw_lower.proofs.WordRests.{same-words}
+use Rattle.hw_lower.proofs.Modes.{bit-truth}
 use Rattle.hw_lower.proofs.bits.truth.Goals as goal
 
 pub returns-then-eq : goal.returns-then-eq

@@ -1,10 +1,10 @@
 use Rattle.std.specs.Int.{w128}
 use Rattle.std.proofs.lemmas.Int.{to_z-of_z}
 use Rattle.dg_model.specs.Operation.{compares}
-use Rattle.hw_lower.specs.inner.Planned.{IsSwitched}
-use Rattle.hw_lower.proofs.Chained.{made-both, made-then}
+use Rattle.hw_lower.specs.inner.PlanSteps.{IsSwitched}
+use Rattle.hw_lower.proofs.StepChains.{made-both, made-then}
 use Rattle.hw_lower.proofs.Truths.{switched-is}
-use Rattle.hw_lower.proofs.Made.{at-later}
+use Rattle.hw_lower.proofs.PlanSteps.{at-later}
 use Rattle.hw_lower.proofs.comparing.against.Goals as goal
 
 pub returns : goal.returns

@@ -2,8 +2,8 @@ use Rattle.std.proofs.Common.{◌≡◌, Bool, ℤ, pos, ◌-ℤ◌, false, not,
 use Rattle.math_num.specs.Word.{IsWrapped}
 use Rattle.dg_model.specs.Operation.{stored_truth}
 use Rattle.math_num.specs.Bits.{truth}
-use Rattle.hw_lower.specs.inner.Planned.{of_two}
-use Rattle.hw_lower.proofs.Chained.{made-then}
+use Rattle.hw_lower.specs.inner.PlanSteps.{of_two}
+use Rattle.hw_lower.proofs.StepChains.{made-then}
 use Rattle.hw_lower.proofs.Truths.{truth-is, not-truth}
 use Rattle.hw_lower.proofs.comparing.opposite.Goals as goal
 

@@ -2,8 +2,8 @@ use Rattle.std.proofs.Common.{pos, not}
 use Rattle.std.specs.Int.{w128}
 use Rattle.std.specs.Ordering.{int_eq}
 use Rattle.std.proofs.lemmas.Int.{to_z-of_z}
-use Rattle.hw_lower.specs.inner.Planned.{IsSwitched}
-use Rattle.hw_lower.proofs.Chained.{made-map}
+use Rattle.hw_lower.specs.inner.PlanSteps.{IsSwitched}
+use Rattle.hw_lower.proofs.StepChains.{made-map}
 use Rattle.hw_lower.proofs.Truths.{not-zero-is}
 use Rattle.hw_lower.proofs.comparing.switch.Goals as goal
 

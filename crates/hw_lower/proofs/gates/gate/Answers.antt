@@ -2,8 +2,8 @@ use Rattle.std.proofs.Common.{◌≡◌, ◌∙◌, ap}
 use Rattle.dg_model.specs.Operation.{stored_truth, gate_of}
 use Rattle.dg_model.specs.declared.kind.Gate.TheVariants.{Nxor}
 use Rattle.hw_lower.specs.inner.Spread.{OfArguments}
-use Rattle.hw_lower.proofs.Chained.{made-map}
-use Rattle.hw_lower.proofs.Gated.{even-is}
+use Rattle.hw_lower.proofs.StepChains.{made-map}
+use Rattle.hw_lower.proofs.GateArguments.{even-is}
 use Rattle.hw_lower.proofs.gates.gate.Goals as goal
 
 pub returns-in-Nxor : goal.returns-in-Nxor

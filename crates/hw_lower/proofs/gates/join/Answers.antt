@@ -1,7 +1,7 @@
 use Rattle.std.proofs.Common.{pos, ◌-ℤ◌, ◌∙◌}
-use Rattle.hw_lower.specs.inner.Planned.{IsChosen}
-use Rattle.hw_lower.proofs.Made.{at-later}
-use Rattle.hw_lower.proofs.Chained.{made-then}
+use Rattle.hw_lower.specs.inner.PlanSteps.{IsChosen}
+use Rattle.hw_lower.proofs.PlanSteps.{at-later}
+use Rattle.hw_lower.proofs.StepChains.{made-then}
 use Rattle.hw_lower.proofs.gates.join.Goals as goal
 
 pub choose-requires-clause-test : goal.choose-requires-clause-test

@@ -1,9 +1,9 @@
 use Rattle.std.proofs.Common.{◌≡◌, ◌+◌, ◌<◌, ℕ, ℤ, List, length, take, arith}
 use Rattle.dg_model.specs.Operation.{stored_truth}
 use Rattle.hw_lower.specs.inner.Spread.{OfArguments, argument_of, truth_of}
-use Rattle.hw_lower.proofs.Made.{at-later}
-use Rattle.hw_lower.proofs.Chained.{made-both, made-map}
-use Rattle.hw_lower.proofs.Gated.{joined-first, joined-more, of-all}
+use Rattle.hw_lower.proofs.PlanSteps.{at-later}
+use Rattle.hw_lower.proofs.StepChains.{made-both, made-map}
+use Rattle.hw_lower.proofs.GateArguments.{joined-first, joined-more, of-all}
 use Rattle.hw_lower.proofs.gates.join_all.Goals as goal
 
 pub truth-first-requires : goal.truth-first-requires

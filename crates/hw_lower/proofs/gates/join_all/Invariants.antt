@@ -1,6 +1,6 @@
 use Rattle.std.proofs.Common.{◌≡◌, take}
 use Rattle.dg_model.specs.Operation.{stored_truth}
-use Rattle.hw_lower.specs.inner.Planned.{IsMade, bit_word}
+use Rattle.hw_lower.specs.inner.PlanSteps.{IsMade, bit_word}
 use Rattle.hw_lower.specs.inner.Spread.{OfArguments, truth_of}
 use Rattle.hw_lower.proofs.gates.join_all.Given as goal
 

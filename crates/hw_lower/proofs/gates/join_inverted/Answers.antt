@@ -1,7 +1,7 @@
 use Rattle.std.proofs.Common.{◌≡◌, ◌-ℤ◌, ℤ, pos, not, ap, ◌∙◌}
 use Rattle.dg_model.specs.Operation.{stored_truth}
 use Rattle.hw_lower.specs.inner.Spread.{OfArguments, truth_of}
-use Rattle.hw_lower.proofs.Chained.{made-then}
+use Rattle.hw_lower.proofs.StepChains.{made-then}
 use Rattle.hw_lower.proofs.Truths.{not-truth}
 use Rattle.hw_lower.proofs.gates.join_inverted.Goals as goal
 

@@ -2,11 +2,11 @@ use Rattle.std.proofs.Common.{◌≡◌, ℕ, false, length, ◌∙◌, subst, s
 use Rattle.std.proofs.lemmas.Option.{slice_get_within, get_or_from_slice_get}
 use Rattle.dg_model.specs.Operation.{operation_of}
 use Rattle.hw_lower.specs.Lowered.{IsLowered, multiply_of}
-use Rattle.hw_lower.specs.inner.Placed.{number_of}
-use Rattle.hw_lower.specs.inner.Planned.{IsStep}
+use Rattle.hw_lower.specs.inner.PlanNets.{number_of}
+use Rattle.hw_lower.specs.inner.PlanSteps.{IsStep}
 use Rattle.hw_lower.specs.inner.Spread.{Spreads}
 use Rattle.hw_lower.proofs.Arguments.{inputs-there, few-inputs}
-use Rattle.hw_lower.proofs.Shown.{IsPutDown, can-put, lowered, lowers}
+use Rattle.hw_lower.proofs.PlanWaves.{IsPutDown, can-put, lowered, lowers}
 use Rattle.hw_lower.proofs.lowering.lower.Goals as goal
 use Rattle.hw_lower.proofs.lowering.lower.Goals.{After-index}
 

@@ -2,8 +2,8 @@ use Rattle.std.proofs.Common.{rules, ◌≡◌, ◌<◌, ◌≤◌, ◌++◌, �
 use Rattle.std.proofs.lemmas.Option.{slice_get-get_or}
 use Rattle.hw_net.specs.Growing.{with_net}
 use Rattle.hw_lower.specs.declared.plan.Step.{Step}
-use Rattle.hw_lower.specs.inner.Placed.{net_of}
-use Rattle.hw_lower.proofs.Numbered.{none-step, numbers-begun, nets-begun, numbers-more, nets-more, net-same}
+use Rattle.hw_lower.specs.inner.PlanNets.{net_of}
+use Rattle.hw_lower.proofs.PlanNets.{none-step, numbers-begun, nets-begun, numbers-more, nets-more, net-same}
 use Rattle.hw_lower.proofs.lowering.put_nets.Goals as goal
 
 pub loop-place-init : goal.loop-place-init

@@ -1,5 +1,5 @@
 use Rattle.std.proofs.Common.{length}
-use Rattle.hw_lower.specs.inner.Placed.{AreNumbers, AreNets}
+use Rattle.hw_lower.specs.inner.PlanNets.{AreNumbers, AreNets}
 use Rattle.hw_lower.proofs.lowering.put_nets.Given as goal
 
 abbrev pub invariant-loop-place : goal.invariant-loop-place

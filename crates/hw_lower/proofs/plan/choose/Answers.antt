@@ -1,9 +1,9 @@
 use Rattle.std.proofs.Common.{subst}
 use Rattle.math_num.specs.Word.{IsWord, InWord}
 use Rattle.hw_lower.specs.declared.plan.Word.{Word}
-use Rattle.hw_lower.specs.inner.Planned.{IsChosen}
-use Rattle.hw_lower.proofs.Chained.{made-map}
-use Rattle.hw_lower.proofs.Cut.{chosen-is}
+use Rattle.hw_lower.specs.inner.PlanSteps.{IsChosen}
+use Rattle.hw_lower.proofs.StepChains.{made-map}
+use Rattle.hw_lower.proofs.WordRests.{chosen-is}
 use Rattle.hw_lower.proofs.plan.choose.Goals as goal
 
 pub returns : goal.returns

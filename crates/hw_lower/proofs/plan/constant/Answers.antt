@@ -1,6 +1,6 @@
 use Rattle.std.specs.Int.{w128}
 use Rattle.std.proofs.lemmas.Int.{to_z-of_z}
-use Rattle.hw_lower.proofs.Made.{constant-made}
+use Rattle.hw_lower.proofs.PlanSteps.{constant-made}
 use Rattle.hw_lower.proofs.plan.constant.Goals as goal
 
 pub returns : goal.returns

@@ -1,4 +1,4 @@
-use Rattle.hw_lower.proofs.Made.{operation-made}
+use Rattle.hw_lower.proofs.PlanSteps.{operation-made}
 use Rattle.hw_lower.proofs.plan.operation.Goals as goal
 
 pub returns : goal.returns

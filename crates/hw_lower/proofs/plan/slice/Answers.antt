@@ -1,6 +1,6 @@
 use Rattle.std.proofs.Common.{◌≡◌, ◌+◌, ◌/◌, ◌^◌, pos}
 use Rattle.math_num.specs.Bits.{low_bits}
-use Rattle.hw_lower.proofs.Chained.{made-map}
+use Rattle.hw_lower.proofs.StepChains.{made-map}
 use Rattle.math_num.proofs.Words.{wrapped-is}
 use Rattle.hw_lower.proofs.LowBits.{slice-in-word}
 use Rattle.hw_lower.proofs.plan.slice.Goals as goal

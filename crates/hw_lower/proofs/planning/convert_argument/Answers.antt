@@ -4,7 +4,7 @@ use Rattle.std.proofs.lemmas.Int.{to_z-of_z}
 use Rattle.fx_type.specs.FxType.{frac_of}
 use Rattle.fx_type.proofs.Ranges.{frac_bounds}
 use Rattle.dg_model.specs.Operation.{operation_of, IsConverted, type_of}
-use Rattle.hw_lower.proofs.Chained.{made-map}
+use Rattle.hw_lower.proofs.StepChains.{made-map}
 use Rattle.hw_lower.proofs.planning.convert_argument.Goals as goal
 use Rattle.hw_lower.proofs.planning.convert_argument.Goals.{After-frac-frac}
 

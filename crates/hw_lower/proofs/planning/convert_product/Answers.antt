@@ -6,11 +6,11 @@ use Rattle.fx_type.specs.FxType.{InRange, frac_of}
 use Rattle.fx_type.proofs.Ranges.{frac_bounds, type-word}
 use Rattle.dg_model.specs.Operation.{operation_of, IsConverted}
 use Rattle.hw_lower.specs.declared.plan.Word.{Word}
-use Rattle.hw_lower.specs.inner.Planned.{word_of}
+use Rattle.hw_lower.specs.inner.PlanSteps.{word_of}
 use Rattle.hw_lower.specs.inner.Spread.{IsScaled}
 use Rattle.hw_lower.proofs.Arguments.{frac_sum}
 use Rattle.hw_lower.proofs.Products.{product-is}
-use Rattle.hw_lower.proofs.Spreading.{multiplied-put, made-after}
+use Rattle.hw_lower.proofs.Multiplies.{multiplied-put, made-after}
 use Rattle.hw_lower.proofs.planning.convert_product.Goals as goal
 use Rattle.hw_lower.proofs.planning.convert_product.Goals.{After-frac-2}
 

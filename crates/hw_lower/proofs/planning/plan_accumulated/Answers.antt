@@ -10,9 +10,9 @@ use Rattle.dg_model.specs.declared.op.Op.{Op}
 use Rattle.dg_model.specs.Operation.{operation_of, IsAddedUp, HasArity, HasFullType, HasParameters, HasSigns, Gives, IsStep, OpGives, type_of, value_of}
 use Rattle.hw_lower.specs.declared.plan.Word.{Word}
 use Rattle.hw_lower.specs.inner.Spread.{OfArguments, argument_of}
-use Rattle.hw_lower.proofs.Added.{GoesOn, goes_more, goes_all, full_at}
-use Rattle.hw_lower.proofs.Chained.{made-then, made-map}
-use Rattle.hw_lower.proofs.Made.{at-later}
+use Rattle.hw_lower.proofs.Accumulator.{GoesOn, goes_more, goes_all, full_at}
+use Rattle.hw_lower.proofs.StepChains.{made-then, made-map}
+use Rattle.hw_lower.proofs.PlanSteps.{at-later}
 use Rattle.hw_lower.proofs.Products.{word-range}
 use Rattle.hw_lower.proofs.planning.plan_accumulated.Goals as goal
 

@@ -1,7 +1,7 @@
 use Rattle.dg_model.specs.Operation.{operation_of}
-use Rattle.hw_lower.specs.inner.Planned.{IsMade, word_of}
+use Rattle.hw_lower.specs.inner.PlanSteps.{IsMade, word_of}
 use Rattle.hw_lower.specs.inner.Spread.{OfArguments}
-use Rattle.hw_lower.proofs.Added.{GoesOn}
+use Rattle.hw_lower.proofs.Accumulator.{GoesOn}
 use Rattle.hw_lower.proofs.planning.plan_accumulated.Given as goal
 
 abbrev pub invariant-loop-input : goal.invariant-loop-input

@@ -3,7 +3,7 @@ use Rattle.dg_model.specs.declared.op.Op.TheVariants.{Convert}
 use Rattle.dg_model.specs.Operation.{operation_of, Gives, IsConverted, type_of, without_frac}
 use Rattle.fx_type.specs.Conversion.{Converts}
 use Rattle.hw_lower.specs.inner.Spread.{OfArguments}
-use Rattle.hw_lower.proofs.Chained.{made-map}
+use Rattle.hw_lower.proofs.StepChains.{made-map}
 use Rattle.hw_lower.proofs.planning.plan_conversion.Goals as goal
 
 pub returns-then-stored : goal.returns-then-stored

@@ -3,12 +3,12 @@ use Rattle.std.specs.Int.{w128}
 use Rattle.std.proofs.lemmas.Int.{to_z-of_z}
 use Rattle.fx_type.specs.FxType.{InRange}
 use Rattle.dg_model.specs.Operation.{operation_of, type_of, value_of}
-use Rattle.hw_lower.specs.inner.Planned.{word_of}
+use Rattle.hw_lower.specs.inner.PlanSteps.{word_of}
 use Rattle.hw_lower.specs.inner.Spread.{OfArguments, IsScaled, argument_of}
 use Rattle.hw_lower.proofs.Arguments.{range-at, scaled-at}
-use Rattle.hw_lower.proofs.Made.{at-later, constant-made}
+use Rattle.hw_lower.proofs.PlanSteps.{at-later, constant-made}
 use Rattle.fx_type.proofs.Ranges.{type-word, range-word}
-use Rattle.hw_lower.proofs.Spreading.{made-behind}
+use Rattle.hw_lower.proofs.Multiplies.{made-behind}
 use Rattle.hw_lower.proofs.planning.plan_gain.Goals as goal
 
 pub convert_product-requires-clause-one : goal.convert_product-requires-clause-one

@@ -8,8 +8,8 @@ use Rattle.dg_model.specs.declared.op.Op.TheVariants.{Sum, Gain, Product, Switch
 use Rattle.dg_model.specs.Operation.{operation_of, Gives, HasArity, HasFullType, HasParameters, HasResultType, HasSigns, IsConverted, type_of, value_of}
 use Rattle.hw_lower.specs.inner.Spread.{OfArguments}
 use Rattle.hw_lower.proofs.Arguments.{plan-of, plan-plain, plan-typed, few-inputs, gate-inputs}
-use Rattle.hw_lower.proofs.Chained.{made-self}
-use Rattle.hw_lower.proofs.Spreading.{made-plain, planned-map}
+use Rattle.hw_lower.proofs.StepChains.{made-self}
+use Rattle.hw_lower.proofs.Multiplies.{made-plain, planned-map}
 use Rattle.hw_lower.proofs.planning.plan_operation.Goals as goal
 
 -- Pass has one input

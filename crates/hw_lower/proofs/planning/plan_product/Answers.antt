@@ -2,7 +2,7 @@ use Rattle.std.proofs.Common.{arith}
 use Rattle.dg_model.specs.Operation.{operation_of, type_of, value_of}
 use Rattle.hw_lower.specs.inner.Spread.{OfArguments, IsScaled}
 use Rattle.hw_lower.proofs.Arguments.{range-at, scaled-at}
-use Rattle.hw_lower.proofs.Spreading.{planned-map}
+use Rattle.hw_lower.proofs.Multiplies.{planned-map}
 use Rattle.hw_lower.proofs.planning.plan_product.Goals as goal
 
 pub convert_product-requires-clause-one : goal.convert_product-requires-clause-one

@@ -7,9 +7,9 @@ use Rattle.fx_type.specs.Conversion.{Converts}
 use Rattle.fx_type.proofs.Ranges.{frac_bounds, type-word}
 use Rattle.fx_type.proofs.Fracs.{bound_at}
 use Rattle.dg_model.specs.Operation.{operation_of, IsStep}
-use Rattle.hw_lower.proofs.Chained.{made-then}
-use Rattle.hw_lower.proofs.Made.{at-later}
-use Rattle.hw_lower.proofs.Summed.{two-total}
+use Rattle.hw_lower.proofs.StepChains.{made-then}
+use Rattle.hw_lower.proofs.PlanSteps.{at-later}
+use Rattle.hw_lower.proofs.SumTerms.{two-total}
 use Rattle.hw_lower.proofs.planning.plan_step.Goals as goal
 use Rattle.hw_lower.proofs.planning.plan_step.Goals.{After-frac-frac}
 

@@ -2,7 +2,7 @@ use Rattle.std.proofs.Common.{arith}
 use Rattle.fx_type.specs.Conversion.{Converts}
 use Rattle.dg_model.specs.Operation.{type_of, without_frac}
 use Rattle.hw_lower.proofs.Arguments.{without-type, without-word, without-none}
-use Rattle.hw_lower.proofs.Chained.{made-map}
+use Rattle.hw_lower.proofs.StepChains.{made-map}
 use Rattle.hw_lower.proofs.planning.plan_store.Goals as goal
 
 pub convert-requires-clause-at : goal.convert-requires-clause-at

@@ -8,7 +8,7 @@ use Rattle.fx_type.specs.FullType.{IsFullSum}
 use Rattle.fx_type.proofs.Ranges.{frac_bounds}
 use Rattle.dg_model.specs.Operation.{operation_of, IsConverted, signed_sum}
 use Rattle.hw_lower.specs.inner.Spread.{OfArguments}
-use Rattle.hw_lower.proofs.Chained.{made-then}
+use Rattle.hw_lower.proofs.StepChains.{made-then}
 use Rattle.hw_lower.proofs.planning.plan_sum.Goals as goal
 use Rattle.hw_lower.proofs.planning.plan_sum.Goals.{After-frac}
 

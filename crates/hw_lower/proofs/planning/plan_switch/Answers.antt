@@ -4,8 +4,8 @@ use Rattle.std.specs.Int.{w128}
 use Rattle.std.proofs.lemmas.Int.{to_z-of_z}
 use Rattle.dg_model.specs.Operation.{operation_of, IsConverted, meets, type_of, value_of}
 use Rattle.hw_lower.specs.inner.Spread.{OfArguments, argument_of}
-use Rattle.hw_lower.proofs.Made.{at-later}
-use Rattle.hw_lower.proofs.Chained.{made-both, made-then}
+use Rattle.hw_lower.proofs.PlanSteps.{at-later}
+use Rattle.hw_lower.proofs.StepChains.{made-both, made-then}
 use Rattle.fx_type.proofs.Ranges.{range-word}
 use Rattle.hw_lower.proofs.Arguments.{switch-is}
 use Rattle.hw_lower.proofs.planning.plan_switch.Goals as goal

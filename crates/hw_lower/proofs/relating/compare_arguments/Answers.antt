@@ -4,9 +4,9 @@ use Rattle.fx_type.specs.FxType.{InRange}
 use Rattle.fx_type.specs.FullType.{IsUnion}
 use Rattle.dg_model.specs.Operation.{compares_values, stored_truth, type_of, value_of}
 use Rattle.hw_lower.specs.inner.Spread.{OfArguments, argument_of}
-use Rattle.hw_lower.proofs.Made.{at-later}
-use Rattle.hw_lower.proofs.Chained.{made-both, made-then}
-use Rattle.hw_lower.proofs.Related.{IsHolder, union-holds, holder-left, holder-right, compared-is}
+use Rattle.hw_lower.proofs.PlanSteps.{at-later}
+use Rattle.hw_lower.proofs.StepChains.{made-both, made-then}
+use Rattle.hw_lower.proofs.Unions.{IsHolder, union-holds, holder-left, holder-right, compared-is}
 use Rattle.dg_model.proofs.SumTerms.{found-ok}
 use Rattle.hw_lower.proofs.relating.compare_arguments.Goals as goal
 use Rattle.hw_lower.proofs.relating.compare_arguments.Goals.{After-unwrap-both}

@@ -3,8 +3,8 @@ use Rattle.std.specs.Int.{w16}
 use Rattle.std.proofs.lemmas.Int.{to_z-of_z}
 use Rattle.fx_type.specs.FxType.{InRange, frac_of, aligned}
 use Rattle.fx_type.proofs.Ranges.{frac_bounds, type-word}
-use Rattle.hw_lower.proofs.Chained.{made-map}
-use Rattle.hw_lower.proofs.Related.{held-is}
+use Rattle.hw_lower.proofs.StepChains.{made-map}
+use Rattle.hw_lower.proofs.Unions.{held-is}
 use Rattle.hw_lower.proofs.relating.widen.Goals as goal
 use Rattle.hw_lower.proofs.relating.widen.Goals.{After-frac}
 

@@ -1,6 +1,6 @@
 use Rattle.std.proofs.Common.{◌≡◌}
 use Rattle.math_num.specs.Bits.{shifted_down}
-use Rattle.hw_lower.proofs.Chained.{made-map}
+use Rattle.hw_lower.proofs.StepChains.{made-map}
 use Rattle.math_num.proofs.Words.{wrapped-is}
 use Rattle.hw_lower.proofs.LowBits.{down-in-word}
 use Rattle.hw_lower.proofs.rounding.down.Goals as goal

@@ -2,11 +2,11 @@ use Rattle.std.proofs.Common.{◌^◌, ◌∙◌, pos, Bool, true, false, subst,
 use Rattle.math_num.specs.Word.{InWord}
 use Rattle.fx_type.specs.Conversion.{Rounds}
 use Rattle.fx_type.specs.declared.rounding.Rounding.TheVariants.{Round}
-use Rattle.hw_lower.specs.inner.Planned.{IsChosen}
+use Rattle.hw_lower.specs.inner.PlanSteps.{IsChosen}
 use Rattle.hw_lower.specs.declared.plan.Word.{Word}
-use Rattle.hw_lower.proofs.Made.{at-later}
-use Rattle.hw_lower.proofs.Chained.{made-both, made-map, made-then}
-use Rattle.hw_lower.proofs.Rounded.{nearest-round, round-rounds}
+use Rattle.hw_lower.proofs.PlanSteps.{at-later}
+use Rattle.hw_lower.proofs.StepChains.{made-both, made-map, made-then}
+use Rattle.hw_lower.proofs.Modes.{nearest-round, round-rounds}
 use Rattle.hw_lower.proofs.rounding.from_zero.Goals as goal
 
 pub round_by_carry-requires : goal.round_by_carry-requires

@@ -1,10 +1,10 @@
 use Rattle.std.proofs.Common.{◌-◌, subst, arith}
 use Rattle.math_num.specs.Bits.{low_bits}
 use Rattle.hw_lower.specs.declared.plan.Word.{Word}
-use Rattle.hw_lower.specs.inner.Planned.{IsMade, IsPastTie}
-use Rattle.hw_lower.proofs.Made.{at-later}
-use Rattle.hw_lower.proofs.Chained.{made-self, made-then}
-use Rattle.hw_lower.proofs.Rounded.{no-rest}
+use Rattle.hw_lower.specs.inner.PlanSteps.{IsMade, IsPastTie}
+use Rattle.hw_lower.proofs.PlanSteps.{at-later}
+use Rattle.hw_lower.proofs.StepChains.{made-self, made-then}
+use Rattle.hw_lower.proofs.Modes.{no-rest}
 use Rattle.hw_lower.proofs.rounding.past_tie.Goals as goal
 
 pub returns-then-by-eq1 : goal.returns-then-by-eq1

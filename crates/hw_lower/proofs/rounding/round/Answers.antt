@@ -2,8 +2,8 @@ use Rattle.std.proofs.Common.{◌^◌, Bool, false, subst}
 use Rattle.math_num.specs.Word.{InWord}
 use Rattle.fx_type.specs.Conversion.{Rounds}
 use Rattle.fx_type.specs.declared.rounding.Rounding.TheVariants.{Zero}
-use Rattle.hw_lower.proofs.Chained.{made-map}
-use Rattle.hw_lower.proofs.Rounded.{zero-down}
+use Rattle.hw_lower.proofs.StepChains.{made-map}
+use Rattle.hw_lower.proofs.Modes.{zero-down}
 use Rattle.hw_lower.proofs.rounding.round.Goals as goal
 
 pub returns-else-from : goal.returns-else-from

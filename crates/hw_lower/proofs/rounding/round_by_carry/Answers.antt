@@ -2,10 +2,10 @@ use Rattle.std.proofs.Common.{◌≡◌, ◌+ℤ◌, false, subst}
 use Rattle.math_num.specs.Word.{InWord}
 use Rattle.math_num.specs.Bits.{shifted_down}
 use Rattle.hw_lower.specs.declared.plan.Word.{Word}
-use Rattle.hw_lower.proofs.Chained.{made-then}
+use Rattle.hw_lower.proofs.StepChains.{made-then}
 use Rattle.math_num.proofs.Words.{wrapped-is}
-use Rattle.hw_lower.proofs.Rounded.{bit-cases, carried-in-word}
-use Rattle.hw_lower.proofs.Made.{at-later}
+use Rattle.hw_lower.proofs.Modes.{bit-cases, carried-in-word}
+use Rattle.hw_lower.proofs.PlanSteps.{at-later}
 use Rattle.hw_lower.proofs.rounding.round_by_carry.Goals as goal
 
 pub returns : goal.returns

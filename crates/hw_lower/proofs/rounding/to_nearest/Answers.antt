@@ -1,9 +1,9 @@
 use Rattle.std.proofs.Common.{◌^◌}
 use Rattle.fx_type.specs.Conversion.{Rounds}
 use Rattle.fx_type.specs.declared.rounding.Rounding.TheVariants.{Nearest}
-use Rattle.hw_lower.proofs.Chained.{made-then}
-use Rattle.hw_lower.proofs.Rounded.{nearest-rounds}
-use Rattle.hw_lower.proofs.Made.{at-later}
+use Rattle.hw_lower.proofs.StepChains.{made-then}
+use Rattle.hw_lower.proofs.Modes.{nearest-rounds}
+use Rattle.hw_lower.proofs.PlanSteps.{at-later}
 use Rattle.hw_lower.proofs.rounding.to_nearest.Goals as goal
 
 pub round_by_carry-requires : goal.round_by_carry-requires

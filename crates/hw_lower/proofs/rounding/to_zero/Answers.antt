@@ -2,9 +2,9 @@ use Rattle.std.proofs.Common.{◌^◌, Bool, true, subst}
 use Rattle.math_num.specs.Word.{InWord}
 use Rattle.fx_type.specs.Conversion.{Rounds}
 use Rattle.fx_type.specs.declared.rounding.Rounding.TheVariants.{Zero}
-use Rattle.hw_lower.proofs.Made.{at-later}
-use Rattle.hw_lower.proofs.Chained.{made-both, made-then}
-use Rattle.hw_lower.proofs.Rounded.{zero-rounds}
+use Rattle.hw_lower.proofs.PlanSteps.{at-later}
+use Rattle.hw_lower.proofs.StepChains.{made-both, made-then}
+use Rattle.hw_lower.proofs.Modes.{zero-rounds}
 use Rattle.hw_lower.proofs.rounding.to_zero.Goals as goal
 
 pub round_by_carry-requires : goal.round_by_carry-requires

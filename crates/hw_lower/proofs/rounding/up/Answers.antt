@@ -1,9 +1,9 @@
 use Rattle.std.proofs.Common.{◌^◌}
 use Rattle.fx_type.specs.Conversion.{Rounds}
 use Rattle.fx_type.specs.declared.rounding.Rounding.TheVariants.{Ceiling}
-use Rattle.hw_lower.proofs.Chained.{made-both, made-then}
-use Rattle.hw_lower.proofs.Rounded.{ceiling-rounds}
-use Rattle.hw_lower.proofs.Made.{at-later}
+use Rattle.hw_lower.proofs.StepChains.{made-both, made-then}
+use Rattle.hw_lower.proofs.Modes.{ceiling-rounds}
+use Rattle.hw_lower.proofs.PlanSteps.{at-later}
 use Rattle.hw_lower.proofs.rounding.up.Goals as goal
 
 pub round_by_carry-requires : goal.round_by_carry-requires

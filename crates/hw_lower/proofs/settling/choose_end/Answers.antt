@@ -1,9 +1,9 @@
 use Rattle.std.proofs.Common.{ℤ, subst, ◌∙◌}
 use Rattle.std.specs.Int.{w128}
 use Rattle.std.proofs.lemmas.Int.{to_z-of_z}
-use Rattle.hw_lower.specs.inner.Planned.{IsChosen}
-use Rattle.hw_lower.proofs.Made.{at-later}
-use Rattle.hw_lower.proofs.Chained.{made-then}
+use Rattle.hw_lower.specs.inner.PlanSteps.{IsChosen}
+use Rattle.hw_lower.proofs.PlanSteps.{at-later}
+use Rattle.hw_lower.proofs.StepChains.{made-then}
 use Rattle.hw_lower.proofs.settling.choose_end.Goals as goal
 
 pub constant-number-requires-clause-word : goal.constant-number-requires-clause-word

@@ -6,7 +6,7 @@ use Rattle.fx_type.specs.declared.kind.FxType.TheVariants.{Num}
 use Rattle.fx_type.specs.FxType.{frac_of}
 use Rattle.fx_type.specs.Conversion.{Converts}
 use Rattle.math_num.proofs.Integers.{gap_is, gap_none}
-use Rattle.hw_lower.proofs.Chained.{made-map}
+use Rattle.hw_lower.proofs.StepChains.{made-map}
 use Rattle.hw_lower.proofs.Conversions.{converts-up, converts-down}
 use Rattle.hw_lower.proofs.settling.convert.Goals as goal
 

@@ -2,9 +2,9 @@ use Rattle.std.proofs.Common.{◌^◌, pos, ◌*ℤ◌, ◌≤ℤ◌, ◌∙◌,
 use Rattle.std.specs.Int.{w128}
 use Rattle.std.proofs.lemmas.Int.{ints, to_z-of_z}
 use Rattle.math_num.specs.Word.{InWord}
-use Rattle.hw_lower.specs.inner.Planned.{IsHeldBelow}
-use Rattle.hw_lower.proofs.Made.{at-later}
-use Rattle.hw_lower.proofs.Chained.{made-both, made-self, made-then}
+use Rattle.hw_lower.specs.inner.PlanSteps.{IsHeldBelow}
+use Rattle.hw_lower.proofs.PlanSteps.{at-later}
+use Rattle.hw_lower.proofs.StepChains.{made-both, made-self, made-then}
 use Rattle.hw_net.proofs.Words.{lowest-below}
 use Rattle.hw_lower.proofs.Ends.{held-below, highest-least}
 use Rattle.hw_lower.proofs.settling.held_below.Goals as goal

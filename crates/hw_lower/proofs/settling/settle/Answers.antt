@@ -2,10 +2,10 @@ use Rattle.std.proofs.Common.{◌≡◌, ◌^◌, ℤ, pos, ◌*ℤ◌, ◌∙�
 use Rattle.fx_type.specs.declared.kind.FxType.TheVariants.{Num}
 use Rattle.fx_type.specs.Conversion.{Settles}
 use Rattle.hw_lower.specs.declared.plan.Word.{Word}
-use Rattle.hw_lower.specs.inner.Planned.{IsMade, IsHeldBelow, IsHeldAbove}
-use Rattle.hw_lower.proofs.Chained.{made-both, made-then}
+use Rattle.hw_lower.specs.inner.PlanSteps.{IsMade, IsHeldBelow, IsHeldAbove}
+use Rattle.hw_lower.proofs.StepChains.{made-both, made-then}
 use Rattle.hw_lower.proofs.Ends.{both-held}
-use Rattle.hw_lower.proofs.Made.{at-later}
+use Rattle.hw_lower.proofs.PlanSteps.{at-later}
 use Rattle.hw_lower.proofs.settling.settle.Goals as goal
 
 pub returns-then-saturate : goal.returns-then-saturate

@@ -1,7 +1,7 @@
 use Rattle.std.proofs.Common.{◌^◌, ℤ}
 use Rattle.fx_type.specs.declared.kind.FxType.TheVariants.{Num}
 use Rattle.fx_type.specs.Conversion.{StoresQuotient}
-use Rattle.hw_lower.proofs.Chained.{made-then}
+use Rattle.hw_lower.proofs.StepChains.{made-then}
 use Rattle.hw_lower.proofs.Conversions.{stores-whole}
 use Rattle.hw_lower.proofs.settling.settle_quotient.Goals as goal
 

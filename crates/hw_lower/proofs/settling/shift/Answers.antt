@@ -1,9 +1,9 @@
 use Rattle.std.proofs.Common.{◌≡◌, ◌^◌, pos, ◌*ℤ◌, sym, subst, arith}
 use Rattle.math_num.specs.Word.{IsWrapped}
 use Rattle.hw_lower.specs.declared.plan.Word.{Word}
-use Rattle.hw_lower.specs.inner.Planned.{IsMade}
-use Rattle.hw_lower.proofs.Chained.{made-map, made-self}
-use Rattle.hw_lower.proofs.Cut.{same-words, none-shifted, wrapped-shifted}
+use Rattle.hw_lower.specs.inner.PlanSteps.{IsMade}
+use Rattle.hw_lower.proofs.StepChains.{made-map, made-self}
+use Rattle.hw_lower.proofs.WordRests.{same-words, none-shifted, wrapped-shifted}
 use Rattle.hw_lower.proofs.settling.shift.Goals as goal
 
 pub returns-then-eq : goal.returns-then-eq

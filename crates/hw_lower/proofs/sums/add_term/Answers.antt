@@ -4,9 +4,9 @@ use Rattle.std.proofs.lemmas.Int.{to_z-of_z}
 use Rattle.math_num.specs.Word.{IsWrapped}
 use Rattle.fx_type.specs.FxType.{aligned}
 use Rattle.fx_type.specs.FullType.{negated_if}
-use Rattle.hw_lower.proofs.Chained.{made-then}
-use Rattle.hw_lower.proofs.Summed.{wrapped-sum, wrapped-difference}
-use Rattle.hw_lower.proofs.Made.{at-later}
+use Rattle.hw_lower.proofs.StepChains.{made-then}
+use Rattle.hw_lower.proofs.SumTerms.{wrapped-sum, wrapped-difference}
+use Rattle.hw_lower.proofs.PlanSteps.{at-later}
 use Rattle.hw_lower.proofs.sums.add_term.Goals as goal
 
 pub returns-then-negative : goal.returns-then-negative

@@ -5,8 +5,8 @@ use Rattle.math_num.specs.Word.{IsWrapped}
 use Rattle.fx_type.specs.FxType.{aligned}
 use Rattle.fx_type.specs.FullType.{negated_if}
 use Rattle.dg_model.specs.Operation.{type_of}
-use Rattle.hw_lower.proofs.Chained.{made-map, made-then}
-use Rattle.hw_lower.proofs.Summed.{IsTotal, total-first, wrapped-negative}
+use Rattle.hw_lower.proofs.StepChains.{made-map, made-then}
+use Rattle.hw_lower.proofs.SumTerms.{IsTotal, total-first, wrapped-negative}
 use Rattle.hw_lower.proofs.sums.first_term.Goals as goal
 
 pub align-value-requires : goal.align-value-requires

@@ -6,10 +6,10 @@ use Rattle.fx_type.specs.FxType.{frac_of, width_of, is_signed}
 use Rattle.fx_type.proofs.Ranges.{frac_bounds, type-word}
 use Rattle.dg_model.specs.Operation.{signed_sum}
 use Rattle.hw_lower.specs.inner.Spread.{OfArguments, argument_of}
-use Rattle.hw_lower.proofs.Made.{at-later}
-use Rattle.hw_lower.proofs.Chained.{made-both, made-map}
+use Rattle.hw_lower.proofs.PlanSteps.{at-later}
+use Rattle.hw_lower.proofs.StepChains.{made-both, made-map}
 use Rattle.fx_type.proofs.Fracs.{bound_at}
-use Rattle.hw_lower.proofs.Summed.{IsTotal, total-more, total-is}
+use Rattle.hw_lower.proofs.SumTerms.{IsTotal, total-more, total-is}
 use Rattle.hw_lower.proofs.sums.sum_arguments.Goals as goal
 use Rattle.hw_lower.proofs.sums.sum_arguments.Goals.{After-frac-frac}
 

@@ -1,6 +1,6 @@
 use Rattle.fx_type.specs.FxType.{frac_of, is_signed, width_of}
-use Rattle.hw_lower.specs.inner.Planned.{IsMade, word_of}
-use Rattle.hw_lower.proofs.Summed.{IsTotal}
+use Rattle.hw_lower.specs.inner.PlanSteps.{IsMade, word_of}
+use Rattle.hw_lower.proofs.SumTerms.{IsTotal}
 use Rattle.hw_lower.proofs.sums.sum_arguments.Given as goal
 
 abbrev pub invariant-loop-input : goal.invariant-loop-input

@@ -1,6 +1,6 @@
 use Rattle.std.proofs.lemmas.Result.{IfOk-weaker}
 use Rattle.hw_sched.specs.Answer.{timing_of}
-use Rattle.hw_module.proofs.Emitted.{emission-of}
+use Rattle.hw_module.proofs.Emission.{emission-of}
 use Rattle.hw_module.proofs.made.module_of.Goals as goal
 
 pub returns-clause-owed : goal.returns-clause-owed

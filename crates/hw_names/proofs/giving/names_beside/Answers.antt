@@ -1,7 +1,7 @@
 use Rattle.std.proofs.Common.{length, refl}
 use Rattle.hw_names.specs.declared.giving.Side.TheVariants.{Inputs, Outputs}
 use Rattle.hw_names.specs.inner.Sides.{elements_on}
-use Rattle.hw_names.proofs.Named.{all_named}
+use Rattle.hw_names.proofs.RootNames.{all_named}
 use Rattle.hw_names.proofs.giving.names_beside.Goals as goal
 
 pub returns : goal.returns

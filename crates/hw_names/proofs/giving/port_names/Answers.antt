@@ -1,6 +1,6 @@
 use Rattle.std.proofs.lemmas.Result.{IfOk-weaker}
 use Rattle.hw_names.specs.Names.{own_names, wanted_names}
-use Rattle.hw_names.proofs.Taking.{given_size}
+use Rattle.hw_names.proofs.NameSets.{given_size}
 use Rattle.hw_names.proofs.giving.port_names.Goals as goal
 
 pub returns : goal.returns

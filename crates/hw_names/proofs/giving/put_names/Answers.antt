@@ -3,8 +3,8 @@ use Rattle.std.specs.Prelude.{slice_index_or}
 use Rattle.dg_model.specs.declared.diagram.Block.{Block}
 use Rattle.dg_model.specs.declared.diagram.Diagram.{Diagram}
 use Rattle.hw_names.specs.inner.Sides.{AddsNames}
-use Rattle.hw_names.proofs.Named.{AtColumn, block_there, column_on, element_on, given_to, names_more, there_on}
-use Rattle.hw_names.proofs.Taking.{path_is}
+use Rattle.hw_names.proofs.RootNames.{AtColumn, block_there, column_on, element_on, given_to, names_more, there_on}
+use Rattle.hw_names.proofs.NameSets.{path_is}
 use Rattle.hw_names.proofs.giving.put_names.Goals as goal
 use Rattle.hw_names.proofs.giving.put_names.Goals.{In-Ok}
 

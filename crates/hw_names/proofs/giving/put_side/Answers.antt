@@ -1,7 +1,7 @@
 use Rattle.std.proofs.Common.{ℕ, List, length, ap, ◌∙◌, subst}
 use Rattle.std.proofs.lemmas.Result.{on_ok_weaker}
 use Rattle.hw_names.specs.inner.Sides.{AddsNames}
-use Rattle.hw_names.proofs.Named.{blocks_size}
+use Rattle.hw_names.proofs.RootNames.{blocks_size}
 use Rattle.hw_names.proofs.giving.put_side.Goals as goal
 
 pub put_names-requires : goal.put_names-requires

@@ -1,7 +1,7 @@
 use Rattle.std.proofs.Common.{◌++◌}
 use Rattle.std.proofs.lemmas.Result.{IfOk-weaker}
 use Rattle.hw_names.specs.Names.{handshake_names, own_names, wanted_names}
-use Rattle.hw_names.proofs.Taking.{given_size}
+use Rattle.hw_names.proofs.NameSets.{given_size}
 use Rattle.hw_names.proofs.giving.stream_names.Goals as goal
 
 pub returns : goal.returns

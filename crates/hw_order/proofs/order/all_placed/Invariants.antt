@@ -1,5 +1,5 @@
 use Rattle.std.proofs.Common.{ℕ, ◌<◌, slice_index}
-use Rattle.hw_order.specs.inner.Ordering.{IsPlaced}
+use Rattle.hw_order.specs.inner.NetOrder.{IsPlaced}
 use Rattle.hw_order.proofs.order.all_placed.Given as goal
 
 abbrev pub invariant-loop-read : goal.invariant-loop-read

@@ -1,4 +1,4 @@
-use Rattle.hw_order.proofs.Ordering.{all-ranked, all-some}
+use Rattle.hw_order.proofs.NetOrder.{all-ranked, all-some}
 use Rattle.hw_order.proofs.order.are_ordered.Goals as goal
 
 pub returns : goal.returns

@@ -1,6 +1,6 @@
 use Rattle.std.proofs.Common.{ℕ, arith, subst}
-use Rattle.hw_order.specs.inner.Ordering.{Serves}
-use Rattle.hw_order.proofs.Ordering.{closed-more}
+use Rattle.hw_order.specs.inner.NetOrder.{Serves}
+use Rattle.hw_order.proofs.NetOrder.{closed-more}
 use Rattle.hw_order.proofs.order.begin.Goals as goal
 
 pub loop-k-preserved : goal.loop-k-preserved

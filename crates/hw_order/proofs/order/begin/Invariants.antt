@@ -1,4 +1,4 @@
-use Rattle.hw_order.specs.inner.Ordering.{IsGrowing, IsClosed}
+use Rattle.hw_order.specs.inner.NetOrder.{IsGrowing, IsClosed}
 use Rattle.hw_order.proofs.order.begin.Given as goal
 
 abbrev pub invariant-loop-k : goal.invariant-loop-k

@@ -1,6 +1,6 @@
 use Rattle.std.proofs.Common.{below_more, arith, slice_index}
 use Rattle.std.proofs.lemmas.Grind.{get_or_default_zero}
-use Rattle.hw_order.proofs.Ordering.{grows-trans}
+use Rattle.hw_order.proofs.NetOrder.{grows-trans}
 use Rattle.hw_order.proofs.order.link_all.Goals as goal
 
 pub loop-read-preserved : goal.loop-read-preserved

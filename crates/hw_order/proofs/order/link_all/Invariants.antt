@@ -1,5 +1,5 @@
 use Rattle.std.proofs.Common.{ℕ, ◌<◌, slice_index}
-use Rattle.hw_order.specs.inner.Ordering.{Grows, IsReader}
+use Rattle.hw_order.specs.inner.NetOrder.{Grows, IsReader}
 use Rattle.hw_order.proofs.order.link_all.Given as goal
 
 abbrev pub invariant-loop-read : goal.invariant-loop-read

@@ -1,7 +1,7 @@
 use Rattle.std.proofs.Common.{ℕ, All, OnOk, subst, sym}
 use Rattle.hw_net.specs.declared.netlist.NetKind.{NetKind}
 use Rattle.hw_net.specs.Netlist.{reads_now}
-use Rattle.hw_order.specs.inner.Ordering.{IsReader}
+use Rattle.hw_order.specs.inner.NetOrder.{IsReader}
 use Rattle.hw_order.proofs.order.link_net.Goals as goal
 
 pub returns-in-Comb-clause-knows : goal.returns-in-Comb-clause-knows

@@ -1,7 +1,7 @@
 use Rattle.std.proofs.Common.{ℕ, All, subst, arith}
 use Rattle.hw_net.specs.Netlist.{reads_now}
-use Rattle.hw_order.specs.inner.Ordering.{IsReader}
-use Rattle.hw_order.proofs.Ordering.{linked-more}
+use Rattle.hw_order.specs.inner.NetOrder.{IsReader}
+use Rattle.hw_order.proofs.NetOrder.{linked-more}
 use Rattle.hw_order.proofs.order.link_nets.Goals as goal
 
 pub loop-k-preserved : goal.loop-k-preserved

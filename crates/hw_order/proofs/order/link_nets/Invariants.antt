@@ -1,4 +1,4 @@
-use Rattle.hw_order.specs.inner.Ordering.{IsLinked}
+use Rattle.hw_order.specs.inner.NetOrder.{IsLinked}
 use Rattle.hw_order.proofs.order.link_nets.Given as goal
 
 abbrev pub invariant-loop-k : goal.invariant-loop-k

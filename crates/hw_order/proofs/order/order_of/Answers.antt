@@ -1,9 +1,9 @@
 use Rattle.std.proofs.Common.{length, List}
 use Rattle.hw_net.specs.declared.netlist.Net.{Net}
 use Rattle.hw_order.specs.Order.{IsOrder}
-use Rattle.hw_order.specs.inner.Ordering.{IsGrowing, IsClosed}
+use Rattle.hw_order.specs.inner.NetOrder.{IsGrowing, IsClosed}
 use Rattle.math_list.proofs.Places.{if-both}
-use Rattle.hw_order.proofs.Ordering.{order-of, all-now-there}
+use Rattle.hw_order.proofs.NetOrder.{order-of, all-now-there}
 use Rattle.hw_order.proofs.order.order_of.Goals as goal
 
 pub rank_nets-requires-clause-there : goal.rank_nets-requires-clause-there

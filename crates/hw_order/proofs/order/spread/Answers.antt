@@ -1,7 +1,7 @@
 use Rattle.std.proofs.Common.{◌≡◌, ◌<◌, ℕ, List, [], length, Contains, slice_index, slice_index_or, arith, subst, ap, ◌∙◌, sym}
 use Rattle.std.proofs.lemmas.List.Elements.{All-contains}
-use Rattle.hw_order.specs.inner.Ordering.{Serves, IsReader}
-use Rattle.hw_order.proofs.Ordering.{closed-next, order-within, read-at}
+use Rattle.hw_order.specs.inner.NetOrder.{Serves, IsReader}
+use Rattle.hw_order.proofs.NetOrder.{closed-next, order-within, read-at}
 use Rattle.hw_order.proofs.order.spread.Goals as goal
 
 pub loop-done-preserved : goal.loop-done-preserved

@@ -1,5 +1,5 @@
 use Rattle.std.proofs.Common.{length, ◌≤◌, ◌-◌}
-use Rattle.hw_order.specs.inner.Ordering.{IsGrowing, IsClosed}
+use Rattle.hw_order.specs.inner.NetOrder.{IsGrowing, IsClosed}
 use Rattle.hw_order.proofs.order.spread.Given as goal
 
 abbrev pub invariant-loop-done : goal.invariant-loop-done

@@ -1,8 +1,8 @@
 use Rattle.std.proofs.Common.{rules, ◌≡◌, ℕ, List, All, Some, set, length, subst, sym, ◌++◌, ◌∷◌, [], arith}
 use Rattle.hw_net.specs.declared.netlist.Net.{Net}
 use Rattle.hw_net.specs.Netlist.{reads_now}
-use Rattle.hw_order.specs.inner.Ordering.{IsPlaced, IsGrowing, Keeps}
-use Rattle.hw_order.proofs.Ordering.{kept, grown, one-net, net-one}
+use Rattle.hw_order.specs.inner.NetOrder.{IsPlaced, IsGrowing, Keeps}
+use Rattle.hw_order.proofs.NetOrder.{kept, grown, one-net, net-one}
 use Rattle.hw_order.proofs.order.visit.Goals as goal
 
 pub returns-then-not-is_ready-clause-placed : goal.returns-then-not-is_ready-clause-placed

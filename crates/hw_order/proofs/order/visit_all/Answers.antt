@@ -1,6 +1,6 @@
 use Rattle.std.proofs.Common.{below_more, arith, slice_index}
 use Rattle.std.proofs.lemmas.Grind.{get_or_default_zero}
-use Rattle.hw_order.proofs.Ordering.{visits-none, visits-trans, serves-on, serves-still}
+use Rattle.hw_order.proofs.NetOrder.{visits-none, visits-trans, serves-on, serves-still}
 use Rattle.hw_order.proofs.order.visit_all.Goals as goal
 
 pub loop-k-init : goal.loop-k-init

@@ -1,5 +1,5 @@
 use Rattle.std.proofs.Common.{ℕ, ◌<◌, slice_index}
-use Rattle.hw_order.specs.inner.Ordering.{Visits, Serves}
+use Rattle.hw_order.specs.inner.NetOrder.{Visits, Serves}
 use Rattle.hw_order.proofs.order.visit_all.Given as goal
 
 abbrev pub invariant-loop-k : goal.invariant-loop-k

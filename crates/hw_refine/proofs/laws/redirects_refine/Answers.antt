@@ -1,4 +1,4 @@
-use Rattle.hw_refine.proofs.Redirected.{redirects}
+use Rattle.hw_refine.proofs.Redirects.{redirects}
 use Rattle.hw_refine.proofs.laws.redirects_refine.Goals as goal
 
 pub returns : goal.returns

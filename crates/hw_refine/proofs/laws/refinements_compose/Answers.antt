@@ -1,4 +1,4 @@
-use Rattle.hw_refine.proofs.Composed.{compose}
+use Rattle.hw_refine.proofs.Composition.{compose}
 use Rattle.hw_refine.proofs.laws.refinements_compose.Goals as goal
 
 pub returns : goal.returns

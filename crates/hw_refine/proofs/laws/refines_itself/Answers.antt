@@ -1,4 +1,4 @@
-use Rattle.hw_refine.proofs.Composed.{itself}
+use Rattle.hw_refine.proofs.Composition.{itself}
 use Rattle.hw_refine.proofs.laws.refines_itself.Goals as goal
 
 pub returns : goal.returns

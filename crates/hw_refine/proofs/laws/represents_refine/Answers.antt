@@ -1,4 +1,4 @@
-use Rattle.hw_refine.proofs.Represented.{represents}
+use Rattle.hw_refine.proofs.Represents.{represents}
 use Rattle.hw_refine.proofs.laws.represents_refine.Goals as goal
 
 pub returns : goal.returns

@@ -2,8 +2,8 @@ use Rattle.std.proofs.Common.{List, length, ap, ◌∙◌, arith}
 use Rattle.dg_model.specs.declared.diagram.Block.{Block}
 use Rattle.dg_model.specs.declared.diagram.Diagram.{Diagram}
 use Rattle.dg_model.specs.Attributes.{attributes_of}
-use Rattle.hw_sched.specs.inner.Counted.{results_at}
-use Rattle.hw_sched.proofs.Counting.{blocks_all, both_more, kept_at}
+use Rattle.hw_sched.specs.inner.Counts.{results_at}
+use Rattle.hw_sched.proofs.RegisterCounts.{blocks_all, both_more, kept_at}
 use Rattle.hw_sched.proofs.block_registers.blocks_in_all.Goals as goal
 
 pub loop-place-preserved : goal.loop-place-preserved

@@ -2,7 +2,7 @@ use Rattle.std.proofs.Common.{◌+◌, List, sym, subst, arith}
 use Rattle.hw_sched.specs.Slots.{Operation}
 use Rattle.hw_sched.specs.Answer.{timing_of}
 use Rattle.hw_sched.specs.inner.Cells.{AreCellsBut}
-use Rattle.hw_sched.proofs.Celling.{operations_from, operations_first, operations_next, cells_end}
+use Rattle.hw_sched.proofs.CellNumbers.{operations_from, operations_first, operations_next, cells_end}
 use Rattle.hw_sched.proofs.cells.cells_of.Goals as goal
 
 pub loop-place-init : goal.loop-place-init

@@ -1,6 +1,6 @@
 use Rattle.hw_sched.specs.Answer.{timing_of}
 use Rattle.hw_sched.specs.inner.Cells.{AreCellsBut}
-use Rattle.hw_sched.proofs.Celling.{operations_from}
+use Rattle.hw_sched.proofs.CellNumbers.{operations_from}
 use Rattle.hw_sched.proofs.cells.cells_of.Given as goal
 
 abbrev pub invariant-loop-place : goal.invariant-loop-place

@@ -5,7 +5,7 @@ use Rattle.hw_latency.specs.Shared.{is_shared}
 use Rattle.hw_sched.specs.Answer.{timing_of}
 use Rattle.hw_sched.specs.Slots.{Operation, operation, operations_of}
 use Rattle.hw_sched.specs.inner.Cells.{AreCellsBut}
-use Rattle.hw_sched.proofs.Celling.{elements_from, elements_first, elements_next, elements_last}
+use Rattle.hw_sched.proofs.CellNumbers.{elements_from, elements_first, elements_next, elements_last}
 use Rattle.hw_sched.proofs.cells.put_block.Goals as goal
 
 pub returns-then-not-is_shared : goal.returns-then-not-is_shared

@@ -2,7 +2,7 @@ use Rattle.std.proofs.Common.{List, ◌++◌}
 use Rattle.hw_sched.specs.Slots.{Operation}
 use Rattle.hw_sched.specs.Answer.{timing_of}
 use Rattle.hw_sched.specs.inner.Cells.{AreCellsBut, shared_at}
-use Rattle.hw_sched.proofs.Celling.{elements_from}
+use Rattle.hw_sched.proofs.CellNumbers.{elements_from}
 use Rattle.hw_sched.proofs.cells.put_block.Given as goal
 
 abbrev pub invariant-loop-element : goal.invariant-loop-element

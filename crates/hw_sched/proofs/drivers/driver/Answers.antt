@@ -2,7 +2,7 @@ use Rattle.std.proofs.Common.{◌+◌, ap, sym, ◌∙◌, arith}
 use Rattle.dg_model.specs.declared.diagram.Diagram.{Diagram}
 use Rattle.dg_model.specs.declared.diagram.Edge.{Edge}
 use Rattle.hw_sched.proofs.Items.{rest_past, rest_read, first_as}
-use Rattle.hw_sched.proofs.Entering.{enters_none, enters_more, enters_at, enters_end, enters_stop}
+use Rattle.hw_sched.proofs.PortLines.{enters_none, enters_more, enters_at, enters_end, enters_stop}
 use Rattle.hw_sched.proofs.drivers.driver.Goals as goal
 
 abbrev none : Edge

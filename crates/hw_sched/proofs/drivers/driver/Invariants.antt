@@ -1,5 +1,5 @@
 use Rattle.std.proofs.Common.{◌+◌}
-use Rattle.hw_sched.proofs.Entering.{NoneEnters}
+use Rattle.hw_sched.proofs.PortLines.{NoneEnters}
 use Rattle.hw_sched.proofs.drivers.driver.Given as goal
 
 abbrev pub invariant-loop-edge : goal.invariant-loop-edge

@@ -3,9 +3,9 @@ use Rattle.dg_model.specs.Attributes.{attributes_of}
 use Rattle.dg_model.specs.LatencyEdges.{LatencyEdge, asks_ever}
 use Rattle.dg_model.specs.Library.{row_of}
 use Rattle.hw_sched.specs.Answer.{timing_of}
-use Rattle.hw_sched.proofs.Reading.{control_parts}
-use Rattle.hw_sched.specs.inner.Counted.{capped, edge_of, line_at}
-use Rattle.hw_sched.proofs.Counting.{control_none, control_some}
+use Rattle.hw_sched.proofs.Depths.{control_parts}
+use Rattle.hw_sched.specs.inner.Counts.{capped, edge_of, line_at}
+use Rattle.hw_sched.proofs.RegisterCounts.{control_none, control_some}
 use Rattle.hw_sched.proofs.Widths.{control_line_there}
 use Rattle.hw_sched.proofs.edge_lines.controls_line.Goals as goal
 

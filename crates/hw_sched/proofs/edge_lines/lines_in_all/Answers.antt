@@ -4,7 +4,7 @@ use Rattle.dg_model.specs.declared.diagram.Diagram.{Diagram}
 use Rattle.dg_model.specs.declared.diagram.Edge.{Edge}
 use Rattle.dg_model.specs.Attributes.{attributes_of}
 use Rattle.hw_sched.specs.Answer.{timing_of}
-use Rattle.hw_sched.proofs.Counting.{beside_control, beside_line, beside_lines, beside_none}
+use Rattle.hw_sched.proofs.RegisterCounts.{beside_control, beside_line, beside_lines, beside_none}
 use Rattle.hw_sched.proofs.Items.{item_read}
 use Rattle.hw_sched.proofs.Widths.{line_there}
 use Rattle.math_list.proofs.Places.{get_some}

@@ -2,7 +2,7 @@ use Rattle.std.proofs.Common.{[], ◌++◌, drop, map}
 use Rattle.dg_model.specs.Attributes.{attributes_of}
 use Rattle.dg_model.specs.LatencyEdges.{signal_edge, enable_edges_from}
 use Rattle.hw_sched.specs.Answer.{timing_of}
-use Rattle.hw_sched.proofs.Counting.{AreBeside}
+use Rattle.hw_sched.proofs.RegisterCounts.{AreBeside}
 use Rattle.hw_sched.proofs.edge_lines.lines_in_all.Given as goal
 
 abbrev pub invariant-loop-edge : goal.invariant-loop-edge

@@ -1,4 +1,4 @@
-use Rattle.hw_sched.proofs.Standing.{depths_are_one}
+use Rattle.hw_sched.proofs.DepthLaw.{depths_are_one}
 use Rattle.hw_sched.proofs.laws.depths_are_one.Goals as goal
 
 pub returns : goal.returns

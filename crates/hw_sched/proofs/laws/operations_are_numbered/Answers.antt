@@ -1,4 +1,4 @@
-use Rattle.hw_sched.proofs.Numbered.{numbered}
+use Rattle.hw_sched.proofs.SlotNumbers.{numbered}
 use Rattle.hw_sched.proofs.laws.operations_are_numbered.Goals as goal
 
 pub returns : goal.returns

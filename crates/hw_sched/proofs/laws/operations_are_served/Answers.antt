@@ -1,4 +1,4 @@
-use Rattle.hw_sched.proofs.Served.{served, have_periods}
+use Rattle.hw_sched.proofs.Service.{served, have_periods}
 use Rattle.hw_sched.proofs.laws.operations_are_served.Goals as goal
 
 pub returns-clause-served : goal.returns-clause-served

@@ -1,6 +1,6 @@
 use Rattle.dg_model.specs.Attributes.{attributes_of}
-use Rattle.hw_sched.specs.inner.Counted.{output_latency}
-use Rattle.hw_sched.proofs.Counting.{greatest_more}
+use Rattle.hw_sched.specs.inner.Counts.{output_latency}
+use Rattle.hw_sched.proofs.RegisterCounts.{greatest_more}
 use Rattle.hw_sched.proofs.output_latency.latest_output.Goals as goal
 
 pub loop-place-preserved : goal.loop-place-preserved

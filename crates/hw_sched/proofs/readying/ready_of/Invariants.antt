@@ -1,6 +1,6 @@
 use Rattle.dg_model.specs.declared.resolved.Resolved.{Resolved}
 use Rattle.hw_sched.specs.Answer.{timing_of}
-use Rattle.hw_sched.specs.inner.Served.{AreBases}
+use Rattle.hw_sched.specs.inner.Service.{AreBases}
 use Rattle.hw_sched.proofs.Outputs.{AreReadyTo}
 use Rattle.hw_sched.proofs.readying.ready_of.Given as goal
 

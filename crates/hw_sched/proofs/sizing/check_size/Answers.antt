@@ -3,7 +3,7 @@ use Rattle.dg_model.specs.Attributes.{attributes_of}
 use Rattle.hw_sched.specs.Answer.{timing_of}
 use Rattle.hw_sched.specs.Sizing.{ForTimes, IsSizeOf}
 use Rattle.hw_sched.specs.Storage.{storage}
-use Rattle.hw_sched.proofs.Counting.{storage_as, latest_is}
+use Rattle.hw_sched.proofs.RegisterCounts.{storage_as, latest_is}
 use Rattle.hw_sched.proofs.Limits.{kept_as, broken_as}
 use Rattle.hw_sched.proofs.sizing.check_size.Goals as goal
 use Rattle.hw_sched.proofs.sizing.check_size.Goals.{In_ok-latency}

@@ -3,9 +3,9 @@ use Rattle.hw_slots.specs.declared.operation.Operation.{Operation as Cell}
 use Rattle.hw_slots.specs.declared.operation.Span.{Span}
 use Rattle.hw_slots.specs.Answer.{AreSlots as AreMade, IsSlotFault}
 use Rattle.hw_sched.specs.Answer.{IsBudgetFault, timing_of}
-use Rattle.hw_sched.specs.inner.Served.{IsServed}
+use Rattle.hw_sched.specs.inner.Service.{IsServed}
 use Rattle.std.proofs.lemmas.Result.{IfOk-weaker, IfErr-weaker}
-use Rattle.hw_sched.proofs.Serving.{is_served, fault_told}
+use Rattle.hw_sched.proofs.DiagramSlots.{is_served, fault_told}
 use Rattle.hw_sched.proofs.slots.slots_by_depths.Goals as goal
 
 pub returns-clause-slots : goal.returns-clause-slots

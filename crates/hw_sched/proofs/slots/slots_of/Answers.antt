@@ -1,4 +1,4 @@
-use Rattle.hw_sched.proofs.Serving.{timed_by, slots_are}
+use Rattle.hw_sched.proofs.DiagramSlots.{timed_by, slots_are}
 use Rattle.hw_sched.proofs.slots.slots_of.Goals as goal
 
 pub slots_by_depths-requires-clause-timed : goal.slots_by_depths-requires-clause-timed

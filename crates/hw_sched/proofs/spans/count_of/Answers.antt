@@ -2,7 +2,7 @@ use Rattle.std.proofs.Common.{◌≤◌, List, length, ap, subst, ◌∙◌}
 use Rattle.dg_model.specs.declared.diagram.Block.{Block}
 use Rattle.dg_model.specs.declared.diagram.Diagram.{Diagram}
 use Rattle.hw_latency.specs.Weight.{samples}
-use Rattle.hw_sched.proofs.Spanning.{within_more, counted_all}
+use Rattle.hw_sched.proofs.SpanLines.{within_more, counted_all}
 use Rattle.hw_sched.proofs.spans.count_of.Goals as goal
 
 pub loop-place-preserved : goal.loop-place-preserved

@@ -1,4 +1,4 @@
-use Rattle.hw_sched.proofs.Spanning.{AreWithin}
+use Rattle.hw_sched.proofs.SpanLines.{AreWithin}
 use Rattle.hw_sched.proofs.spans.count_of.Given as goal
 
 abbrev pub invariant-loop-place : goal.invariant-loop-place

@@ -6,7 +6,7 @@ use Rattle.dg_model.specs.declared.diagram.Edge.{Edge}
 use Rattle.hw_sched.specs.inner.Spans.{AreCounted}
 use Rattle.hw_sched.proofs.Lists.{zero_at}
 use Rattle.hw_sched.proofs.Items.{item_read}
-use Rattle.hw_sched.proofs.Spanning.{longest_none, longest_more, longest_end}
+use Rattle.hw_sched.proofs.SpanLines.{longest_none, longest_more, longest_end}
 use Rattle.dg_sort.proofs.Lines.{from_there, to_there}
 use Rattle.hw_sched.proofs.spans.longest_into.Goals as goal
 

@@ -1,4 +1,4 @@
-use Rattle.hw_sched.proofs.Spanning.{few_clocks, spans_none, spans_more, spans_end}
+use Rattle.hw_sched.proofs.SpanLines.{few_clocks, spans_none, spans_more, spans_end}
 use Rattle.std.proofs.Common.{◌≡◌, ◌<◌, ◌*◌, ◌-◌, ℕ, length, slice_index, ap, ◌∙◌, arith}
 use Rattle.std.proofs.lemmas.List.{get_or_default}
 use Rattle.hw_sched.proofs.spans.spans_of.Goals as goal

@@ -1,7 +1,7 @@
 use Rattle.std.proofs.Common.{◌≡◌, IfOk, OnOk, ◌∷◌, []}
 use Rattle.hw_share.specs.inner.Parts.{Grows, IsChoosing}
 use Rattle.hw_share.specs.inner.Choices.{IsChoiceAt}
-use Rattle.hw_net.proofs.Extending.{read-net}
+use Rattle.hw_net.proofs.Extends.{read-net}
 use Rattle.hw_share.proofs.Choices.{choice-part}
 use Rattle.hw_share.proofs.choosing.choose.Goals as goal
 

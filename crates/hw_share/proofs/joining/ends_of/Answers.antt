@@ -2,11 +2,11 @@ use Rattle.std.proofs.Common.{rules, ◌≡◌, ◌∙◌, ap, sym, arith, Optio
 use Rattle.std.proofs.lemmas.Option.{slice_get-get_or, get_or_from_slice_get}
 use Rattle.hw_share.specs.declared.operation.Operation.{Operation}
 use Rattle.hw_share.specs.declared.joining.Ends.{Ends}
-use Rattle.hw_share.specs.inner.Joined.{IsJoined, ends_at, AreEnds}
-use Rattle.hw_share.specs.inner.KnownTests.{AreTests}
-use Rattle.hw_share.proofs.Known.{no-tests}
-use Rattle.hw_share.proofs.Kept.{no-operation}
-use Rattle.hw_share.proofs.Named.{length-of-none}
+use Rattle.hw_share.specs.inner.ChainEnds.{IsJoined, ends_at, AreEnds}
+use Rattle.hw_share.specs.inner.ClockTests.{AreTests}
+use Rattle.hw_share.proofs.ClockTests.{no-tests}
+use Rattle.hw_share.proofs.ResultRegisters.{no-operation}
+use Rattle.hw_share.proofs.OperationLists.{length-of-none}
 use Rattle.hw_share.proofs.Ends.{ends-begun, ends-more, can-join, unit-there}
 use Rattle.hw_share.proofs.joining.ends_of.Goals as goal
 

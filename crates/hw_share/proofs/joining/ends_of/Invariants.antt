@@ -1,5 +1,5 @@
-use Rattle.hw_share.specs.inner.Joined.{AreEnds}
-use Rattle.hw_share.specs.inner.KnownTests.{AreTests}
+use Rattle.hw_share.specs.inner.ChainEnds.{AreEnds}
+use Rattle.hw_share.specs.inner.ClockTests.{AreTests}
 use Rattle.hw_share.proofs.joining.ends_of.Given as goal
 
 abbrev pub invariant-loop-one : goal.invariant-loop-one

@@ -1,7 +1,7 @@
-use Rattle.hw_net.proofs.Growing.{extends-trans}
-use Rattle.hw_share.proofs.Grown.{there-later}
+use Rattle.hw_net.proofs.Growth.{extends-trans}
+use Rattle.hw_share.proofs.Growth.{there-later}
 use Rattle.hw_share.proofs.Joins.{has-joined, joined-part, begun-part, word-of-both}
-use Rattle.hw_share.proofs.Known.{tests-later}
+use Rattle.hw_share.proofs.ClockTests.{tests-later}
 use Rattle.hw_share.proofs.joining.join.Goals as goal
 
 pub returns-in_default : goal.returns-in_default

@@ -2,8 +2,8 @@ use Rattle.std.proofs.Common.{◌≡◌, ℕ, length, slice_index_or, subst, ari
 use Rattle.std.proofs.lemmas.Option.{slice_get-get_or}
 use Rattle.hw_share.specs.declared.operation.Operation.{Operation}
 use Rattle.hw_share.specs.inner.Steps.{AreResults}
-use Rattle.hw_share.proofs.Grown.{there-later}
-use Rattle.hw_share.proofs.Kept.{results-begun, results-more, no-operation}
+use Rattle.hw_share.proofs.Growth.{there-later}
+use Rattle.hw_share.proofs.ResultRegisters.{results-begun, results-more, no-operation}
 use Rattle.hw_share.proofs.Numbers.{zero-in}
 use Rattle.hw_share.proofs.keeping.results_of.Goals as goal
 

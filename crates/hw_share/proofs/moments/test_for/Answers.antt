@@ -1,7 +1,7 @@
 use Rattle.std.proofs.Common.{[], ◌≡◌, ◌∙◌, sym}
 use Rattle.hw_share.specs.inner.Parts.{IsChoosing}
-use Rattle.hw_share.proofs.Grown.{grows-self}
-use Rattle.hw_share.proofs.Known.{known-tested, put-tested}
+use Rattle.hw_share.proofs.Growth.{grows-self}
+use Rattle.hw_share.proofs.ClockTests.{known-tested, put-tested}
 use Rattle.hw_share.proofs.moments.test_for.Goals as goal
 
 pub returns-in-Some-clause-test : goal.returns-in-Some-clause-test

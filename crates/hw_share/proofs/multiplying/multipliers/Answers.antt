@@ -1,7 +1,7 @@
 use Rattle.std.proofs.Common.{None, Some, slice_index_or, sym, ◌∙◌, ap, subst, refl, ◌≡◌, ℕ, length, arith}
 use Rattle.std.proofs.lemmas.Option.{slice_get-get_or, same_Some}
 use Rattle.hw_share.specs.inner.Steps.{CanMultiply, AreMultipliers}
-use Rattle.hw_share.proofs.Multiplied.{multipliers-begun, multipliers-more, can-later}
+use Rattle.hw_share.proofs.Multipliers.{multipliers-begun, multipliers-more, can-later}
 use Rattle.hw_share.proofs.multiplying.multipliers.Goals as goal
 
 pub unwrap-requires : goal.unwrap-requires

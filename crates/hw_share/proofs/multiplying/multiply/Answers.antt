@@ -4,8 +4,8 @@ use Rattle.math_num.specs.Word.{IsWord}
 use Rattle.hw_net.specs.declared.netlist.Net.{Net}
 use Rattle.hw_share.specs.inner.Parts.{Grows, IsMultiplying}
 use Rattle.hw_share.specs.inner.Steps.{IsMultiplier}
-use Rattle.hw_net.proofs.Extending.{read-net}
-use Rattle.hw_share.proofs.Multiplied.{multiply-part}
+use Rattle.hw_net.proofs.Extends.{read-net}
+use Rattle.hw_share.proofs.Multipliers.{multiply-part}
 use Rattle.hw_share.proofs.multiplying.multiply.Goals as goal
 
 narrow : (width : ℕ) (signed : Bool) → IsWord width signed → width ≤ 128

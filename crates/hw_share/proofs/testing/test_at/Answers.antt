@@ -2,7 +2,7 @@ use Rattle.std.proofs.Common.{◌≡◌, ◌*◌, ◌-◌, [], ℕ, false, pos, 
 use Rattle.std.specs.Int.{w128}
 use Rattle.std.proofs.lemmas.Int.{to_z-of_z}
 use Rattle.math_num.specs.Word.{InWord}
-use Rattle.hw_net.proofs.Growing.{appends-counter}
+use Rattle.hw_net.proofs.Growth.{appends-counter}
 use Rattle.hw_share.specs.inner.Parts.{Grows, IsChoosing}
 use Rattle.hw_share.specs.inner.Choices.{IsTestAt}
 use Rattle.hw_share.proofs.Numbers.{less-in}

@@ -1,5 +1,5 @@
 use Rattle.std.proofs.Common.{◌≡◌}
-use Rattle.hw_slots.specs.inner.Made.{AreFirstBy, first_by}
+use Rattle.hw_slots.specs.inner.Counts.{AreFirstBy, first_by}
 use Rattle.hw_slots.proofs.firsts.firsts_of.Given as goal
 
 abbrev pub invariant-loop-kind : goal.invariant-loop-kind

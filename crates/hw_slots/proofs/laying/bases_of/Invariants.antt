@@ -1,4 +1,4 @@
-use Rattle.hw_slots.specs.inner.Made.{AreLaid}
+use Rattle.hw_slots.specs.inner.Counts.{AreLaid}
 use Rattle.hw_slots.proofs.laying.bases_of.Given as goal
 
 abbrev pub invariant-loop-place : goal.invariant-loop-place

@@ -1,6 +1,6 @@
 use Rattle.std.proofs.Common.{◌≡◌, ℕ, subst, arith}
 use Rattle.hw_slots.proofs.Totals.{bases_none, base_none, base_more, bases_more, elsewhere_none, elsewhere_more}
-use Rattle.hw_slots.specs.inner.Made.{AreBasesBy, base_by}
+use Rattle.hw_slots.specs.inner.Counts.{AreBasesBy, base_by}
 use Rattle.hw_slots.proofs.laying.lay_out.Goals as goal
 
 pub loop-level-init : goal.loop-level-init

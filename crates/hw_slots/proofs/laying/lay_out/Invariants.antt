@@ -1,5 +1,5 @@
 use Rattle.std.proofs.Common.{◌≡◌}
-use Rattle.hw_slots.specs.inner.Made.{AreBasesBy, IsElsewhere, base_by}
+use Rattle.hw_slots.specs.inner.Counts.{AreBasesBy, IsElsewhere, base_by}
 use Rattle.hw_slots.proofs.laying.lay_out.Given as goal
 
 abbrev pub invariant-loop-level : goal.invariant-loop-level

@@ -3,7 +3,7 @@ use Rattle.std.proofs.lemmas.Option.{slice_get-get_or}
 use Rattle.hw_slots.specs.declared.operation.Operation.{Operation}
 use Rattle.hw_slots.proofs.Steps.{counts_none, counts_more, turns_none, turns_more}
 use Rattle.std.proofs.lemmas.List.{take_all}
-use Rattle.hw_slots.specs.inner.Made.{AreCounts, AreTurns}
+use Rattle.hw_slots.specs.inner.Counts.{AreCounts, AreTurns}
 use Rattle.hw_slots.proofs.turns.turns_of.Goals as goal
 
 abbrev none : Operation

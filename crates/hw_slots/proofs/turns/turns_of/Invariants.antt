@@ -1,5 +1,5 @@
 use Rattle.std.proofs.Common.{take}
-use Rattle.hw_slots.specs.inner.Made.{AreCounts, AreTurns}
+use Rattle.hw_slots.specs.inner.Counts.{AreCounts, AreTurns}
 use Rattle.hw_slots.proofs.turns.turns_of.Given as goal
 
 abbrev pub invariant-loop-operation : goal.invariant-loop-operation

@@ -1,5 +1,5 @@
 use Rattle.std.proofs.Common.{◌≡◌}
-use Rattle.hw_trim.specs.inner.Keeping.{kept_of, ArePlaces}
+use Rattle.hw_trim.specs.inner.MarkPlaces.{kept_of, ArePlaces}
 use Rattle.hw_trim.proofs.keeping.keep.Given as goal
 
 abbrev pub invariant-loop-k : goal.invariant-loop-k

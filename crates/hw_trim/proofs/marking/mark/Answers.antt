@@ -1,6 +1,6 @@
 use Rattle.std.proofs.Common.{ℕ, List, set, true, subst, sym}
-use Rattle.hw_trim.specs.inner.Marking.{Marks}
-use Rattle.hw_trim.proofs.Marked.{marks-one}
+use Rattle.hw_trim.specs.inner.Marks.{Marks}
+use Rattle.hw_trim.proofs.Marks.{marks-one}
 use Rattle.hw_trim.proofs.marking.mark.Goals as goal
 
 pub returns-clause-marks : goal.returns-clause-marks

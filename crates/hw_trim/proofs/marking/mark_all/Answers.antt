@@ -1,6 +1,6 @@
 use Rattle.std.proofs.Common.{below_more, arith, slice_index}
 use Rattle.std.proofs.lemmas.Grind.{get_or_default_zero}
-use Rattle.hw_trim.proofs.Marked.{marks-none, marks-trans}
+use Rattle.hw_trim.proofs.Marks.{marks-none, marks-trans}
 use Rattle.hw_trim.proofs.marking.mark_all.Goals as goal
 
 pub loop-k-init : goal.loop-k-init

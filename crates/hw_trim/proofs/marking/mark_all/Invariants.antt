@@ -1,5 +1,5 @@
 use Rattle.std.proofs.Common.{◌≡◌, ◌<◌, ℕ, true, slice_index}
-use Rattle.hw_trim.specs.inner.Marking.{is_marked, Marks}
+use Rattle.hw_trim.specs.inner.Marks.{is_marked, Marks}
 use Rattle.hw_trim.proofs.marking.mark_all.Given as goal
 
 abbrev pub invariant-loop-k : goal.invariant-loop-k

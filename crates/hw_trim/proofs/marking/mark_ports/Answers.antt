@@ -3,8 +3,8 @@ use Rattle.std.proofs.lemmas.Bool.{cases_lt}
 use Rattle.std.proofs.lemmas.Option.{get_or_from_slice_get, slice_get_within}
 use Rattle.hw_net.specs.declared.netlist.NetPort.{NetPort}
 use Rattle.math_list.proofs.Elements.{all-from}
-use Rattle.hw_trim.specs.inner.Marking.{is_marked}
-use Rattle.hw_trim.proofs.Marked.{marks-none, marks-trans}
+use Rattle.hw_trim.specs.inner.Marks.{is_marked}
+use Rattle.hw_trim.proofs.Marks.{marks-none, marks-trans}
 use Rattle.hw_trim.proofs.marking.mark_ports.Goals as goal
 
 pub loop-port-init : goal.loop-port-init

@@ -1,6 +1,6 @@
 use Rattle.std.proofs.Common.{◌≡◌, ◌<◌, ℕ, true, slice_get, Some}
 use Rattle.hw_net.specs.declared.netlist.NetPort.{NetPort}
-use Rattle.hw_trim.specs.inner.Marking.{is_marked, Marks}
+use Rattle.hw_trim.specs.inner.Marks.{is_marked, Marks}
 use Rattle.hw_trim.proofs.marking.mark_ports.Given as goal
 
 abbrev pub invariant-loop-port : goal.invariant-loop-port

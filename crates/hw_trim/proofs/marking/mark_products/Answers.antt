@@ -1,6 +1,6 @@
 use Rattle.std.proofs.Common.{arith}
 use Rattle.std.proofs.lemmas.Option.{slice_get_within}
-use Rattle.hw_trim.proofs.Marked.{marks-none}
+use Rattle.hw_trim.proofs.Marks.{marks-none}
 use Rattle.hw_trim.proofs.marking.mark_products.Goals as goal
 
 pub loop-k-init : goal.loop-k-init

@@ -1,6 +1,6 @@
 use Rattle.std.proofs.Common.{◌≡◌, ◌<◌, ℕ, true, slice_get, Some}
 use Rattle.hw_net.specs.declared.netlist.Net.{Net}
-use Rattle.hw_trim.specs.inner.Marking.{is_marked, multiplies, Marks}
+use Rattle.hw_trim.specs.inner.Marks.{is_marked, multiplies, Marks}
 use Rattle.hw_trim.proofs.marking.mark_products.Given as goal
 
 abbrev pub invariant-loop-k : goal.invariant-loop-k

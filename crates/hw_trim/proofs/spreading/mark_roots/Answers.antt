@@ -1,5 +1,5 @@
 use Rattle.std.proofs.Common.{length, ◌∙◌}
-use Rattle.hw_trim.proofs.Marked.{inputs-there, labels-there}
+use Rattle.hw_trim.proofs.Marks.{inputs-there, labels-there}
 use Rattle.hw_trim.proofs.spreading.mark_roots.Goals as goal
 
 pub mark_ports-requires-clause-there : goal.mark_ports-requires-clause-there

@@ -1,5 +1,5 @@
 use Rattle.std.proofs.Common.{rules, ◌≡◌, false, length, replicate}
-use Rattle.hw_trim.proofs.Marked.{marking-none}
+use Rattle.hw_trim.proofs.Marks.{marking-none}
 use Rattle.hw_trim.proofs.spreading.needed.Goals as goal
 
 pub mark_needed-requires-clause-marking : goal.mark_needed-requires-clause-marking

@@ -1,5 +1,5 @@
 use Rattle.std.proofs.Common.{length, arith, ap}
-use Rattle.hw_trim.proofs.Marked.{marks-none}
+use Rattle.hw_trim.proofs.Marks.{marks-none}
 use Rattle.hw_trim.proofs.spreading.spread.Goals as goal
 
 pub loop-done-init : goal.loop-done-init

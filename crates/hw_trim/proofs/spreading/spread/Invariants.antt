@@ -1,6 +1,6 @@
 use Rattle.std.proofs.Common.{◌≡◌, ◌<◌, ◌≤◌, ◌-◌, ℕ, length, slice_get, slice_index, Some}
 use Rattle.hw_net.specs.declared.netlist.Net.{Net}
-use Rattle.hw_trim.specs.inner.Marking.{IsServed, Marks}
+use Rattle.hw_trim.specs.inner.Marks.{IsServed, Marks}
 use Rattle.hw_trim.proofs.spreading.spread.Given as goal
 
 abbrev pub invariant-loop-done : goal.invariant-loop-done

@@ -1,6 +1,6 @@
 use Rattle.std.proofs.Common.{◌∙◌, sym, subst, List, ℕ, length}
 use Rattle.std.proofs.lemmas.Result.{IfOk-weaker}
-use Rattle.hw_trim.specs.inner.Keeping.{ArePlaces}
+use Rattle.hw_trim.specs.inner.MarkPlaces.{ArePlaces}
 use Rattle.hw_trim.proofs.Result.{made-emits, made-refines, made-runs, moves}
 use Rattle.hw_trim.proofs.trimming.marked_part.Goals as goal
 

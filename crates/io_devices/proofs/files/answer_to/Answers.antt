@@ -1,6 +1,6 @@
 use Rattle.std.proofs.Common.{length, Ok, Err, refl, ap, arith}
 use Rattle.fx_io.specs.declared.shelf.FetchFault.TheVariants.{Failed, TooLong, OutOfMemory}
-use Rattle.io_devices.proofs.Counted.{owed}
+use Rattle.io_devices.proofs.FetchCounts.{owed}
 use Rattle.io_devices.proofs.files.answer_to.Goals as goal
 
 pub returns-in-Ok-from_vec-clause-owed : goal.returns-in-Ok-from_vec-clause-owed

@@ -1,4 +1,4 @@
-use Rattle.laws_filters.proofs.Fitting.{filters_convolve}
+use Rattle.laws_filters.proofs.FilterFits.{filters_convolve}
 use Rattle.laws_filters.proofs.laws.filters_convolve.Goals as goal
 
 pub returns : goal.returns

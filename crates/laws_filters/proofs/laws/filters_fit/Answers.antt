@@ -1,4 +1,4 @@
-use Rattle.laws_filters.proofs.Fitting.{filters_fit}
+use Rattle.laws_filters.proofs.FilterFits.{filters_fit}
 use Rattle.laws_filters.proofs.laws.filters_fit.Goals as goal
 
 pub returns : goal.returns

@@ -1,4 +1,4 @@
-use Rattle.laws_filters.proofs.Convolved.{fitting_convolve}
+use Rattle.laws_filters.proofs.Convolution.{fitting_convolve}
 use Rattle.laws_filters.proofs.laws.fitting_convolve.Goals as goal
 
 pub returns : goal.returns

@@ -3,7 +3,7 @@ use Rattle.std.proofs.lemmas.List.{length-map}
 use Rattle.mdl_build.specs.Library.{row_of, parameters_of}
 use Rattle.mdl_build.specs.Lookup.{fallback}
 use Rattle.mdl_build.specs.inner.Readings.{AreReadTo}
-use Rattle.mdl_build.proofs.ReadingLemmas.{none_read, one_read, all_read, first_wrong, row_here, read_some, read_none}
+use Rattle.mdl_build.proofs.ParameterLemmas.{none_read, one_read, all_read, first_wrong, row_here, read_some, read_none}
 use Rattle.mdl_build.proofs.blocks.read_block.Goals as goal
 
 pub loop-number-init : goal.loop-number-init

@@ -7,8 +7,8 @@ use Rattle.mdl_text.specs.declared.tree.Item.{Item}
 use Rattle.mdl_build.specs.declared.known.Known.{Known}
 use Rattle.mdl_build.specs.Nested.{IsNestedOf}
 use Rattle.mdl_build.specs.Rules.{Breaks}
-use Rattle.mdl_build.specs.inner.Known.{AreLarge, IsFound, IsKnownOf, keeps_sizes}
-use Rattle.mdl_build.proofs.KnownLemmas.{broken_sizes}
+use Rattle.mdl_build.specs.inner.ItemFacts.{AreLarge, IsFound, IsKnownOf, keeps_sizes}
+use Rattle.mdl_build.proofs.StructureLemmas.{broken_sizes}
 use Rattle.mdl_build.proofs.Sound.{sound}
 use Rattle.mdl_build.proofs.building.build.Goals as goal
 use Rattle.mdl_build.proofs.building.build.Goals.{In-Some}

@@ -2,7 +2,7 @@ use Rattle.std.proofs.Common.{ℕ, sym, ap, ◌∙◌}
 use Rattle.std.specs.Prelude.{find, is_none}
 use Rattle.mdl_build.specs.Rules.{type_at}
 use Rattle.mdl_build.proofs.BlockPlaces.{block_here}
-use Rattle.mdl_build.proofs.KnownLemmas.{found_block}
+use Rattle.mdl_build.proofs.StructureLemmas.{found_block}
 use Rattle.mdl_build.proofs.building.library_fault.Goals as goal
 
 pub first_unknown-requires : goal.first_unknown-requires

@@ -1,12 +1,12 @@
 use Rattle.std.proofs.Common.{◌≡◌, ◌+◌, subst, length, get_or, Some, sym, ap, ◌∙◌, arith}
 use Rattle.std.proofs.lemmas.Result.{err_from_is_err_and}
 use Rattle.mdl_build.specs.Rules.{IsWrongFirst, type_at}
-use Rattle.mdl_build.specs.inner.Known.{IsWrongAt}
+use Rattle.mdl_build.specs.inner.ItemFacts.{IsWrongAt}
 use Rattle.mdl_build.specs.inner.Makers.{AreMade, extents_of, items_of}
 use Rattle.mdl_build.proofs.BlockPlaces.{listed, block_here}
-use Rattle.mdl_build.proofs.KnownLemmas.{structure_kept, name_kept, type_kept}
-use Rattle.dg_model.proofs.Refused.{refused_as}
-use Rattle.mdl_build.proofs.MakingLemmas.{none_made, made_next, made_all, wrong_first}
+use Rattle.mdl_build.proofs.StructureLemmas.{structure_kept, name_kept, type_kept}
+use Rattle.dg_model.proofs.Refusals.{refused_as}
+use Rattle.mdl_build.proofs.MakerLemmas.{none_made, made_next, made_all, wrong_first}
 use Rattle.mdl_build.proofs.building.put_blocks.Goals as goal
 
 pub loop-place-init : goal.loop-place-init

@@ -1,7 +1,7 @@
 use Rattle.std.proofs.Common.{◌≡◌, ℕ, List, sym, subst, ap, ◌∙◌}
 use Rattle.mdl_build.specs.Extents.{starts}
-use Rattle.mdl_build.specs.inner.Drawn.{AreNumbersOf}
-use Rattle.mdl_build.proofs.Numbered.{are_numbers}
+use Rattle.mdl_build.specs.inner.Sketch.{AreNumbersOf}
+use Rattle.mdl_build.proofs.ModelNumbers.{are_numbers}
 use Rattle.mdl_build.proofs.Sound.{drawn_model}
 use Rattle.mdl_build.proofs.building.put_by_drawn.Goals as goal
 

@@ -2,7 +2,7 @@ use Rattle.std.proofs.Common.{◌≡◌, [], None, Some, List, inl, inr, subst, 
 use Rattle.std.specs.Prelude.{IfErr}
 use Rattle.std.specs.List.{AllZip}
 use Rattle.std.proofs.lemmas.Result.{on_ok_weaker, IfErr-weaker}
-use Rattle.dg_model.proofs.Refused.{refused_as}
+use Rattle.dg_model.proofs.Refusals.{refused_as}
 use Rattle.dg_model.specs.declared.fault.CheckFault.{CheckFault}
 use Rattle.dg_model.specs.declared.fault.Shown.TheVariants.{Nothing}
 use Rattle.dg_model.specs.declared.rule.Rule.{Rule}
@@ -12,7 +12,7 @@ use Rattle.mdl_build.specs.Nested.{IsDrawnAt}
 use Rattle.mdl_build.specs.Roles.{blocks_of}
 use Rattle.mdl_build.specs.Rules.{Breaks, FindsStructure, IsWrongFirst, library_fault, structure_fault}
 use Rattle.mdl_build.specs.inner.Makers.{items_of}
-use Rattle.mdl_build.proofs.KnownLemmas.{model_keeps, model_breaks}
+use Rattle.mdl_build.proofs.StructureLemmas.{model_keeps, model_breaks}
 use Rattle.mdl_build.proofs.building.put_tree.Goals as goal
 use Rattle.mdl_build.proofs.building.put_tree.Goals.{In_default}
 

@@ -7,7 +7,7 @@ use Rattle.dg_model.specs.declared.nested.NestedBlock.{NestedBlock}
 use Rattle.dg_model.specs.declared.nested.NestedLine.{NestedLine}
 use Rattle.mdl_build.specs.declared.expanding.DrawnBlock.{DrawnBlock}
 use Rattle.mdl_build.specs.Expanded.{with_filling, filling_lines, moved_line}
-use Rattle.mdl_build.specs.inner.Drawn.{IsPlaced}
+use Rattle.mdl_build.specs.inner.Sketch.{IsPlaced}
 use Rattle.mdl_build.proofs.expanding.put_expanded.Goals as goal
 
 abbrev lines_of_entry : ℕ × DrawnBlock → List NestedLine

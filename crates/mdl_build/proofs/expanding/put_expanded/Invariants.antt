@@ -4,7 +4,7 @@ use Rattle.std.specs.Vec.Iter.{into_iter_items, into_iter_len}
 use Rattle.fx_type.specs.declared.decimal.Decimal.{Decimal}
 use Rattle.mdl_build.specs.declared.expanding.DrawnBlock.{DrawnBlock}
 use Rattle.mdl_build.specs.Expanded.{with_filling, filling_lines, expanded_blocks, expanded_lines}
-use Rattle.mdl_build.specs.inner.Drawn.{IsPlaced}
+use Rattle.mdl_build.specs.inner.Sketch.{IsPlaced}
 use Rattle.mdl_build.proofs.expanding.put_expanded.Given as goal
 
 abbrev pub invariant-loop-drawn : goal.invariant-loop-drawn

@@ -1,6 +1,6 @@
 use Rattle.std.proofs.Common.{List, Bool, true, subst, ◌∙◌}
 use Rattle.mdl_text.specs.declared.tree.Item.{Item}
-use Rattle.mdl_build.specs.inner.Known.{AreLarge, IsFound}
+use Rattle.mdl_build.specs.inner.ItemFacts.{AreLarge, IsFound}
 use Rattle.mdl_build.proofs.known.known_of.Goals as goal
 
 pub find_blocks-requires-clause-none : goal.find_blocks-requires-clause-none

@@ -1,6 +1,6 @@
 use Rattle.mdl_values.specs.Lists.{IsListText}
 use Rattle.mdl_build.specs.declared.settings.Setting.{Setting}
-use Rattle.mdl_build.proofs.Found.{found_in}
+use Rattle.mdl_build.proofs.Readings.{found_in}
 use Rattle.mdl_build.proofs.list_readers.list.Goals as goal
 
 pub returns : goal.returns

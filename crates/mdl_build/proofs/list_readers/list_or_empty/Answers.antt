@@ -1,7 +1,7 @@
 use Rattle.std.proofs.Common.{[], inl, inr, refl, sym, ◌∙◌}
 use Rattle.mdl_build.specs.declared.library.Reader.{Reader}
 use Rattle.mdl_build.specs.Settings.{ReadsAs}
-use Rattle.mdl_build.proofs.Found.{ok_found_same, differ_by_not, same_by_not}
+use Rattle.mdl_build.proofs.Readings.{ok_found_same, differ_by_not, same_by_not}
 use Rattle.mdl_build.proofs.Zeros.{zero_alone}
 use Rattle.mdl_build.proofs.list_readers.list_or_empty.Goals as goal
 

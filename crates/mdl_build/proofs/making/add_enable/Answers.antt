@@ -7,7 +7,7 @@ use Rattle.mdl_text.specs.declared.tree.Item.{Item}
 use Rattle.mdl_build.specs.declared.library.BlockType.TheVariants.{EnablePort}
 use Rattle.mdl_build.specs.Blocks.{at, is_of}
 use Rattle.mdl_build.specs.Sections.{holder_of}
-use Rattle.mdl_build.specs.inner.Known.{is_enable_in, AreEnabled}
+use Rattle.mdl_build.specs.inner.ItemFacts.{is_enable_in, AreEnabled}
 use Rattle.mdl_build.proofs.RoleLemmas.{holder_before}
 use Rattle.mdl_build.proofs.making.add_enable.Goals as goal
 

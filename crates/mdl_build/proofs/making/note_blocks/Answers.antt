@@ -3,9 +3,9 @@ use Rattle.std.specs.Prelude.{slice_get}
 use Rattle.std.proofs.lemmas.List.{take_more, take_all}
 use Rattle.std.proofs.lemmas.Option.{slice_get-get_or}
 use Rattle.mdl_build.specs.Roles.{blocks_of}
-use Rattle.mdl_build.specs.inner.Known.{AreEnabled}
+use Rattle.mdl_build.specs.inner.ItemFacts.{AreEnabled}
 use Rattle.mdl_build.proofs.BlockPlaces.{block_here}
-use Rattle.mdl_build.proofs.MakingLemmas.{numbers_next, numbers_all}
+use Rattle.mdl_build.proofs.MakerLemmas.{numbers_next, numbers_all}
 use Rattle.mdl_build.proofs.making.note_blocks.Goals as goal
 
 pub loop-number-init : goal.loop-number-init

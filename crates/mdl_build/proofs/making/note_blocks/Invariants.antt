@@ -1,6 +1,6 @@
 use Rattle.std.proofs.Common.{take}
 use Rattle.mdl_build.specs.Roles.{blocks_of}
-use Rattle.mdl_build.specs.inner.Known.{AreEnabled, AreNumbersTo}
+use Rattle.mdl_build.specs.inner.ItemFacts.{AreEnabled, AreNumbersTo}
 use Rattle.mdl_build.proofs.making.note_blocks.Given as goal
 
 abbrev pub invariant-loop-number : goal.invariant-loop-number

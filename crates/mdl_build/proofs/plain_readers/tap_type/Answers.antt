@@ -1,5 +1,5 @@
 use Rattle.std.proofs.Common.{inl, inr}
-use Rattle.mdl_build.proofs.Found.{differ}
+use Rattle.mdl_build.proofs.Readings.{differ}
 use Rattle.mdl_build.proofs.plain_readers.tap_type.Goals as goal
 
 pub returns-in-None : goal.returns-in-None

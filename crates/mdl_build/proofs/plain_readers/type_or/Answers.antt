@@ -1,6 +1,6 @@
 use Rattle.std.proofs.Common.{inl, inr}
 use Rattle.mdl_build.specs.Settings.{IsTypeOr, IsGivenType}
-use Rattle.mdl_build.proofs.Found.{found_same, differ}
+use Rattle.mdl_build.proofs.Readings.{found_same, differ}
 use Rattle.mdl_build.proofs.plain_readers.type_or.Goals as goal
 
 pub returns-else-eq : goal.returns-else-eq

@@ -1,7 +1,7 @@
 use Rattle.std.proofs.Common.{inl, inr}
 use Rattle.fx_type.specs.declared.spec.TypeSpec.TheVariants.{Internal}
 use Rattle.mdl_build.specs.Settings.{IsTypeOr, IsTypeOrFirst}
-use Rattle.mdl_build.proofs.Found.{found_same, differ}
+use Rattle.mdl_build.proofs.Readings.{found_same, differ}
 use Rattle.mdl_build.proofs.plain_readers.type_or_first.Goals as goal
 
 pub returns-else-eq : goal.returns-else-eq

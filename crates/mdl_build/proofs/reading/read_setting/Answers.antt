@@ -4,7 +4,7 @@ use Rattle.mdl_values.specs.Periods.{IsPeriodText, IsSampleTime, IsConstantTime,
 use Rattle.mdl_values.specs.Words.{rounding_of, switch_of, reset_of, criterion_of, relation_of, gate_of}
 use Rattle.mdl_build.specs.declared.library.Reader.{Reader}
 use Rattle.mdl_build.specs.declared.settings.Setting.{Setting}
-use Rattle.mdl_build.proofs.Found.{found_in, word_in, reads_as}
+use Rattle.mdl_build.proofs.Readings.{found_in, word_in, reads_as}
 use Rattle.mdl_build.proofs.reading.read_setting.Goals as goal
 
 pub returns-in-Operands : goal.returns-in-Operands

@@ -1,6 +1,6 @@
 use Rattle.std.proofs.Common.{Option, Some, None, cond, sym, ◌∙◌, ap}
 use Rattle.mdl_text.specs.declared.reader.Reader.{Reader}
-use Rattle.mdl_text.proofs.Bounded.{step_bounded}
+use Rattle.mdl_text.proofs.BracketBounds.{step_bounded}
 use Rattle.mdl_text.proofs.Whole.{reached_next, refused_line, fault_line, found_end, refused_end, fault_end}
 use Rattle.mdl_text.proofs.reading.read.Goals as goal
 

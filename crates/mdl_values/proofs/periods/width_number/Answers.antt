@@ -1,6 +1,6 @@
 use Rattle.mdl_values.specs.Numbers.{IsNumberText}
 use Rattle.mdl_values.specs.Periods.{IsBracketedNumber}
-use Rattle.mdl_values.proofs.ReadLemmas.{other_found}
+use Rattle.mdl_values.proofs.EitherLemmas.{other_found}
 use Rattle.mdl_values.proofs.periods.width_number.Goals as goal
 
 pub returns-in-None : goal.returns-in-None

@@ -1,5 +1,5 @@
 use Rattle.mdl_values.specs.Signs.{IsCount, AreSigns}
-use Rattle.mdl_values.proofs.ReadLemmas.{other_found}
+use Rattle.mdl_values.proofs.EitherLemmas.{other_found}
 use Rattle.mdl_values.proofs.SignLemmas.{no_count}
 use Rattle.mdl_values.proofs.signs.read_signs.Goals as goal
 

@@ -4,7 +4,7 @@ use Rattle.vl_ast.specs.Control.{is_stallable}
 use Rattle.vl_ast.specs.Attributes.{clocks_of}
 use Rattle.st_wrap.specs.inner.Columns.{column_of, is_column, output_column}
 use Rattle.st_wrap.specs.Pace.{samples_late}
-use Rattle.st_wrap.proofs.Gathered.{all-gathered, gathered-as, none-gathered, one-gathered, other-gathered, unnamed-gathered}
+use Rattle.st_wrap.proofs.Filters.{all-gathered, gathered-as, none-gathered, one-gathered, other-gathered, unnamed-gathered}
 use Rattle.st_wrap.proofs.columns.columns.Goals.{then-carries+in-Some, then-carries+in_default, else-carries}
 use Rattle.st_wrap.proofs.columns.columns.Goals as goal
 

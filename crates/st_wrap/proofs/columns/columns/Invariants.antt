@@ -1,7 +1,7 @@
 use Rattle.vl_ast.specs.Control.{is_stallable}
 use Rattle.vl_ast.specs.Attributes.{clocks_of}
 use Rattle.st_wrap.specs.inner.Columns.{is_column, output_column}
-use Rattle.st_wrap.proofs.Gathered.{AreGathered}
+use Rattle.st_wrap.proofs.Filters.{AreGathered}
 use Rattle.st_wrap.proofs.columns.columns.Given as goal
 
 abbrev pub invariant-loop-port : goal.invariant-loop-port

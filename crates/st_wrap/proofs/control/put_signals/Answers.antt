@@ -1,4 +1,4 @@
-use Rattle.vl_ast.proofs.Listed.{both}
+use Rattle.vl_ast.proofs.Listings.{both}
 use Rattle.st_wrap.proofs.control.put_signals.Goals as goal
 
 pub returns : goal.returns

@@ -1,7 +1,7 @@
 use Rattle.std.proofs.Common.{[], ◌∷◌, ℕ, List, if◌then◌else◌, ap, map}
 use Rattle.std.proofs.lemmas.List.{take_all}
 use Rattle.vl_ast.specs.Header.{input_port, output_port}
-use Rattle.vl_ast.proofs.Listed.{lists-as, none-put, one-mapped}
+use Rattle.vl_ast.proofs.Listings.{lists-as, none-put, one-mapped}
 use Rattle.st_wrap.specs.declared.columns.Column.{Column}
 use Rattle.st_wrap.specs.Header.{row_port}
 use Rattle.st_wrap.specs.inner.Columns.{port_of}

@@ -1,9 +1,9 @@
 use Rattle.std.proofs.Common.{◌≡◌, ◌+◌, IfOk, ℕ, List, ap, arith, map, subst}
 use Rattle.std.specs.List.{range_with_len}
-use Rattle.vl_ast.proofs.Listed.{lists-as, none-put}
+use Rattle.vl_ast.proofs.Listings.{lists-as, none-put}
 use Rattle.st_wrap.specs.inner.Names.{late_name}
 use Rattle.st_wrap.specs.inner.Columns.{stage_declared}
-use Rattle.st_wrap.proofs.Gathered.{mapped-more}
+use Rattle.st_wrap.proofs.Filters.{mapped-more}
 use Rattle.st_wrap.proofs.registers.declare_output.Goals as goal
 
 pub loop-place-init : goal.loop-place-init

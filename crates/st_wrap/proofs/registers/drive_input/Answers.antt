@@ -1,6 +1,6 @@
 use Rattle.std.proofs.Common.{◌≡◌, IfOk, ℕ, List, subst}
 use Rattle.vl_ast.specs.Listing.{Lists}
-use Rattle.vl_ast.proofs.Listed.{both}
+use Rattle.vl_ast.proofs.Listings.{both}
 use Rattle.st_wrap.specs.inner.Columns.{held_driven}
 use Rattle.st_wrap.specs.inner.Names.{inner_name}
 use Rattle.st_wrap.proofs.registers.drive_input.Goals as goal

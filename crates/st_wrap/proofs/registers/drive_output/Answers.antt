@@ -3,10 +3,10 @@ use Rattle.std.specs.List.{range_with_len}
 use Rattle.vl_ast.specs.declared.expressions.Expr.TheVariants.{Name}
 use Rattle.vl_ast.specs.declared.modules.ModItem.TheVariants.{Assign}
 use Rattle.vl_ast.specs.Listing.{Lists}
-use Rattle.vl_ast.proofs.Listed.{both, lists-as, none-put}
+use Rattle.vl_ast.proofs.Listings.{both, lists-as, none-put}
 use Rattle.st_wrap.specs.inner.Columns.{stage_driven, stage_name}
 use Rattle.st_wrap.specs.inner.Names.{late_name}
-use Rattle.st_wrap.proofs.Gathered.{mapped-more}
+use Rattle.st_wrap.proofs.Filters.{mapped-more}
 use Rattle.st_wrap.proofs.registers.drive_output.Goals as goal
 
 pub loop-place-init : goal.loop-place-init

@@ -2,7 +2,7 @@ use Rattle.std.proofs.Common.{◌≡◌, IfOk, ℕ, List, ap, subst, sym}
 use Rattle.vl_ast.specs.declared.making.Listing.{Listing}
 use Rattle.vl_ast.specs.declared.modules.ModItem.{ModItem}
 use Rattle.vl_ast.specs.Listing.{Lists}
-use Rattle.vl_ast.proofs.Listed.{lists-as}
+use Rattle.vl_ast.proofs.Listings.{lists-as}
 use Rattle.st_wrap.specs.declared.columns.Column.{Column}
 use Rattle.st_wrap.specs.declared.registers.Part.{Part}
 use Rattle.st_wrap.specs.inner.Columns.{items_for}

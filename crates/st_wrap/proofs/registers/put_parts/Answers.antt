@@ -1,6 +1,6 @@
 use Rattle.std.proofs.Common.{ap, flat_map}
 use Rattle.std.proofs.lemmas.List.{take_all}
-use Rattle.vl_ast.proofs.Listed.{lists-as, none-put, one-more}
+use Rattle.vl_ast.proofs.Listings.{lists-as, none-put, one-more}
 use Rattle.st_wrap.specs.inner.Columns.{items_for}
 use Rattle.st_wrap.proofs.registers.put_parts.Goals as goal
 

@@ -1,6 +1,6 @@
 use Rattle.std.proofs.Common.{map, take}
 use Rattle.vl_ast.specs.Listing.{Holds}
-use Rattle.st_wrap.specs.inner.Renamed.{renamed}
+use Rattle.st_wrap.specs.inner.CoreNames.{renamed}
 use Rattle.st_wrap.proofs.renaming.+renaming.Given as goal
 
 abbrev pub invariant-renamed_parts-loop-part : goal.invariant-renamed_parts-loop-part

@@ -1,6 +1,6 @@
 use Rattle.std.proofs.Common.{◌∙◌, ap, sym}
 use Rattle.vl_ast.specs.declared.expressions.Expr.TheViews.{out-Expr}
-use Rattle.st_wrap.specs.inner.Renamed.{with_name}
+use Rattle.st_wrap.specs.inner.CoreNames.{with_name}
 use Rattle.st_wrap.proofs.Forms.{made-is, over-bit, over-else, over-part}
 use Rattle.st_wrap.proofs.renaming.over_name.Goals as goal
 

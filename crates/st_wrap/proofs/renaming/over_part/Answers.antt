@@ -1,6 +1,6 @@
 use Rattle.std.proofs.Common.{◌∙◌, ap, sym}
 use Rattle.vl_ast.specs.declared.expressions.Expr.TheViews.{out-Expr}
-use Rattle.st_wrap.specs.inner.Renamed.{with_part}
+use Rattle.st_wrap.specs.inner.CoreNames.{with_part}
 use Rattle.st_wrap.proofs.Forms.{over-cast, over-repeat, over-shift, over-signed, over-unary}
 use Rattle.st_wrap.proofs.renaming.over_part.Goals as goal
 

@@ -1,8 +1,8 @@
 use Rattle.std.proofs.Common.{◌≡◌, ◌<◌, ℕ, List, ap, get_or, length, map, subst, take}
 use Rattle.std.proofs.lemmas.List.{take_all}
 use Rattle.vl_ast.specs.declared.modules.ModItem.{ModItem}
-use Rattle.vl_ast.proofs.Listed.{lists-as, none-put, one-mapped}
-use Rattle.st_wrap.specs.inner.Renamed.{renamed_item}
+use Rattle.vl_ast.proofs.Listings.{lists-as, none-put, one-mapped}
+use Rattle.st_wrap.specs.inner.CoreNames.{renamed_item}
 use Rattle.st_wrap.proofs.renaming.put_core.Goals as goal
 
 pub loop-item-init : goal.loop-item-init

@@ -1,6 +1,6 @@
 use Rattle.std.proofs.Common.{map, take}
 use Rattle.vl_ast.specs.Listing.{Lists}
-use Rattle.st_wrap.specs.inner.Renamed.{renamed_item}
+use Rattle.st_wrap.specs.inner.CoreNames.{renamed_item}
 use Rattle.st_wrap.proofs.renaming.put_core.Given as goal
 
 abbrev pub invariant-loop-item : goal.invariant-loop-item

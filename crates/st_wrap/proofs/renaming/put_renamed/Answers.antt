@@ -1,9 +1,9 @@
 use Rattle.std.proofs.Common.{◌≡◌, ◌∙◌, ◌∷◌, [], IfOk, ℕ, List, ap, refl, subst, sym}
 use Rattle.vl_ast.specs.declared.modules.ModItem.{ModItem}
 use Rattle.vl_ast.specs.Conditions.{item_name}
-use Rattle.vl_ast.proofs.Listed.{lists-as}
+use Rattle.vl_ast.proofs.Listings.{lists-as}
 use Rattle.st_wrap.specs.inner.Names.{inner_name}
-use Rattle.st_wrap.specs.inner.Renamed.{renamed_item}
+use Rattle.st_wrap.specs.inner.CoreNames.{renamed_item}
 use Rattle.st_wrap.proofs.renaming.put_renamed.Goals as goal
 
 pub returns-in-Wire : goal.returns-in-Wire

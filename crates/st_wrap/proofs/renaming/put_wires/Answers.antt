@@ -5,9 +5,9 @@ use Rattle.vl_ast.specs.declared.modules.ModItem.{ModItem}
 use Rattle.vl_ast.specs.declared.modules.ModItem.TheVariants.{Wire}
 use Rattle.vl_ast.specs.declared.modules.Port.{Port}
 use Rattle.vl_ast.specs.Listing.{Lists}
-use Rattle.vl_ast.proofs.Listed.{lists-as, none-put, one-more}
+use Rattle.vl_ast.proofs.Listings.{lists-as, none-put, one-more}
 use Rattle.st_wrap.specs.inner.Names.{inner_name, is_shared}
-use Rattle.st_wrap.specs.inner.Renamed.{wires_for}
+use Rattle.st_wrap.specs.inner.CoreNames.{wires_for}
 use Rattle.st_wrap.proofs.renaming.put_wires.Goals.{then-not-is_shared, else-not-is_shared}
 use Rattle.st_wrap.proofs.renaming.put_wires.Goals as goal
 

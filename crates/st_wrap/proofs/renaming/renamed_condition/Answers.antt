@@ -1,6 +1,6 @@
 use Rattle.std.proofs.Common.{◌≡◌, IfOk, Option, subst, sym}
 use Rattle.vl_ast.specs.declared.expressions.Expr.{Expr}
-use Rattle.st_wrap.specs.inner.Renamed.{renamed_condition}
+use Rattle.st_wrap.specs.inner.CoreNames.{renamed_condition}
 use Rattle.st_wrap.proofs.renaming.renamed_condition.Goals as goal
 
 pub returns-in-Some : goal.returns-in-Some

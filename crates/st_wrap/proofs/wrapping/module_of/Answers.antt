@@ -7,8 +7,8 @@ use Rattle.vl_ast.specs.declared.modules.Module.{Module}
 use Rattle.vl_ast.specs.Attributes.{clocks_of}
 use Rattle.vl_ast.specs.Driven.{output_ports, stimulus_ports}
 use Rattle.st_wrap.specs.inner.Columns.{input_column, output_column}
-use Rattle.st_wrap.specs.inner.Wrapped.{inputs_of, made_of, outputs_of}
-use Rattle.st_wrap.proofs.Columned.{input-columns, others-behind}
+use Rattle.st_wrap.specs.inner.Wrapper.{inputs_of, made_of, outputs_of}
+use Rattle.st_wrap.proofs.ColumnPorts.{input-columns, others-behind}
 use Rattle.st_wrap.proofs.wrapping.module_of.Goals as goal
 
 -- as many columns as inputs have names

@@ -3,7 +3,7 @@ use Rattle.std.proofs.lemmas.Result.{IfOk-weaker}
 use Rattle.vl_ast.specs.Conditions.{BreaksNone}
 use Rattle.st_wrap.specs.Carried.{CarriesTransfers, FollowsCore, ShakesHands}
 use Rattle.st_wrap.specs.Header.{HasStreamHeader}
-use Rattle.st_wrap.proofs.Headed.{has-header}
+use Rattle.st_wrap.proofs.WrapperHeader.{has-header}
 use Rattle.st_wrap.proofs.Whole.{breaks-none, carries-transfers, counts-products, follows-core, is-spelled, shakes-hands}
 use Rattle.st_wrap.proofs.wrapping.wrap.Goals as goal
 

@@ -1,6 +1,6 @@
 use Rattle.std.proofs.Common.{rules, ◌≡◌, All, ◌≤◌, length}
-use Rattle.tests_hardware.specs.inner.Emitted.{IsCounted}
-use Rattle.tests_hardware.proofs.Emitted.{bare}
+use Rattle.tests_hardware.specs.inner.NetTests.{IsCounted}
+use Rattle.tests_hardware.proofs.BareNetlists.{bare}
 use Rattle.tests_hardware.proofs.modules.is_bare.Goals as goal
 
 pub returns : goal.returns

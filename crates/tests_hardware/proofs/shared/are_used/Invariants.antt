@@ -1,4 +1,4 @@
-use Rattle.tests_hardware.specs.inner.Tried.{AreUsed}
+use Rattle.tests_hardware.specs.inner.OperationTests.{AreUsed}
 use Rattle.tests_hardware.proofs.shared.are_used.Given as goal
 
 abbrev pub invariant-loop-unit : goal.invariant-loop-unit

@@ -1,5 +1,5 @@
 use Rattle.std.proofs.Common.{rules, ◌≡◌, true, arith, below_more}
-use Rattle.tests_hardware.proofs.Tried.{shared-of}
+use Rattle.tests_hardware.proofs.TestOperations.{shared-of}
 use Rattle.tests_hardware.proofs.shared.can_share.Goals as goal
 
 pub loop-j-preserved : goal.loop-j-preserved

@@ -1,4 +1,4 @@
-use Rattle.tests_hardware.specs.inner.Tried.{IsApartAt}
+use Rattle.tests_hardware.specs.inner.OperationTests.{IsApartAt}
 use Rattle.tests_hardware.proofs.shared.is_apart.Given as goal
 
 abbrev pub invariant-loop-k : goal.invariant-loop-k

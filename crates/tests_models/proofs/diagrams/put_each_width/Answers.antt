@@ -2,7 +2,7 @@ use Rattle.std.proofs.Common.{◌≡◌, ◌≤◌, ℕ, List, [], length, get_o
 use Rattle.std.specs.Prelude.{slice_get, slice_index_or}
 use Rattle.std.proofs.lemmas.Option.{slice_get-get_or}
 use Rattle.dg_model.specs.declared.diagram.Block.{Block}
-use Rattle.dg_tables.proofs.Fitting.{outputs_there}
+use Rattle.dg_tables.proofs.Widths.{outputs_there}
 use Rattle.tests_models.proofs.diagrams.put_each_width.Goals as goal
 
 pub put_outputs-requires : goal.put_outputs-requires

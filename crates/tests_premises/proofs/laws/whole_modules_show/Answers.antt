@@ -1,4 +1,4 @@
-use Rattle.tests_premises.proofs.WholeShown.{whole_modules_show}
+use Rattle.tests_premises.proofs.WholeWaves.{whole_modules_show}
 use Rattle.tests_premises.proofs.laws.whole_modules_show.Goals as goal
 
 pub returns : goal.returns

@@ -1,5 +1,5 @@
-use Rattle.vl_ast.proofs.Settled.{rows-run}
-use Rattle.vl_ast.proofs.Stimulated.{can-be-driven}
+use Rattle.vl_ast.proofs.OneRun.{rows-run}
+use Rattle.vl_ast.proofs.SomeInputs.{can-be-driven}
 use Rattle.vl_ast.proofs.laws.can_be_driven.Goals as goal
 
 pub returns-clause-inputs : goal.returns-clause-inputs

@@ -1,4 +1,4 @@
-use Rattle.vl_ast.proofs.Thinned.{are-thinned}
+use Rattle.vl_ast.proofs.StallFree.{are-thinned}
 use Rattle.vl_ast.proofs.laws.counted_rows_run.Goals as goal
 
 pub returns : goal.returns

@@ -1,4 +1,4 @@
-use Rattle.vl_ast.proofs.Unstalled.{thinned-driven, thinned-shows}
+use Rattle.vl_ast.proofs.FullCounts.{thinned-driven, thinned-shows}
 use Rattle.vl_ast.proofs.laws.counted_rows_show.Goals as goal
 
 pub returns-clause-driven : goal.returns-clause-driven

@@ -1,8 +1,8 @@
 use Rattle.std.proofs.Common.{◌≡◌, ap, codes, subst, ◌∙◌}
 use Rattle.vl_ast.specs.Context.{Net}
-use Rattle.vl_ast.proofs.Gated.{gated-keeps, gated-runs}
-use Rattle.vl_ast.proofs.GatedSound.{enable-net, gated-breaks-none}
-use Rattle.vl_ast.proofs.Thinned.{bit-port}
+use Rattle.vl_ast.proofs.Gates.{gated-keeps, gated-runs}
+use Rattle.vl_ast.proofs.GatesSound.{enable-net, gated-breaks-none}
+use Rattle.vl_ast.proofs.StallFree.{bit-port}
 use Rattle.vl_ast.proofs.laws.gated_modules.Goals as goal
 
 pub returns-clause-keeps : goal.returns-clause-keeps

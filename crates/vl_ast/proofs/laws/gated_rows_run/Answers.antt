@@ -1,4 +1,4 @@
-use Rattle.vl_ast.proofs.Ungated.{are-ungated}
+use Rattle.vl_ast.proofs.PlainRows.{are-ungated}
 use Rattle.vl_ast.proofs.laws.gated_rows_run.Goals as goal
 
 pub returns : goal.returns

@@ -1,6 +1,6 @@
 use Rattle.std.proofs.Common.{◌++◌, sym, subst}
 use Rattle.vl_ast.specs.Tokens.{Lays}
-use Rattle.vl_ast.proofs.CutLayouts.{cut-layout, join-layouts, word-stands}
+use Rattle.vl_ast.proofs.LayoutParts.{cut-layout, join-layouts, word-stands}
 use Rattle.vl_ast.proofs.laws.layouts_part.Goals as goal
 
 pub returns-clause-parts : goal.returns-clause-parts

@@ -1,4 +1,4 @@
-use Rattle.vl_ast.proofs.Copied.{name-copied, name-multiplies-none}
+use Rattle.vl_ast.proofs.Copies.{name-copied, name-multiplies-none}
 use Rattle.vl_ast.proofs.laws.name_is_copied.Goals as goal
 
 pub returns-clause-copied : goal.returns-clause-copied

@@ -1,4 +1,4 @@
-use Rattle.vl_ast.proofs.Written.{number-writable, based-writable}
+use Rattle.vl_ast.proofs.TokenForms.{number-writable, based-writable}
 use Rattle.vl_ast.proofs.laws.numbers_are_writable.Goals as goal
 
 pub returns : goal.returns

@@ -1,4 +1,4 @@
-use Rattle.vl_ast.proofs.DrivenOnce.{driven-once}
+use Rattle.vl_ast.proofs.OneDriver.{driven-once}
 use Rattle.vl_ast.proofs.Facts.{listed-mention}
 use Rattle.vl_ast.proofs.laws.one_driver.Goals as goal
 

@@ -1,5 +1,5 @@
 use Rattle.vl_ast.proofs.Alone.{rows-are-one}
-use Rattle.vl_ast.proofs.Settled.{rows-run}
+use Rattle.vl_ast.proofs.OneRun.{rows-run}
 use Rattle.vl_ast.proofs.laws.one_run.Goals as goal
 
 pub returns-clause-some : goal.returns-clause-some

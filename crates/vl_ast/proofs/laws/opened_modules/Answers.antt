@@ -1,6 +1,6 @@
-use Rattle.vl_ast.proofs.Opened.{opened-acyclic}
-use Rattle.vl_ast.proofs.OpenedClocked.{are-counted, opened-clocked, opened-stallable}
-use Rattle.vl_ast.proofs.OpenedSound.{opened-breaks-none}
+use Rattle.vl_ast.proofs.ClockEnable.{opened-acyclic}
+use Rattle.vl_ast.proofs.ClockEnableRuns.{are-counted, opened-clocked, opened-stallable}
+use Rattle.vl_ast.proofs.ClockEnableSound.{opened-breaks-none}
 use Rattle.vl_ast.proofs.laws.opened_modules.Goals as goal
 
 pub returns-clause-acyclic : goal.returns-clause-acyclic

@@ -1,4 +1,4 @@
-use Rattle.vl_ast.proofs.Unstalled.{enabled-count, place-clock, unstallable-count}
+use Rattle.vl_ast.proofs.FullCounts.{enabled-count, place-clock, unstallable-count}
 use Rattle.vl_ast.proofs.laws.rows_are_clocks.Goals as goal
 
 pub returns-clause-enabled : goal.returns-clause-enabled

@@ -1,4 +1,4 @@
-use Rattle.vl_ast.proofs.WrittenModule.{module-spells}
+use Rattle.vl_ast.proofs.ModuleTokens.{module-spells}
 use Rattle.vl_ast.proofs.laws.sound_modules_spell.Goals as goal
 
 pub returns : goal.returns

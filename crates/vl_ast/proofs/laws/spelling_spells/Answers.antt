@@ -1,4 +1,4 @@
-use Rattle.vl_ast.proofs.LaidModule.{spelling_spells}
+use Rattle.vl_ast.proofs.ModuleLayouts.{spelling_spells}
 use Rattle.vl_ast.proofs.laws.spelling_spells.Goals as goal
 
 pub returns : goal.returns

@@ -1,7 +1,7 @@
 use Rattle.std.proofs.Common.{[], ◌∷◌, ap}
 use Rattle.vl_ast.specs.declared.expressions.Sized.{Sized}
 use Rattle.vl_ast.specs.declared.modules.ModItem.TheVariants.{Always}
-use Rattle.vl_ast.proofs.Listed.{lists-as}
+use Rattle.vl_ast.proofs.Listings.{lists-as}
 use Rattle.vl_ast.proofs.making.put_clocked.Goals as goal
 
 pub returns : goal.returns

@@ -1,7 +1,7 @@
 use Rattle.std.proofs.Common.{◌≡◌, ◌∷◌, [], Bool, true, false, if◌then◌else◌, codes, refl, ap}
 use Rattle.vl_ast.specs.declared.modules.Port.{Port}
 use Rattle.vl_ast.specs.Header.{DataPort, attribute_of, input_port, output_port}
-use Rattle.vl_ast.proofs.Listed.{lists-as}
+use Rattle.vl_ast.proofs.Listings.{lists-as}
 use Rattle.vl_ast.proofs.making.put_data_port.Goals as goal
 
 -- a port with its attributes

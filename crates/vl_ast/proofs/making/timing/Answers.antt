@@ -1,7 +1,7 @@
 use Rattle.std.proofs.Common.{◌≡◌, ◌∷◌, [], Bool, if◌then◌else◌, IfOk, codes, subst, sym}
 use Rattle.vl_ast.specs.declared.modules.Attr.{Attr}
 use Rattle.vl_ast.specs.Header.{attribute_of}
-use Rattle.vl_ast.proofs.Listed.{both, has-more}
+use Rattle.vl_ast.proofs.Listings.{both, has-more}
 use Rattle.vl_ast.proofs.making.timing.Goals as goal
 
 pub returns-then-input : goal.returns-then-input

@@ -3,7 +3,7 @@ use Rattle.vl_ast.specs.declared.modules.Attr.{Attr}
 use Rattle.vl_ast.specs.declared.modules.ModItem.{ModItem}
 use Rattle.vl_ast.specs.declared.modules.Module.{Module}
 use Rattle.vl_ast.specs.declared.modules.Port.{Port}
-use Rattle.vl_ast.proofs.Listed.{has-more}
+use Rattle.vl_ast.proofs.Listings.{has-more}
 use Rattle.vl_ast.proofs.making.whole_module.Goals as goal
 
 pub returns : goal.returns

@@ -1,8 +1,8 @@
 use Rattle.std.proofs.Common.{◌≡◌, ◌≤◌, ◌+◌, ◌++◌, ◌∷◌, [], ℕ, List, Option, None, length, replicate, slice_index_or, take, sym, ap, subst, ◌∙◌, arith, rules}
 use Rattle.std.proofs.lemmas.List.{length-replicate, length-take-le, take_all, take_more}
 use Rattle.fx_io.specs.Rows.{row_at}
-use Rattle.vl_check.specs.inner.Assigned.{IsNoted, places_after}
-use Rattle.vl_check.proofs.Noting.{noted-none, noted-step, replicated}
+use Rattle.vl_check.specs.inner.Assignments.{IsNoted, places_after}
+use Rattle.vl_check.proofs.ItemNotes.{noted-none, noted-step, replicated}
 use Rattle.vl_check.proofs.assigned.assignments_of.Goals as goal
 
 pub loop-at-preserved : goal.loop-at-preserved

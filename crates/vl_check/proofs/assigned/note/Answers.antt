@@ -1,6 +1,6 @@
 use Rattle.std.proofs.Common.{ℕ, Some, ap, set, sym, ◌∙◌}
 use Rattle.vl_check.specs.Scope.{number_at}
-use Rattle.vl_check.specs.inner.Assigned.{places_after, reads_after}
+use Rattle.vl_check.specs.inner.Assignments.{places_after, reads_after}
 use Rattle.vl_check.proofs.assigned.note.Goals as goal
 
 pub returns-clause-places : goal.returns-clause-places

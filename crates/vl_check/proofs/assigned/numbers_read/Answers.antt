@@ -4,9 +4,9 @@ use Rattle.vl_ast.specs.Conditions.{mentioned}
 use Rattle.vl_ast.specs.Nets.{Mention, names_read}
 use Rattle.vl_check.specs.declared.mentions.Mention.{Mention as MentionHere}
 use Rattle.vl_check.specs.Scope.{number_at}
-use Rattle.vl_check.specs.inner.Mentioned.{shown}
-use Rattle.vl_check.proofs.Noting.{numbers-more}
-use Rattle.vl_check.proofs.Reading.{has-more, names-of-reads, none-had}
+use Rattle.vl_check.specs.inner.Mentions.{shown}
+use Rattle.vl_check.proofs.ItemNotes.{numbers-more}
+use Rattle.vl_check.proofs.ExpressionNames.{has-more, names-of-reads, none-had}
 use Rattle.vl_check.proofs.assigned.numbers_read.Goals as goal
 
 pub loop-mention-preserved : goal.loop-mention-preserved

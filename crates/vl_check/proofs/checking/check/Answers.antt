@@ -1,5 +1,5 @@
 use Rattle.std.proofs.Common.{ap, ◌∙◌}
-use Rattle.vl_check.specs.inner.Mentioned.{shown}
+use Rattle.vl_check.specs.inner.Mentions.{shown}
 use Rattle.vl_check.proofs.checking.check.Goals as goal
 
 pub order_of-requires : goal.order_of-requires

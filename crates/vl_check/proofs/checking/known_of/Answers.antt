@@ -2,13 +2,13 @@ use Rattle.std.proofs.Common.{◌≡◌, ◌≤◌, ◌<◌, ◌++◌, ◌∷◌
 use Rattle.std.proofs.lemmas.List.{take_more, take_all, length-map}
 use Rattle.vl_ast.specs.Conditions.{mentioned}
 use Rattle.vl_check.specs.declared.mentions.Mention.{Mention}
-use Rattle.vl_check.specs.inner.Mentioned.{shown, texts, mention_of}
+use Rattle.vl_check.specs.inner.Mentions.{shown, texts, mention_of}
 use Rattle.vl_check.specs.inner.Marks.{AreFirst, AreNumbers}
 use Rattle.vl_check.specs.inner.Names.{Numbered}
 use Rattle.vl_check.proofs.ByName.{no-places}
-use Rattle.vl_check.proofs.Marking.{numbered-text}
-use Rattle.vl_check.proofs.Numbering.{name-at, no-names, numbered-apart}
-use Rattle.vl_check.proofs.Scoped.{scope-is}
+use Rattle.vl_check.proofs.Marks.{numbered-text}
+use Rattle.vl_check.proofs.NameNumbers.{name-at, no-names, numbered-apart}
+use Rattle.vl_check.proofs.ScopeNames.{scope-is}
 use Rattle.vl_check.proofs.checking.known_of.Goals as goal
 
 -- the names of a whole text are numbered

@@ -1,6 +1,6 @@
 use Rattle.std.proofs.Common.{map, take}
 use Rattle.vl_ast.specs.Conditions.{mentioned}
-use Rattle.vl_check.specs.inner.Mentioned.{shown, texts}
+use Rattle.vl_check.specs.inner.Mentions.{shown, texts}
 use Rattle.vl_check.specs.inner.Names.{HasPlaces, Numbered}
 use Rattle.vl_check.proofs.checking.known_of.Given as goal
 

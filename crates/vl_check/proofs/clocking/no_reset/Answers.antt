@@ -4,9 +4,9 @@ use Rattle.std.specs.List.{list_any}
 use Rattle.vl_ast.specs.Conditions.{is_read_of, is_clk_at_fault}
 use Rattle.vl_ast.specs.Control.{is_bit_input}
 use Rattle.vl_ast.specs.Nets.{is_mention_of}
-use Rattle.vl_check.specs.inner.Mentioned.{mention_of}
-use Rattle.vl_check.specs.inner.Clocked.{first_of_both, name_at_fault}
-use Rattle.vl_check.proofs.Searched.{any-map, while-map}
+use Rattle.vl_check.specs.inner.Mentions.{mention_of}
+use Rattle.vl_check.specs.inner.ClockNames.{first_of_both, name_at_fault}
+use Rattle.vl_check.proofs.SearchFacts.{any-map, while-map}
 use Rattle.vl_check.proofs.clocking.no_reset.Goals as goal
 
 pub returns : goal.returns

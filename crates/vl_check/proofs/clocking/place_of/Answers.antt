@@ -3,8 +3,8 @@ use Rattle.std.proofs.lemmas.Bool.{cases_lt}
 use Rattle.std.proofs.lemmas.List.{get_or_default}
 use Rattle.vl_ast.specs.Nets.{is_mention_of}
 use Rattle.vl_check.specs.declared.mentions.Mention.TheVariants.{Clocks}
-use Rattle.vl_check.specs.inner.Mentioned.{mention_of}
-use Rattle.vl_check.proofs.Searched.{place-is}
+use Rattle.vl_check.specs.inner.Mentions.{mention_of}
+use Rattle.vl_check.proofs.SearchFacts.{place-is}
 use Rattle.vl_check.proofs.clocking.place_of.Goals as goal
 
 pub returns-then-is_mention_of : goal.returns-then-is_mention_of

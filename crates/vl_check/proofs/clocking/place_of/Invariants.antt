@@ -1,7 +1,7 @@
 use Rattle.std.proofs.Common.{◌≡◌, ◌<◌, ℕ, false, slice_index_or}
 use Rattle.vl_ast.specs.Nets.{is_mention_of}
 use Rattle.vl_check.specs.declared.mentions.Mention.{Mention}
-use Rattle.vl_check.specs.inner.Mentioned.{mention_of}
+use Rattle.vl_check.specs.inner.Mentions.{mention_of}
 use Rattle.vl_check.proofs.clocking.place_of.Given as goal
 
 abbrev pub invariant-loop-mention : goal.invariant-loop-mention

@@ -1,9 +1,9 @@
 use Rattle.std.proofs.Common.{map, sym, subst, ◌∙◌, rules}
 use Rattle.std.proofs.lemmas.List.{take_all}
 use Rattle.vl_ast.specs.Conditions.{is_driver_of, mentioned}
-use Rattle.vl_check.specs.inner.Mentioned.{shown}
+use Rattle.vl_check.specs.inner.Mentions.{shown}
 use Rattle.vl_check.specs.inner.Marks.{Marks, drives}
-use Rattle.vl_check.proofs.Marking.{driver-test, marks-step, marks-long, none-marked, number-there, number-below, past-all}
+use Rattle.vl_check.proofs.Marks.{driver-test, marks-step, marks-long, none-marked, number-there, number-below, past-all}
 use Rattle.vl_check.proofs.driving.driven_names.Goals as goal
 
 pub loop-i-init : goal.loop-i-init

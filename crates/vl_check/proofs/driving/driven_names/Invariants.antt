@@ -1,6 +1,6 @@
 use Rattle.std.proofs.Common.{◌≡◌, length, map, take}
 use Rattle.vl_ast.specs.Conditions.{is_driver_of, mentioned}
-use Rattle.vl_check.specs.inner.Mentioned.{shown}
+use Rattle.vl_check.specs.inner.Mentions.{shown}
 use Rattle.vl_check.specs.inner.Marks.{Marks}
 use Rattle.vl_check.proofs.driving.driven_names.Given as goal
 

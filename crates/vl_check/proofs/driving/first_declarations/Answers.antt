@@ -1,9 +1,9 @@
 use Rattle.std.proofs.Common.{◌+◌, map, take, sym, subst, ◌∙◌, rules}
 use Rattle.std.proofs.lemmas.List.{take_all}
 use Rattle.vl_ast.specs.Conditions.{mentioned}
-use Rattle.vl_check.specs.inner.Mentioned.{shown}
+use Rattle.vl_check.specs.inner.Mentions.{shown}
 use Rattle.vl_check.specs.inner.Marks.{AreFirst}
-use Rattle.vl_check.proofs.Marking.{first-step, first-long, none-first, number-there, number-below, past-all}
+use Rattle.vl_check.proofs.Marks.{first-step, first-long, none-first, number-there, number-below, past-all}
 use Rattle.vl_check.proofs.driving.first_declarations.Goals as goal
 
 pub loop-i-init : goal.loop-i-init

@@ -1,9 +1,9 @@
 use Rattle.std.proofs.Common.{[], length, take, Some, None, refl, sym, ap, ◌∙◌, rules}
 use Rattle.std.proofs.Math.ListN.{drop_of_length-le}
 use Rattle.vl_ast.specs.Conditions.{first_fault, is_declaration_of, is_double, is_driver_of}
-use Rattle.vl_check.specs.inner.Mentioned.{shown}
+use Rattle.vl_check.specs.inner.Mentions.{shown}
 use Rattle.vl_check.specs.inner.Marks.{declares, drives}
-use Rattle.vl_check.proofs.Marking.{driver-test, declaration-test, marks-step, fault-step, fault-found, mark-here, declared-here, double-here, marks-long, none-marked, number-there, number-below, past-all}
+use Rattle.vl_check.proofs.Marks.{driver-test, declaration-test, marks-step, fault-step, fault-found, mark-here, declared-here, double-here, marks-long, none-marked, number-there, number-below, past-all}
 use Rattle.vl_check.proofs.driving.first_double.Goals as goal
 
 pub returns-then-is_double : goal.returns-then-is_double

@@ -1,9 +1,9 @@
 use Rattle.std.proofs.Common.{take, Some, refl, sym, ap, ◌∙◌, rules}
 use Rattle.std.proofs.Math.ListN.{drop_of_length-le}
 use Rattle.vl_ast.specs.Conditions.{first_fault, is_declaration_of, is_driver_of, is_undriven}
-use Rattle.vl_check.specs.inner.Mentioned.{shown}
+use Rattle.vl_check.specs.inner.Mentions.{shown}
 use Rattle.vl_check.specs.inner.Marks.{declares}
-use Rattle.vl_check.proofs.Marking.{declaration-test, marks-step, fault-step, fault-found, mark-here, undriven-here, marks-long, none-marked, number-there, number-below, past-all}
+use Rattle.vl_check.proofs.Marks.{declaration-test, marks-step, fault-step, fault-found, mark-here, undriven-here, marks-long, none-marked, number-there, number-below, past-all}
 use Rattle.vl_check.proofs.driving.first_undriven.Goals as goal
 
 pub returns-then-is_undriven : goal.returns-then-is_undriven

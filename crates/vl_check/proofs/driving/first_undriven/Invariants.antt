@@ -1,6 +1,6 @@
 use Rattle.std.proofs.Common.{◌≡◌, [], length, map, take, drop}
 use Rattle.vl_ast.specs.Conditions.{first_fault, is_declaration_of, is_undriven, mentioned}
-use Rattle.vl_check.specs.inner.Mentioned.{shown}
+use Rattle.vl_check.specs.inner.Mentions.{shown}
 use Rattle.vl_check.specs.inner.Marks.{Marks}
 use Rattle.vl_check.proofs.driving.first_undriven.Given as goal
 

@@ -1,6 +1,6 @@
 use Rattle.std.proofs.Common.{◌≡◌, ⊎_elim, ℕ, ap, sym, ◌∙◌}
 use Rattle.vl_ast.specs.declared.expressions.Expr.TheVariants.{Name, Bit, Part, Binary, Choose}
-use Rattle.vl_check.proofs.Reading.{none-put, part-more, reads-binary, reads-choose, reads-concat, reads-literal, reads-name, reads-bit, reads-part}
+use Rattle.vl_check.proofs.ExpressionNames.{none-put, part-more, reads-binary, reads-choose, reads-concat, reads-literal, reads-name, reads-bit, reads-part}
 use Rattle.vl_check.proofs.mentions.+push_names.Goals as goal
 
 pub returns-in-Name : goal.returns-in-Name

@@ -4,8 +4,8 @@ use Rattle.std.proofs.lemmas.List.{append-nil, take_all}
 use Rattle.std.proofs.lemmas.Result.{IfOk-weaker}
 use Rattle.vl_ast.specs.declared.modules.Port.{Port}
 use Rattle.vl_ast.specs.Nets.{port_declared, Declares, item_mentions}
-use Rattle.vl_check.specs.inner.Mentioned.{net_declared, shown}
-use Rattle.vl_check.proofs.Reading.{has-as, has-more, joined-further, mapped-further, none-had}
+use Rattle.vl_check.specs.inner.Mentions.{net_declared, shown}
+use Rattle.vl_check.proofs.ExpressionNames.{has-as, has-more, joined-further, mapped-further, none-had}
 use Rattle.vl_check.proofs.mentions.mentions_of.Goals as goal
 
 pub loop-port-init : goal.loop-port-init

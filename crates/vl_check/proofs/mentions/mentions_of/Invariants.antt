@@ -1,7 +1,7 @@
 use Rattle.std.proofs.Common.{◌++◌, map, take}
 use Rattle.std.specs.List.{flat_map}
 use Rattle.vl_ast.specs.Nets.{port_declared, Declares, item_mentions}
-use Rattle.vl_check.proofs.Reading.{Has}
+use Rattle.vl_check.proofs.ExpressionNames.{Has}
 use Rattle.vl_check.proofs.mentions.mentions_of.Given as goal
 
 abbrev pub invariant-loop-port : goal.invariant-loop-port

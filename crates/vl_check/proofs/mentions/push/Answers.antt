@@ -1,4 +1,4 @@
-use Rattle.vl_check.proofs.Reading.{one-put, refused}
+use Rattle.vl_check.proofs.ExpressionNames.{one-put, refused}
 use Rattle.vl_check.proofs.mentions.push.Goals as goal
 
 pub returns-in-Err : goal.returns-in-Err

@@ -1,6 +1,6 @@
 use Rattle.std.proofs.Common.{ap, map, sym}
 use Rattle.vl_ast.specs.Nets.{Reads, condition_names}
-use Rattle.vl_check.proofs.Reading.{none-put, puts-as}
+use Rattle.vl_check.proofs.ExpressionNames.{none-put, puts-as}
 use Rattle.vl_check.proofs.mentions.push_condition.Goals as goal
 
 pub returns-in-None : goal.returns-in-None

@@ -1,8 +1,8 @@
 use Rattle.std.proofs.Common.{◌∷◌, [], true, false, ap, map, sym, ◌∙◌}
 use Rattle.std.proofs.lemmas.List.{map-append}
 use Rattle.vl_ast.specs.Nets.{Clocks, Declares, Drives, PlainWire, Reads, Register, condition_names, item_mentions, names_read}
-use Rattle.vl_check.specs.inner.Mentioned.{net_declared}
-use Rattle.vl_check.proofs.Reading.{both, puts-as}
+use Rattle.vl_check.specs.inner.Mentions.{net_declared}
+use Rattle.vl_check.proofs.ExpressionNames.{both, puts-as}
 use Rattle.vl_check.proofs.mentions.push_item.Goals as goal
 
 pub returns-in-Wire : goal.returns-in-Wire

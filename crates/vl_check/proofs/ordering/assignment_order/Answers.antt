@@ -1,10 +1,10 @@
 use Rattle.std.proofs.Common.{◌≡◌, ◌<◌, List, ℕ, length, sym, ap, subst, ◌∙◌}
 use Rattle.vl_ast.specs.declared.modules.Module.{Module}
 use Rattle.vl_check.specs.declared.sorting.Sorted.{Sorted}
-use Rattle.vl_check.specs.inner.Assigned.{IsNoted}
+use Rattle.vl_check.specs.inner.Assignments.{IsNoted}
 use Rattle.vl_check.specs.inner.Order.{AreKnown, IsCycle, IsOrder}
-use Rattle.vl_check.specs.inner.Sorted.{IsSorted}
-use Rattle.vl_check.specs.inner.Looped.{AreNamed, IsBeginning, IsTurned}
+use Rattle.vl_check.specs.inner.SortAnswer.{IsSorted}
+use Rattle.vl_check.specs.inner.CycleMarks.{AreNamed, IsBeginning, IsTurned}
 use Rattle.vl_check.specs.Scope.{names_in}
 use Rattle.vl_check.proofs.Loops.{reads-known, cycle-named, turned-loop, no-loop, ordering}
 use Rattle.vl_check.proofs.ordering.assignment_order.Goals as goal

@@ -1,7 +1,7 @@
 use Rattle.std.proofs.Common.{◌≡◌, ℕ, List, Bool, sym, ap, subst, ◌∙◌}
 use Rattle.std.proofs.lemmas.List.{get_or_default}
 use Rattle.vl_ast.specs.Nets.{mentions}
-use Rattle.vl_check.specs.inner.Looped.{AreMarked, first_some, marked_at}
+use Rattle.vl_check.specs.inner.CycleMarks.{AreMarked, first_some, marked_at}
 use Rattle.vl_check.proofs.Beginnings.{begins, never-none, found-marked}
 use Rattle.vl_check.proofs.ordering.beginning.Goals as goal
 

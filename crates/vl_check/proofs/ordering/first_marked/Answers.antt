@@ -1,5 +1,5 @@
 use Rattle.std.proofs.Common.{sym, ◌∙◌}
-use Rattle.vl_check.specs.inner.Looped.{marked_at}
+use Rattle.vl_check.specs.inner.CycleMarks.{marked_at}
 use Rattle.vl_check.proofs.Beginnings.{first-found, first-passed}
 use Rattle.vl_check.proofs.ordering.first_marked.Goals as goal
 

@@ -1,6 +1,6 @@
 use Rattle.std.proofs.Common.{◌≡◌, None, take}
-use Rattle.vl_check.specs.inner.Looped.{first_some, marked_at}
-use Rattle.vl_check.specs.inner.Mentioned.{shown}
+use Rattle.vl_check.specs.inner.CycleMarks.{first_some, marked_at}
+use Rattle.vl_check.specs.inner.Mentions.{shown}
 use Rattle.vl_check.proofs.ordering.first_marked.Given as goal
 
 abbrev pub invariant-loop-mention : goal.invariant-loop-mention

@@ -1,6 +1,6 @@
 use Rattle.std.proofs.Common.{◌<◌, length, subst, arith}
 use Rattle.std.proofs.lemmas.List.{take_all}
-use Rattle.vl_check.specs.inner.Looped.{AreMarked}
+use Rattle.vl_check.specs.inner.CycleMarks.{AreMarked}
 use Rattle.vl_check.proofs.Beginnings.{marked-more}
 use Rattle.vl_check.proofs.ordering.marks_of.Goals as goal
 

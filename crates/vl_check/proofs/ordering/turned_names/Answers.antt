@@ -2,7 +2,7 @@ use Rattle.std.proofs.Common.{◌≡◌, ◌<◌, ◌+◌, ◌%◌, ℕ, [], ◌
 use Rattle.std.proofs.lemmas.List.{length-append}
 use Rattle.std.proofs.lemmas.Nat.{mod_below}
 use Rattle.vl_check.specs.Scope.{names_in}
-use Rattle.vl_check.proofs.Looped.{turned-more}
+use Rattle.vl_check.proofs.CycleNames.{turned-more}
 use Rattle.vl_check.proofs.ordering.turned_names.Goals as goal
 
 pub nonzero_rem-at : goal.nonzero_rem-at

@@ -3,7 +3,7 @@ use Rattle.vl_ast.specs.Conditions.{is_sound}
 use Rattle.std.specs.List.{list_all}
 use Rattle.vl_check.specs.Scope.{nets_in}
 use Rattle.vl_check.specs.Shape.{narrow, bit_shape, part_shape, shape_in}
-use Rattle.vl_check.proofs.Shaping.{shape-name, shape-bit, shape-part, shape-literal, shape-repeat, shape-as-signed, shape-as-unsigned, shape-unary, shape-two, shape-shift, shape-three, shape-concat, part-more, part-sound, part-bad, part-long, lengths}
+use Rattle.vl_check.proofs.FormShapes.{shape-name, shape-bit, shape-part, shape-literal, shape-repeat, shape-as-signed, shape-as-unsigned, shape-unary, shape-two, shape-shift, shape-three, shape-concat, part-more, part-sound, part-bad, part-long, lengths}
 use Rattle.std.proofs.lemmas.List.{take_all}
 use Rattle.vl_check.proofs.shapes.+sound_shape.Goals as goal
 

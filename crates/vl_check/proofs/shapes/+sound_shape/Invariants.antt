@@ -2,7 +2,7 @@ use Rattle.std.proofs.Common.{◌≡◌, ◌≤◌, true, take}
 use Rattle.std.specs.List.{list_all}
 use Rattle.vl_ast.specs.Conditions.{is_sound}
 use Rattle.vl_check.specs.Scope.{nets_in}
-use Rattle.vl_check.proofs.Shaping.{lengths}
+use Rattle.vl_check.proofs.FormShapes.{lengths}
 use Rattle.vl_check.proofs.shapes.+sound_shape.Given as goal
 
 abbrev pub invariant-concat_shape-loop-part : goal.invariant-concat_shape-loop-part

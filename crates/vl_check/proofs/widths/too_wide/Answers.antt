@@ -9,7 +9,7 @@ use Rattle.vl_ast.specs.Context.{Net}
 use Rattle.vl_ast.specs.Nets.{nets_of, net_or_none}
 use Rattle.vl_ast.specs.Conditions.{is_width, is_sound_item, item_name}
 use Rattle.vl_check.specs.Scope.{nets_in}
-use Rattle.vl_check.proofs.Searched.{all-further, tested, none-fails, one-fails}
+use Rattle.vl_check.proofs.SearchFacts.{all-further, tested, none-fails, one-fails}
 use Rattle.vl_check.proofs.widths.too_wide.Goals as goal
 
 abbrev wide : List Port → List ModItem → (List ℕ → Net) → Option (List ℕ)

@@ -2,7 +2,7 @@ use Rattle.std.proofs.Common.{rules, ◌≡◌, ◌∙◌, ap, IfOk, subst}
 use Rattle.vl_ast.specs.declared.expressions.Expr.TheVariants.{Name, Literal}
 use Rattle.vl_ast.specs.declared.expressions.Sized.{Sized}
 use Rattle.vl_emit.specs.Names.{Wire}
-use Rattle.vl_emit.specs.inner.Emitted.{plain_number}
+use Rattle.vl_emit.specs.inner.NetItems.{plain_number}
 use Rattle.vl_emit.specs.inner.Ready.{counter_in}
 use Rattle.vl_emit.specs.inner.Spoken.{wire_at}
 use Rattle.vl_emit.proofs.conditions.count_test.Goals as goal

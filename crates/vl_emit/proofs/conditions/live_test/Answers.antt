@@ -1,6 +1,6 @@
 use Rattle.std.proofs.Common.{◌≡◌, ◌*◌, ◌-◌, ◌∙◌, ℕ, IfOk, subst}
 use Rattle.vl_ast.specs.declared.expressions.BinOp.TheVariants.{GreaterEqual}
-use Rattle.vl_emit.specs.inner.Emitted.{compares}
+use Rattle.vl_emit.specs.inner.NetItems.{compares}
 use Rattle.vl_emit.specs.inner.Ready.{counter_in, cycles_in}
 use Rattle.vl_emit.proofs.conditions.live_test.Goals as goal
 

@@ -3,9 +3,9 @@ use Rattle.std.specs.Prelude.{nat_lt}
 use Rattle.std.proofs.lemmas.Bool.{cond-true, lt-ltb}
 use Rattle.vl_ast.specs.declared.expressions.Expr.{Expr}
 use Rattle.vl_emit.specs.Names.{Wire}
-use Rattle.vl_emit.specs.inner.Emitted.{counts}
+use Rattle.vl_emit.specs.inner.NetItems.{counts}
 use Rattle.vl_emit.specs.inner.Ready.{counter_in, cycles_in}
-use Rattle.vl_emit.specs.inner.Spelled.{zeros}
+use Rattle.vl_emit.specs.inner.Pieces.{zeros}
 use Rattle.vl_emit.proofs.conditions.slot_test.Goals as goal
 
 pub returns : goal.returns

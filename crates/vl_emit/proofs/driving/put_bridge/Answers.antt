@@ -1,8 +1,8 @@
 use Rattle.std.proofs.Common.{◌≡◌, ◌∙◌, IfOk, subst, ap}
 use Rattle.vl_ast.specs.declared.expressions.Expr.TheVariants.{Name}
-use Rattle.vl_ast.proofs.Listed.{both}
+use Rattle.vl_ast.proofs.Listings.{both}
 use Rattle.vl_emit.specs.Names.{Wire}
-use Rattle.vl_emit.specs.inner.Emitted.{plain_number}
+use Rattle.vl_emit.specs.inner.NetItems.{plain_number}
 use Rattle.vl_emit.specs.inner.Ready.{wire_in}
 use Rattle.vl_emit.proofs.driving.put_bridge.Goals as goal
 

@@ -4,7 +4,7 @@ use Rattle.vl_ast.specs.declared.expressions.Expr.TheVariants.{Name, Literal}
 use Rattle.vl_ast.specs.declared.expressions.Sized.{Sized}
 use Rattle.hw_net.specs.Products.{net_at}
 use Rattle.vl_emit.specs.Names.{Wire}
-use Rattle.vl_emit.specs.inner.Emitted.{plain_number}
+use Rattle.vl_emit.specs.inner.NetItems.{plain_number}
 use Rattle.vl_emit.specs.inner.Operators.{test_of}
 use Rattle.vl_emit.specs.inner.Ready.{circuit_of, cycles_in}
 use Rattle.vl_emit.proofs.driving.put_counter.Goals as goal

@@ -5,9 +5,9 @@ use Rattle.vl_ast.specs.declared.expressions.Sized.{Sized}
 use Rattle.vl_ast.specs.declared.modules.ModItem.{ModItem}
 use Rattle.vl_ast.specs.Listing.{Lists}
 use Rattle.vl_emit.specs.Names.{Wire}
-use Rattle.vl_emit.specs.inner.Emitted.{constant}
+use Rattle.vl_emit.specs.inner.NetItems.{constant}
 use Rattle.vl_emit.specs.inner.Ready.{circuit_of, taken_in}
-use Rattle.vl_emit.proofs.KindRead.{enabled-driver}
+use Rattle.vl_emit.proofs.NetKinds.{enabled-driver}
 use Rattle.vl_emit.proofs.Lists.{net-read}
 use Rattle.vl_emit.proofs.driving.put_enabled.Goals as goal
 

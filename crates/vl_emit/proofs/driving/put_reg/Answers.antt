@@ -4,7 +4,7 @@ use Rattle.std.proofs.Common.{◌≡◌, ◌∙◌, ℕ, Some, IfOk, subst}
 use Rattle.vl_ast.specs.Gated.{gated_condition}
 use Rattle.vl_ast.specs.declared.expressions.Expr.TheVariants.{Name}
 use Rattle.vl_emit.specs.Names.{Wire}
-use Rattle.vl_emit.specs.inner.Emitted.{constant}
+use Rattle.vl_emit.specs.inner.NetItems.{constant}
 use Rattle.vl_emit.specs.inner.Ready.{circuit_of, slot_in}
 use Rattle.vl_emit.proofs.Lists.{net-read}
 use Rattle.vl_emit.proofs.driving.put_reg.Goals as goal

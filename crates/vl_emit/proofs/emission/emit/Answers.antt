@@ -10,13 +10,13 @@ use Rattle.vl_emit.specs.Products.{ProductsAre}
 use Rattle.vl_emit.specs.Reads.{ReadsOnly}
 use Rattle.vl_emit.specs.Registers.{RegistersAre}
 use Rattle.vl_emit.specs.Shown.{NetsAreShown, NetsFit, OutputsAreShown}
-use Rattle.vl_emit.specs.inner.Emitted.{module_of}
-use Rattle.vl_emit.proofs.Itemized.{items-are, labels-are, names-differ, nets-fit}
-use Rattle.vl_emit.proofs.Assigned.{products-are}
-use Rattle.vl_emit.proofs.Multiplied.{registers-are}
-use Rattle.vl_emit.proofs.Opened.{gated-breaks, header, keeps-bits}
-use Rattle.vl_emit.proofs.Reading.{reads-only}
-use Rattle.vl_emit.proofs.Returned.{if-made}
+use Rattle.vl_emit.specs.inner.NetItems.{module_of}
+use Rattle.vl_emit.proofs.ModuleItems.{items-are, labels-are, names-differ, nets-fit}
+use Rattle.vl_emit.proofs.ProductAssigns.{products-are}
+use Rattle.vl_emit.proofs.Multiplications.{registers-are}
+use Rattle.vl_emit.proofs.EnablePorts.{gated-breaks, header, keeps-bits}
+use Rattle.vl_emit.proofs.ItemReads.{reads-only}
+use Rattle.vl_emit.proofs.Result.{if-made}
 use Rattle.vl_emit.proofs.Spellings.{spells}
 use Rattle.vl_emit.proofs.Shows.{nets-are-shown, outputs-are-shown}
 use Rattle.vl_emit.proofs.emission.emit.Goals as goal

@@ -5,7 +5,7 @@ use Rattle.hw_net.specs.declared.netlist.NetLabel.{NetLabel}
 use Rattle.vl_ast.specs.Gated.{gated_item, shows_enable}
 use Rattle.vl_ast.specs.Header.{module_with}
 use Rattle.vl_emit.specs.Header.{ports_of}
-use Rattle.vl_emit.specs.inner.Emitted.{items_of}
+use Rattle.vl_emit.specs.inner.NetItems.{items_of}
 use Rattle.vl_emit.specs.inner.Ready.{IsIndex}
 use Rattle.vl_emit.proofs.Sounds.{netlist-ready}
 use Rattle.vl_emit.proofs.emission.module_of.Goals as goal

@@ -1,5 +1,5 @@
 use Rattle.std.proofs.Common.{true, false, ap, map, subst, sym}
-use Rattle.vl_ast.proofs.Listed.{both, has-more, lists-as}
+use Rattle.vl_ast.proofs.Listings.{both, has-more, lists-as}
 use Rattle.vl_emit.specs.inner.Ready.{AreThere, port_of}
 use Rattle.vl_emit.proofs.header.ports_of.Goals as goal
 

@@ -1,7 +1,7 @@
 use Rattle.std.proofs.Common.{◌≡◌, ◌<◌, ◌∙◌, ◌∷◌, [], if◌then◌else◌, ap, length, map, subst, sym}
 use Rattle.std.proofs.lemmas.List.{get_or_default, take_all}
 use Rattle.vl_ast.specs.Header.{DataPort, input_port, output_port}
-use Rattle.vl_ast.proofs.Listed.{lists-as, none-put, one-mapped}
+use Rattle.vl_ast.proofs.Listings.{lists-as, none-put, one-mapped}
 use Rattle.hw_net.specs.declared.netlist.Net.{Net}
 use Rattle.hw_net.specs.declared.netlist.NetPort.{NetPort}
 use Rattle.vl_emit.specs.Header.{data_port}

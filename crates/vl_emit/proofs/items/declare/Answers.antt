@@ -4,10 +4,10 @@ use Rattle.vl_ast.specs.declared.making.Listing.{Listing}
 use Rattle.vl_ast.specs.declared.modules.ModItem.{ModItem}
 use Rattle.vl_ast.specs.declared.modules.ModItem.TheVariants as item
 use Rattle.vl_ast.specs.Listing.{Lists}
-use Rattle.vl_ast.proofs.Listed.{both, lists-as}
+use Rattle.vl_ast.proofs.Listings.{both, lists-as}
 use Rattle.vl_emit.specs.Names.{Wire, hold_name}
 use Rattle.vl_emit.specs.declared.source.Source.{Source}
-use Rattle.vl_emit.specs.inner.Emitted.{declarers_at}
+use Rattle.vl_emit.specs.inner.NetItems.{declarers_at}
 use Rattle.vl_emit.specs.inner.Ready.{circuit_of}
 use Rattle.vl_emit.proofs.items.declare.Goals as goal
 

@@ -3,8 +3,8 @@ use Rattle.hw_net.specs.declared.netlist.NetKind.{NetKind}
 use Rattle.hw_net.specs.declared.netlist.NetKind.TheVariants.{Comb}
 use Rattle.vl_ast.specs.Gated.{gated_item}
 use Rattle.vl_ast.specs.Listing.{Lists}
-use Rattle.vl_ast.proofs.Listed.{lists-as, none-put}
-use Rattle.vl_emit.specs.inner.Emitted.{others_at}
+use Rattle.vl_ast.proofs.Listings.{lists-as, none-put}
+use Rattle.vl_emit.specs.inner.NetItems.{others_at}
 use Rattle.vl_emit.specs.inner.Ready.{HasKind, circuit_of}
 use Rattle.vl_emit.proofs.items.drive.Goals as goal
 

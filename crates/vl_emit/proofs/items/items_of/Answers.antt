@@ -1,7 +1,7 @@
 use Rattle.std.proofs.Common.{sym}
-use Rattle.vl_ast.proofs.Listed.{both, has-more, holds-as}
+use Rattle.vl_ast.proofs.Listings.{both, has-more, holds-as}
 use Rattle.vl_emit.specs.inner.Ready.{circuit_of}
-use Rattle.vl_emit.proofs.Opened.{gated-items}
+use Rattle.vl_emit.proofs.EnablePorts.{gated-items}
 use Rattle.vl_emit.proofs.items.items_of.Goals as goal
 
 pub returns : goal.returns

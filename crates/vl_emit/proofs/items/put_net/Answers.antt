@@ -1,10 +1,10 @@
 use Rattle.std.proofs.Common.{◌∙◌, ap, map, subst, sym}
 use Rattle.hw_net.specs.declared.netlist.Net.{Net}
 use Rattle.vl_ast.specs.Gated.{gated_item}
-use Rattle.vl_ast.proofs.Listed.{lists-as, none-put}
-use Rattle.vl_emit.specs.inner.Emitted.{declarers_at, others_at, units_at}
+use Rattle.vl_ast.proofs.Listings.{lists-as, none-put}
+use Rattle.vl_emit.specs.inner.NetItems.{declarers_at, others_at, units_at}
 use Rattle.vl_emit.specs.inner.Ready.{HasKind, circuit_of}
-use Rattle.vl_emit.proofs.KindRead.{no-unit, read-kind}
+use Rattle.vl_emit.proofs.NetKinds.{no-unit, read-kind}
 use Rattle.vl_emit.proofs.Lists.{net-read}
 use Rattle.vl_emit.proofs.items.put_net.Goals as goal
 

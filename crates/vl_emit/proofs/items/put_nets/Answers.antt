@@ -1,4 +1,4 @@
-use Rattle.vl_ast.proofs.Listed.{none-put}
+use Rattle.vl_ast.proofs.Listings.{none-put}
 use Rattle.vl_emit.specs.inner.Ready.{net_items}
 use Rattle.vl_emit.proofs.Lists.{loop-step}
 use Rattle.vl_emit.proofs.items.put_nets.Goals as goal

@@ -2,10 +2,10 @@ use Rattle.std.proofs.Common.{◌≡◌, ◌<◌, ℕ, List, IfOk, ap, get_or, l
 use Rattle.std.proofs.lemmas.List.{take_all}
 use Rattle.vl_ast.specs.declared.expressions.Expr.TheVariants.{Name}
 use Rattle.vl_ast.specs.declared.modules.ModItem.{ModItem}
-use Rattle.vl_ast.proofs.Listed.{lists-as, none-put, one-mapped}
+use Rattle.vl_ast.proofs.Listings.{lists-as, none-put, one-mapped}
 use Rattle.hw_net.specs.declared.netlist.NetPort.{NetPort}
 use Rattle.vl_emit.specs.Names.{Wire}
-use Rattle.vl_emit.specs.inner.Emitted.{naming_of, output_item}
+use Rattle.vl_emit.specs.inner.NetItems.{naming_of, output_item}
 use Rattle.vl_emit.specs.inner.Ready.{circuit_of}
 use Rattle.vl_emit.proofs.items.show_outputs.Goals as goal
 

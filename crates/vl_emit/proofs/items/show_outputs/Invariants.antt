@@ -1,6 +1,6 @@
 use Rattle.std.proofs.Common.{map, take}
 use Rattle.vl_ast.specs.Listing.{Lists}
-use Rattle.vl_emit.specs.inner.Emitted.{output_item, naming_of}
+use Rattle.vl_emit.specs.inner.NetItems.{output_item, naming_of}
 use Rattle.vl_emit.specs.inner.Ready.{circuit_of}
 use Rattle.vl_emit.proofs.items.show_outputs.Given as goal
 

@@ -1,4 +1,4 @@
-use Rattle.vl_ast.proofs.Listed.{both, has-more}
+use Rattle.vl_ast.proofs.Listings.{both, has-more}
 use Rattle.vl_emit.proofs.operands.beside.Goals as goal
 
 pub returns : goal.returns

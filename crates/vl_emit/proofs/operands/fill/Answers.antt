@@ -1,7 +1,7 @@
 use Rattle.std.proofs.Common.{◌∙◌, ◌-◌, ℕ, Bool, if◌then◌else◌, List, ap, refl, sym}
 use Rattle.vl_ast.specs.declared.expressions.Expr.{Expr}
 use Rattle.vl_ast.specs.declared.expressions.Expr.TheVariants.{Bit, Repeat}
-use Rattle.vl_emit.specs.inner.Spelled.{zeros}
+use Rattle.vl_emit.specs.inner.Pieces.{zeros}
 use Rattle.vl_emit.specs.inner.Spoken.{wire_at}
 use Rattle.vl_emit.proofs.operands.fill.Goals as goal
 

@@ -2,7 +2,7 @@ use Rattle.std.proofs.Common.{◌∙◌, Bool, ap, sym}
 use Rattle.vl_ast.specs.declared.expressions.Expr.{Expr}
 use Rattle.vl_ast.specs.declared.expressions.Expr.TheVariants.{AsSigned}
 use Rattle.vl_emit.specs.inner.Operators.{compared}
-use Rattle.vl_emit.specs.inner.Spelled.{at_width}
+use Rattle.vl_emit.specs.inner.Pieces.{at_width}
 use Rattle.vl_emit.specs.inner.Spoken.{wire_at}
 use Rattle.vl_emit.proofs.operators.comparand.Goals as goal
 

@@ -3,7 +3,7 @@ use Rattle.vl_ast.specs.declared.expressions.BinOp.TheVariants as binary
 use Rattle.vl_ast.specs.declared.expressions.Expr.{Expr}
 use Rattle.vl_ast.specs.declared.expressions.Expr.TheVariants.{Binary}
 use Rattle.vl_emit.specs.inner.Operators.{by_sign, compared, widened}
-use Rattle.vl_emit.specs.inner.Spelled.{at_width}
+use Rattle.vl_emit.specs.inner.Pieces.{at_width}
 use Rattle.vl_emit.specs.inner.Spoken.{wire_at}
 use Rattle.vl_emit.proofs.operators.less.Goals as goal
 

@@ -3,8 +3,8 @@ use Rattle.std.specs.Prelude.{nat_lt}
 use Rattle.std.proofs.lemmas.Bool.{cond-true, lt-ltb}
 use Rattle.vl_ast.specs.declared.expressions.ShiftOp.TheVariants.{Left}
 use Rattle.vl_ast.specs.declared.expressions.Expr.TheVariants.{Shift}
-use Rattle.vl_emit.specs.inner.Emitted.{plain_number}
-use Rattle.vl_emit.specs.inner.Spelled.{zeros, at_width}
+use Rattle.vl_emit.specs.inner.NetItems.{plain_number}
+use Rattle.vl_emit.specs.inner.Pieces.{zeros, at_width}
 use Rattle.vl_emit.specs.inner.Spoken.{wire_at}
 use Rattle.vl_emit.proofs.operators.shifted_up.Goals as goal
 

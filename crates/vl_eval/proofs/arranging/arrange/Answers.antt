@@ -1,6 +1,6 @@
 use Rattle.std.proofs.Common.{refl}
-use Rattle.vl_eval.specs.inner.Arranged.{moved_capture}
-use Rattle.vl_eval.proofs.Sorting.{map-same}
+use Rattle.vl_eval.specs.inner.Order.{moved_capture}
+use Rattle.vl_eval.proofs.SortOrder.{map-same}
 use Rattle.vl_eval.proofs.arranging.arrange.Goals as goal
 
 pub returns-then-len-gt-MOST : goal.returns-then-len-gt-MOST

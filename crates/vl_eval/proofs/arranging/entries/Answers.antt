@@ -1,8 +1,8 @@
 use Rattle.std.proofs.Common.{◌≡◌, ◌<◌, ◌+◌, ◌*◌, ◌^◌, ◌++◌, ◌∷◌, [], length, take, sym, ap, subst, ◌∙◌, arith}
 use Rattle.std.proofs.lemmas.List.{get_or_default, length-take-le, take_all, take_more}
 use Rattle.vl_eval.specs.declared.ops.Op.TheVariants.{Constant}
-use Rattle.vl_eval.specs.inner.Arranged.{AreEntered, AreLow, IsAbove, each_of}
-use Rattle.vl_eval.proofs.Sorting.{entered-more, entered-none, reads-levelled}
+use Rattle.vl_eval.specs.inner.Order.{AreEntered, AreLow, IsAbove, each_of}
+use Rattle.vl_eval.proofs.SortOrder.{entered-more, entered-none, reads-levelled}
 use Rattle.vl_eval.proofs.arranging.entries.Goals as goal
 
 pub level_of-level-requires-clause-within : goal.level_of-level-requires-clause-within

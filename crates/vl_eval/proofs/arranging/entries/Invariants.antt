@@ -1,5 +1,5 @@
 use Rattle.std.proofs.Common.{take}
-use Rattle.vl_eval.specs.inner.Arranged.{AreEntered}
+use Rattle.vl_eval.specs.inner.Order.{AreEntered}
 use Rattle.vl_eval.proofs.arranging.entries.Given as goal
 
 abbrev pub invariant-loop-number : goal.invariant-loop-number

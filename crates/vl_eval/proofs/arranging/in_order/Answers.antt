@@ -2,7 +2,7 @@ use Rattle.std.proofs.Common.{◌++◌, ◌∷◌, [], ℕ, map, sym, ap, ◌∙
 use Rattle.std.specs.Prelude.{slice_index_or}
 use Rattle.std.proofs.lemmas.List.{map_more, take_all}
 use Rattle.vl_eval.specs.declared.ops.Op.TheVariants.{Constant}
-use Rattle.vl_eval.specs.inner.Arranged.{moved, op_at, renamed}
+use Rattle.vl_eval.specs.inner.Order.{moved, op_at, renamed}
 use Rattle.vl_eval.proofs.arranging.in_order.Goals as goal
 
 pub loop-entry-init : goal.loop-entry-init

@@ -1,5 +1,5 @@
 use Rattle.std.proofs.Common.{◌≡◌, map, take}
-use Rattle.vl_eval.specs.inner.Arranged.{op_at}
+use Rattle.vl_eval.specs.inner.Order.{op_at}
 use Rattle.vl_eval.proofs.arranging.in_order.Given as goal
 
 abbrev pub invariant-loop-entry : goal.invariant-loop-entry

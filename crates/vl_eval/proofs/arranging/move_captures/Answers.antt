@@ -1,7 +1,7 @@
 use Rattle.std.proofs.Common.{ap, refl, set, ◌∙◌}
 use Rattle.vl_eval.specs.declared.plan.Capture.{Capture}
-use Rattle.vl_eval.specs.inner.Arranged.{moved, moved_capture}
-use Rattle.vl_eval.proofs.Listing.{all-moved, one-moved}
+use Rattle.vl_eval.specs.inner.Order.{moved, moved_capture}
+use Rattle.vl_eval.proofs.LoopLists.{all-moved, one-moved}
 use Rattle.vl_eval.proofs.arranging.move_captures.Goals as goal
 
 pub loop-k-init : goal.loop-k-init

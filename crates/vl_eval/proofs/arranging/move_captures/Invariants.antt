@@ -1,5 +1,5 @@
 use Rattle.std.proofs.Common.{◌≡◌, ◌++◌, drop, map, take}
-use Rattle.vl_eval.specs.inner.Arranged.{moved, moved_capture}
+use Rattle.vl_eval.specs.inner.Order.{moved, moved_capture}
 use Rattle.vl_eval.proofs.arranging.move_captures.Given as goal
 
 abbrev pub invariant-loop-k : goal.invariant-loop-k

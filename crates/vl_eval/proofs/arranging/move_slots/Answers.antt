@@ -1,6 +1,6 @@
 use Rattle.std.proofs.Common.{ℕ, ap, refl, set, ◌∙◌}
-use Rattle.vl_eval.specs.inner.Arranged.{moved}
-use Rattle.vl_eval.proofs.Listing.{all-moved, one-moved}
+use Rattle.vl_eval.specs.inner.Order.{moved}
+use Rattle.vl_eval.proofs.LoopLists.{all-moved, one-moved}
 use Rattle.vl_eval.proofs.arranging.move_slots.Goals as goal
 
 pub loop-k-init : goal.loop-k-init

@@ -1,6 +1,6 @@
 use Rattle.std.proofs.Common.{rules, ◌≡◌, ◌+◌, length, set, sym, subst, arith}
-use Rattle.vl_eval.specs.inner.Arranged.{ArePlaces}
-use Rattle.vl_eval.proofs.Sorting.{places-more, places-none}
+use Rattle.vl_eval.specs.inner.Order.{ArePlaces}
+use Rattle.vl_eval.proofs.SortOrder.{places-more, places-none}
 use Rattle.vl_eval.proofs.arranging.places_of.Goals as goal
 
 pub loop-place-init : goal.loop-place-init

@@ -1,4 +1,4 @@
-use Rattle.vl_eval.specs.inner.Arranged.{ArePlaces}
+use Rattle.vl_eval.specs.inner.Order.{ArePlaces}
 use Rattle.vl_eval.proofs.arranging.places_of.Given as goal
 
 abbrev pub invariant-loop-place : goal.invariant-loop-place

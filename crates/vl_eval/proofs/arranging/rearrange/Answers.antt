@@ -2,9 +2,9 @@ use Rattle.std.proofs.Common.{◌≡◌, ◌<◌, ℕ, length, map, slice_index,
 use Rattle.std.specs.List.Sorted.{IsNonDecreasing}
 use Rattle.std.proofs.lemmas.List.{with_items_is}
 use Rattle.std.proofs.lemmas.List.Sorted.{IsNonDecreasingBy-from_sort}
-use Rattle.vl_eval.specs.inner.Arranged.{ArePlaces, moved, moved_capture, number_of, op_at}
+use Rattle.vl_eval.specs.inner.Order.{ArePlaces, moved, moved_capture, number_of, op_at}
 use Rattle.vl_eval.specs.inner.Ops.{IsOrdered, IsSettled}
-use Rattle.vl_eval.proofs.Sorting.{arranged-long, arranged-ordered, arranged-settled, moved-fixed, moved-within, numbers-low, sorted-long}
+use Rattle.vl_eval.proofs.SortOrder.{arranged-long, arranged-ordered, arranged-settled, moved-fixed, moved-within, numbers-low, sorted-long}
 use Rattle.vl_eval.proofs.arranging.rearrange.Goals as goal
 use Rattle.vl_eval.proofs.arranging.rearrange.Goals.{After-sort_unstable}
 

@@ -3,7 +3,7 @@ use Rattle.vl_ast.specs.declared.expressions.Expr.{Expr}
 use Rattle.vl_ast.specs.Conditions.{is_sound_condition}
 use Rattle.vl_ast.specs.Nets.{condition_names}
 use Rattle.vl_check.specs.Scope.{nets_in}
-use Rattle.vl_eval.specs.inner.Assigning.{Tests}
+use Rattle.vl_eval.specs.inner.Assigns.{Tests}
 use Rattle.vl_eval.specs.inner.Site.{ArePlaced}
 use Rattle.vl_eval.proofs.Assigns.{tests-none, tests-some}
 use Rattle.vl_eval.proofs.Builds.{fine-as}

@@ -6,8 +6,8 @@ use Rattle.vl_ast.specs.Nets.{names_read}
 use Rattle.vl_check.specs.Scope.{nets_in}
 use Rattle.vl_eval.specs.declared.adding.Additions.{Additions}
 use Rattle.vl_eval.specs.declared.site.Site.{Site}
-use Rattle.vl_eval.specs.inner.Built.{shift_op}
-use Rattle.vl_eval.specs.inner.Shown.{Pushed}
+use Rattle.vl_eval.specs.inner.OperatorSteps.{shift_op}
+use Rattle.vl_eval.specs.inner.PlaceBits.{Pushed}
 use Rattle.vl_eval.specs.inner.Site.{ArePlaced, Built, CanBuild, IsBuilt}
 use Rattle.std.proofs.lemmas.Bool.{not-false, not-true}
 use Rattle.std.proofs.lemmas.List.{take_all}

@@ -3,7 +3,7 @@ use Rattle.vl_ast.specs.declared.expressions.Expr.TheViews.{size-Expr}
 use Rattle.vl_ast.proofs.Agree.{ByLayer}
 use Rattle.vl_ast.specs.Context.{own_length}
 use Rattle.vl_check.specs.Scope.{nets_in}
-use Rattle.vl_eval.specs.inner.Shown.{Grows, IfFine}
+use Rattle.vl_eval.specs.inner.PlaceBits.{Grows, IfFine}
 use Rattle.vl_eval.proofs.SideBySide.{Copied, Joined}
 use Rattle.vl_eval.proofs.building.+build.Given as goal
 

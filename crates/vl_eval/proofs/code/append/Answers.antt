@@ -2,7 +2,7 @@ use Rattle.std.proofs.Common.{◌≡◌, ◌++◌, ◌∷◌, [], ℕ, List, len
 use Rattle.vl_eval.specs.declared.ops.Op.{Op}
 use Rattle.vl_eval.specs.declared.steps.Step.TheVariants.{Whole}
 use Rattle.vl_eval.specs.inner.Steps.{AreWithin, ops_of}
-use Rattle.vl_eval.proofs.Holding.{ops-more, ops-wider, within-more, within-wider}
+use Rattle.vl_eval.proofs.LongerLists.{ops-more, ops-wider, within-more, within-wider}
 use Rattle.vl_eval.proofs.code.append.Goals as goal
 
 pub returns-in-Some-clause-within : goal.returns-in-Some-clause-within

@@ -3,7 +3,7 @@ use Rattle.std.proofs.lemmas.List.{take-append-drop, take_more}
 use Rattle.std.proofs.lemmas.List.Elements.{Contains-append_left}
 use Rattle.vl_eval.specs.declared.plan.Capture.{Capture}
 use Rattle.vl_eval.specs.inner.Edges.{IsTaken}
-use Rattle.vl_eval.proofs.Taking.{capture-in, taken-more}
+use Rattle.vl_eval.proofs.Puts.{capture-in, taken-more}
 use Rattle.vl_eval.proofs.machine.capture.Goals as goal
 use Rattle.vl_eval.proofs.machine.capture.Goals.{In-loop-capture}
 

@@ -2,8 +2,8 @@ use Rattle.std.proofs.Common.{◌≡◌, ℕ, List, length, slice_index, replica
 use Rattle.std.specs.Vec.{with_items}
 use Rattle.std.proofs.lemmas.List.{length-replicate, with_items_is}
 use Rattle.vl_eval.specs.inner.Ops.{IsSettled}
-use Rattle.vl_eval.proofs.Listing.{zero-at}
-use Rattle.vl_eval.proofs.Swept.{settled-none}
+use Rattle.vl_eval.proofs.LoopLists.{zero-at}
+use Rattle.vl_eval.proofs.Sweep.{settled-none}
 use Rattle.vl_eval.proofs.machine.first_values.Goals as goal
 
 pub sweep-requires-clause-begun : goal.sweep-requires-clause-begun

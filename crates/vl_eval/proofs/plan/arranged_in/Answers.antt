@@ -1,14 +1,14 @@
 use Rattle.std.proofs.Common.{◌<◌, length, codes, subst, sym, arith}
 use Rattle.std.proofs.lemmas.Option.{slice_get_within}
 use Rattle.std.proofs.lemmas.Result.{IfOk-weaker}
-use Rattle.vl_check.proofs.Scoped.{at-number}
+use Rattle.vl_check.proofs.ScopeNames.{at-number}
 use Rattle.vl_check.specs.Scope.{names_in}
 use Rattle.vl_eval.specs.declared.arranging.Arranged.{Arranged}
-use Rattle.vl_eval.specs.inner.Arranged.{IsArranged}
+use Rattle.vl_eval.specs.inner.Order.{IsArranged}
 use Rattle.vl_eval.specs.inner.Ops.{IsOrdered}
-use Rattle.vl_eval.specs.inner.Planned.{AreNumbers}
-use Rattle.vl_eval.proofs.Capturing.{number-of, reset-known}
-use Rattle.vl_eval.proofs.Rearranged.{arranged-captured, arranged-wired}
+use Rattle.vl_eval.specs.inner.PlanOperations.{AreNumbers}
+use Rattle.vl_eval.proofs.Captures.{number-of, reset-known}
+use Rattle.vl_eval.proofs.Rearrangement.{arranged-captured, arranged-wired}
 use Rattle.vl_eval.proofs.Sounds.{scope-few}
 use Rattle.vl_eval.proofs.plan.arranged_in.Goals as goal
 

@@ -4,13 +4,13 @@ use Rattle.vl_ast.specs.declared.modules.ModItem.{ModItem}
 use Rattle.vl_ast.specs.declared.modules.ModItem.TheVariants.{Always}
 use Rattle.vl_ast.specs.Conditions.{is_number, is_sound, is_sound_condition}
 use Rattle.vl_check.specs.Scope.{names_in, nets_in}
-use Rattle.vl_eval.specs.inner.Assigning.{Captures, next_names}
+use Rattle.vl_eval.specs.inner.Assigns.{Captures, next_names}
 use Rattle.vl_eval.specs.declared.adding.Additions.{Additions}
 use Rattle.vl_eval.specs.declared.ops.Op.{Op}
 use Rattle.vl_eval.specs.declared.plan.Capture.{Capture}
-use Rattle.vl_eval.specs.inner.Planned.{AreCaptured}
+use Rattle.vl_eval.specs.inner.PlanOperations.{AreCaptured}
 use Rattle.vl_eval.specs.inner.Site.{ArePlaced, slot_in}
-use Rattle.vl_eval.proofs.Capturing.{captured-more, captured-none, captured-same, item-there, items-more, known-placed, next-known, reset-known}
+use Rattle.vl_eval.proofs.Captures.{captured-more, captured-none, captured-same, item-there, items-more, known-placed, next-known, reset-known}
 use Rattle.vl_eval.proofs.Sounds.{scope-always, scope-few}
 use Rattle.vl_eval.proofs.plan.captures.Goals as goal
 use Rattle.vl_eval.proofs.plan.captures.Goals.{In-Always, in-Always, in_default}

@@ -1,6 +1,6 @@
 use Rattle.std.proofs.Common.{take}
-use Rattle.vl_eval.specs.inner.Planned.{AreCaptured}
-use Rattle.vl_eval.specs.inner.Shown.{IfFine}
+use Rattle.vl_eval.specs.inner.PlanOperations.{AreCaptured}
+use Rattle.vl_eval.specs.inner.PlaceBits.{IfFine}
 use Rattle.vl_eval.proofs.plan.captures.Given as goal
 
 abbrev pub invariant-loop-item : goal.invariant-loop-item

@@ -1,6 +1,6 @@
 use Rattle.std.proofs.Common.{subst, sym}
 use Rattle.vl_check.specs.Ordering.{IsOrdering}
-use Rattle.vl_eval.specs.inner.Planned.{AreCaptured, AreWired}
+use Rattle.vl_eval.specs.inner.PlanOperations.{AreCaptured, AreWired}
 use Rattle.vl_eval.proofs.plan.fill.Goals as goal
 
 pub wires-requires-clause-sound : goal.wires-requires-clause-sound

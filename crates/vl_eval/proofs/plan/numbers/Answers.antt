@@ -1,6 +1,6 @@
 use Rattle.std.proofs.Common.{◌+◌, sym, subst}
-use Rattle.vl_eval.specs.inner.Planned.{AreNumbers}
-use Rattle.vl_eval.proofs.Listing.{numbers-more, numbers-none}
+use Rattle.vl_eval.specs.inner.PlanOperations.{AreNumbers}
+use Rattle.vl_eval.proofs.LoopLists.{numbers-more, numbers-none}
 use Rattle.vl_eval.proofs.plan.numbers.Goals as goal
 
 pub loop-number-init : goal.loop-number-init

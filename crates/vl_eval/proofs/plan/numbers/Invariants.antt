@@ -1,4 +1,4 @@
-use Rattle.vl_eval.specs.inner.Planned.{AreNumbers}
+use Rattle.vl_eval.specs.inner.PlanOperations.{AreNumbers}
 use Rattle.vl_eval.proofs.plan.numbers.Given as goal
 
 abbrev pub invariant-loop-number : goal.invariant-loop-number

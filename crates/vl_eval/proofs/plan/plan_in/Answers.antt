@@ -1,7 +1,7 @@
 use Rattle.std.proofs.Common.{◌≡◌, map, subst}
 use Rattle.vl_ast.specs.Driven.{output_ports}
 use Rattle.vl_eval.specs.Given.{driven_ports}
-use Rattle.vl_eval.specs.inner.Planned.{output_of, slot_of_port}
+use Rattle.vl_eval.specs.inner.PlanOperations.{output_of, slot_of_port}
 use Rattle.vl_eval.proofs.plan.plan_in.Goals as goal
 
 pub returns-in-Ok : goal.returns-in-Ok

@@ -3,10 +3,10 @@ use Rattle.std.proofs.lemmas.List.{take_all}
 use Rattle.vl_ast.specs.declared.modules.Port.{Port}
 use Rattle.vl_ast.specs.Control.{is_number_output}
 use Rattle.vl_eval.specs.declared.plan.Output.{Output}
-use Rattle.vl_eval.specs.inner.Planned.{output_of, slot_of_port}
+use Rattle.vl_eval.specs.inner.PlanOperations.{output_of, slot_of_port}
 use Rattle.vl_eval.specs.inner.Site.{slot_in}
-use Rattle.vl_eval.proofs.Capturing.{items-more}
-use Rattle.vl_eval.proofs.Listing.{none-gathered, one-gathered}
+use Rattle.vl_eval.proofs.Captures.{items-more}
+use Rattle.vl_eval.proofs.LoopLists.{none-gathered, one-gathered}
 use Rattle.vl_eval.proofs.plan.put_ports.Goals.{then-is_driven_input+in_ok-push, else-is_driven_input, then-is_number_output+in_ok-push-2, else-is_number_output}
 use Rattle.vl_eval.proofs.plan.put_ports.Goals as goal
 

@@ -1,6 +1,6 @@
 use Rattle.std.proofs.Common.{◌≡◌, not, ◌&&◌, bytes_eq, codes, filter, map, take}
 use Rattle.vl_ast.specs.Control.{is_number_output}
-use Rattle.vl_eval.specs.inner.Planned.{output_of, slot_of_port}
+use Rattle.vl_eval.specs.inner.PlanOperations.{output_of, slot_of_port}
 use Rattle.vl_eval.proofs.plan.put_ports.Given as goal
 
 abbrev pub invariant-loop-port : goal.invariant-loop-port

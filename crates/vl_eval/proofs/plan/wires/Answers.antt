@@ -3,11 +3,11 @@ use Rattle.std.proofs.lemmas.List.{length-set}
 use Rattle.vl_ast.specs.Context.{Net}
 use Rattle.vl_ast.specs.Nets.{names_read}
 use Rattle.vl_check.specs.Scope.{names_in}
-use Rattle.vl_eval.specs.inner.Assigning.{Assigns}
-use Rattle.vl_eval.specs.inner.Planned.{IsWired}
+use Rattle.vl_eval.specs.inner.Assigns.{Assigns}
+use Rattle.vl_eval.specs.inner.PlanOperations.{IsWired}
 use Rattle.vl_eval.specs.inner.Site.{ArePlaced}
 use Rattle.vl_eval.proofs.Sounds.{scope-few, scope-sound}
-use Rattle.vl_eval.proofs.Wiring.{Assigned, in-items, no-assignment, some-assignment, wired-all, wired-more, wired-none, wired-placed, wired-same}
+use Rattle.vl_eval.proofs.Wires.{Assigned, in-items, no-assignment, some-assignment, wired-all, wired-more, wired-none, wired-placed, wired-same}
 use Rattle.vl_eval.proofs.plan.wires.Goals as goal
 use Rattle.vl_eval.proofs.plan.wires.Goals.{In-Some}
 

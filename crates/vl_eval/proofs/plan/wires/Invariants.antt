@@ -1,7 +1,7 @@
 use Rattle.std.proofs.Common.{◌≡◌, length}
 use Rattle.vl_check.specs.Scope.{names_in}
-use Rattle.vl_eval.specs.inner.Planned.{IsWired}
-use Rattle.vl_eval.specs.inner.Shown.{IfFine}
+use Rattle.vl_eval.specs.inner.PlanOperations.{IsWired}
+use Rattle.vl_eval.specs.inner.PlaceBits.{IfFine}
 use Rattle.vl_eval.proofs.plan.wires.Given as goal
 
 abbrev pub invariant-loop-number : goal.invariant-loop-number

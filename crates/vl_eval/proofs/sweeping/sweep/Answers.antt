@@ -1,7 +1,7 @@
 use Rattle.std.proofs.Common.{rules, ◌<◌, ◌+◌, ◌∙◌, length, arith}
 use Rattle.std.proofs.lemmas.List.{take-set-le}
 use Rattle.vl_eval.specs.declared.steps.Step.TheVariants.{Constant as ConstantStep}
-use Rattle.vl_eval.proofs.Swept.{step-reads, swept-step}
+use Rattle.vl_eval.proofs.Sweep.{step-reads, swept-step}
 use Rattle.vl_eval.proofs.sweeping.sweep.Goals as goal
 
 pub value_by-value-requires-clause-reads : goal.value_by-value-requires-clause-reads

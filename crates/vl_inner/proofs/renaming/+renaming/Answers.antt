@@ -2,7 +2,7 @@ use Rattle.std.proofs.Common.{◌≡◌, ◌∙◌, IfOk, ap, inl, inr, ℕ, Lis
 use Rattle.std.proofs.lemmas.List.{take_all}
 use Rattle.vl_ast.specs.declared.expressions.Expr.{Expr}
 use Rattle.vl_ast.specs.declared.expressions.Expr.TheViews.{out-Expr}
-use Rattle.vl_ast.proofs.Listed.{holds-as, one-held}
+use Rattle.vl_ast.proofs.Listings.{holds-as, one-held}
 use Rattle.vl_inner.specs.Names.{name_by}
 use Rattle.vl_inner.specs.Renamed.{renamed, with_name, with_part}
 use Rattle.vl_inner.proofs.Forms.{of-name, of-bit, of-part, of-literal, of-concat, of-repeat, of-signed, of-unsigned, of-unary, of-binary, of-shift, of-choose, over-bit, over-name, over-part, over-repeat, over-shift, over-signed, over-unary, over-unsigned}

@@ -1,7 +1,7 @@
 use Rattle.std.proofs.Common.{◌≡◌, ◌∙◌, ◌∷◌, [], IfOk, ℕ, List, ap, refl, subst, sym}
 use Rattle.vl_ast.specs.declared.modules.ModItem.{ModItem}
 use Rattle.vl_ast.specs.Conditions.{item_name}
-use Rattle.vl_ast.proofs.Listed.{lists-as}
+use Rattle.vl_ast.proofs.Listings.{lists-as}
 use Rattle.vl_inner.specs.Names.{name_by}
 use Rattle.vl_inner.specs.Renamed.{renamed_item}
 use Rattle.vl_inner.proofs.renaming.put_renamed.Goals as goal

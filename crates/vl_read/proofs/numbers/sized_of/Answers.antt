@@ -1,5 +1,5 @@
 use Rattle.std.proofs.Common.{◌+◌, ◌∙◌, ap}
-use Rattle.fx_io.proofs.Taken.{rest-whole}
+use Rattle.fx_io.proofs.SinkBytes.{rest-whole}
 use Rattle.vl_read.specs.inner.Lexemes.{sized_in}
 use Rattle.vl_read.proofs.Digits.{sized_with}
 use Rattle.vl_read.proofs.numbers.sized_of.Goals as goal

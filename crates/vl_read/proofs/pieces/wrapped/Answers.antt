@@ -3,7 +3,7 @@ use Rattle.vl_ast.specs.declared.expressions.Expr.{Expr}
 use Rattle.vl_ast.specs.declared.expressions.Expr.TheVariants.{rolls-AsSigned, rolls-AsUnsigned, rolls-Repeat, rolls-Shift, rolls-Unary}
 use Rattle.vl_read.specs.declared.pieces.Wrap.{Wrap}
 use Rattle.vl_read.specs.declared.pieces.Wrap.TheVariants.{Cast}
-use Rattle.vl_read.specs.inner.Wrapped.{wrapped_in}
+use Rattle.vl_read.specs.inner.OperandForms.{wrapped_in}
 use Rattle.vl_read.proofs.pieces.wrapped.Goals as goal
 
 -- what is made of the operand in its box is the operand with this around it

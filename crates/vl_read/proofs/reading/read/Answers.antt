@@ -1,7 +1,7 @@
 use Rattle.std.proofs.Common.{◌≡◌, ◌∙◌, Some, None, sym}
 use Rattle.vl_ast.specs.Grammar.{most_items}
 use Rattle.vl_read.proofs.Complete.{complete}
-use Rattle.vl_read.proofs.Reached.{reading_sound}
+use Rattle.vl_read.proofs.Reach.{reading_sound}
 use Rattle.vl_read.proofs.reading.read.Goals as goal
 
 pub returns-in-None-clause-refused : goal.returns-in-None-clause-refused

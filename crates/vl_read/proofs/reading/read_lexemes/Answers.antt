@@ -1,10 +1,10 @@
 use Rattle.std.proofs.Common.{◌≡◌, ◌∙◌, [], None, Some, ap, sym, arith}
 use Rattle.std.proofs.lemmas.List.{drop_all, take_all}
 use Rattle.vl_read.specs.inner.Plain.{step}
-use Rattle.vl_read.specs.inner.Seen.{seen}
+use Rattle.vl_read.specs.inner.ReaderPlaces.{seen}
 use Rattle.vl_read.specs.inner.Turns.{stepped, ahead, between, line_at}
-use Rattle.vl_read.proofs.Reached.{reached_start, reads_all, fault_at_end}
-use Rattle.vl_read.proofs.Advanced.{byte_refused, byte_line, gap_read, lexeme_refused, lexeme_line, lexeme_read}
+use Rattle.vl_read.proofs.Reach.{reached_start, reads_all, fault_at_end}
+use Rattle.vl_read.proofs.Progress.{byte_refused, byte_line, gap_read, lexeme_refused, lexeme_line, lexeme_read}
 use Rattle.vl_read.proofs.reading.read_lexemes.Goals as goal
 
 pub loop-at-init : goal.loop-at-init

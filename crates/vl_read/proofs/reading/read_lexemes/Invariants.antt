@@ -1,7 +1,7 @@
 use Rattle.std.proofs.Common.{[], take, drop, ◌≤◌, ◌-◌, length}
-use Rattle.vl_read.specs.inner.Seen.{seen}
+use Rattle.vl_read.specs.inner.ReaderPlaces.{seen}
 use Rattle.vl_read.specs.inner.Turns.{IsBeyond, line_at}
-use Rattle.vl_read.proofs.Reached.{Reached}
+use Rattle.vl_read.proofs.Reach.{Reached}
 use Rattle.vl_read.proofs.reading.read_lexemes.Given as goal
 
 abbrev pub invariant-loop-at : goal.invariant-loop-at

@@ -5,7 +5,7 @@ use Rattle.std.proofs.lemmas.Int.{to_z-of_z}
 use Rattle.std.proofs.lemmas.Option.{get_or_from_slice_get}
 use Rattle.vl_ast.specs.Value.{bits_of}
 use Rattle.vl_replay.specs.Sampled.{numbers_of}
-use Rattle.vl_replay.specs.inner.Driving.{IsWithin, driver_bits}
+use Rattle.vl_replay.specs.inner.Drivers.{IsWithin, driver_bits}
 use Rattle.vl_replay.proofs.drivers.driven_bits.Goals as goal
 
 pub returns-in-Reset : goal.returns-in-Reset

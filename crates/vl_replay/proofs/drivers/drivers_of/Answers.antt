@@ -6,7 +6,7 @@ use Rattle.vl_ast.specs.declared.modules.Port.{Port}
 use Rattle.vl_eval.specs.Given.{driven_ports}
 use Rattle.vl_replay.specs.declared.drivers.Driver.{Driver}
 use Rattle.vl_replay.specs.declared.drivers.Driver.TheVariants.{Column}
-use Rattle.vl_replay.specs.inner.Driving.{drivers_from, is_own, own_driver}
+use Rattle.vl_replay.specs.inner.Drivers.{drivers_from, is_own, own_driver}
 use Rattle.vl_replay.proofs.Bits.{is_driven}
 use Rattle.vl_replay.proofs.drivers.drivers_of.Goals.{then-is_driven_input+then-is_own+in_ok-push, then-is_driven_input+else-is_own+in-Some+in_ok-push-2, else-is_driven_input}
 use Rattle.vl_replay.proofs.drivers.drivers_of.Goals as goal

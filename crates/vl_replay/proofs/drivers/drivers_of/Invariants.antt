@@ -1,6 +1,6 @@
 use Rattle.std.proofs.Common.{◌≡◌, filter, not, ◌&&◌, codes, bytes_eq, drop, ◌++◌}
 use Rattle.vl_eval.specs.Given.{driven_ports}
-use Rattle.vl_replay.specs.inner.Driving.{drivers_from}
+use Rattle.vl_replay.specs.inner.Drivers.{drivers_from}
 use Rattle.vl_replay.proofs.drivers.drivers_of.Given as goal
 
 abbrev pub invariant-loop-port : goal.invariant-loop-port

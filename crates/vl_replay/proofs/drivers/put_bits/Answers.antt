@@ -2,7 +2,7 @@ use Rattle.std.proofs.Common.{◌≡◌, ◌<◌, ℕ, length, subst, arith}
 use Rattle.std.proofs.lemmas.Option.{slice_get-get_or}
 use Rattle.vl_replay.specs.Sampled.{numbers_of}
 use Rattle.vl_replay.specs.declared.drivers.Driver.TheVariants.{Reset}
-use Rattle.vl_replay.specs.inner.Driving.{AreBits, driver_bits}
+use Rattle.vl_replay.specs.inner.Drivers.{AreBits, driver_bits}
 use Rattle.vl_replay.proofs.Bits.{bits-more}
 use Rattle.vl_replay.proofs.drivers.put_bits.Goals as goal
 

@@ -1,5 +1,5 @@
 use Rattle.vl_replay.specs.Sampled.{numbers_of}
-use Rattle.vl_replay.specs.inner.Driving.{AreBits, driver_bits}
+use Rattle.vl_replay.specs.inner.Drivers.{AreBits, driver_bits}
 use Rattle.vl_replay.proofs.drivers.put_bits.Given as goal
 
 abbrev pub invariant-loop-k : goal.invariant-loop-k

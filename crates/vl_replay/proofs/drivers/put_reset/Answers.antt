@@ -1,4 +1,4 @@
-use Rattle.vl_replay.specs.inner.Driving.{reset_bits}
+use Rattle.vl_replay.specs.inner.Drivers.{reset_bits}
 use Rattle.vl_replay.proofs.Bits.{bits-more}
 use Rattle.vl_replay.proofs.drivers.put_reset.Goals as goal
 

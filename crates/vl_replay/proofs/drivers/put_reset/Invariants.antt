@@ -1,4 +1,4 @@
-use Rattle.vl_replay.specs.inner.Driving.{AreBits, reset_bits}
+use Rattle.vl_replay.specs.inner.Drivers.{AreBits, reset_bits}
 use Rattle.vl_replay.proofs.drivers.put_reset.Given as goal
 
 abbrev pub invariant-loop-k : goal.invariant-loop-k

@@ -1,7 +1,7 @@
 use Rattle.std.proofs.Common.{◌≡◌, ◌≤◌, ◌<◌, ℕ, Some, slice_get}
 use Rattle.vl_ast.specs.Attributes.{most_latency}
 use Rattle.vl_replay.specs.declared.samplers.Sampler.{Sampler}
-use Rattle.vl_replay.specs.inner.Played.{HasDelay}
+use Rattle.vl_replay.specs.inner.Play.{HasDelay}
 use Rattle.vl_replay.proofs.playing.delay_of.Given as goal
 
 abbrev pub invariant-loop-sampler : goal.invariant-loop-sampler

@@ -4,8 +4,8 @@ use Rattle.std.proofs.Math.Numerals.{suc-eq-add-one}
 use Rattle.vl_ast.specs.Control.{is_stallable}
 use Rattle.vl_eval.specs.Machine.{source_of}
 use Rattle.vl_replay.specs.declared.drivers.Driver.{Driver}
-use Rattle.vl_replay.specs.inner.Driving.{AreBits, reset_bits}
-use Rattle.vl_replay.specs.inner.Played.{IsPlayed}
+use Rattle.vl_replay.specs.inner.Drivers.{AreBits, reset_bits}
+use Rattle.vl_replay.specs.inner.Play.{IsPlayed}
 use Rattle.vl_replay.proofs.Bits.{reset-fits}
 use Rattle.vl_replay.proofs.Clocks.{begun}
 use Rattle.vl_replay.proofs.Scores.{fit-score}

@@ -1,6 +1,6 @@
 use Rattle.std.proofs.Common.{◌≡◌, ◌*◌, length}
 use Rattle.vl_eval.specs.Machine.{source_of}
-use Rattle.vl_replay.specs.inner.Played.{IsPlayed}
+use Rattle.vl_replay.specs.inner.Play.{IsPlayed}
 use Rattle.vl_replay.proofs.playing.play.Given as goal
 
 abbrev pub invariant-loop-sample : goal.invariant-loop-sample

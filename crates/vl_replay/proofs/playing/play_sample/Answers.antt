@@ -1,8 +1,8 @@
 use Rattle.std.proofs.Common.{◌≡◌, ◌+◌, ◌*◌, ◌≤◌, ℕ, List, length, refl, subst, sym, ◌∙◌, arith}
 use Rattle.vl_eval.specs.Machine.{source_of}
 use Rattle.vl_replay.specs.declared.drivers.Driver.{Driver}
-use Rattle.vl_replay.specs.inner.Driving.{AreBits, AreWithin, driver_bits}
-use Rattle.vl_replay.specs.inner.Played.{IsPlayed}
+use Rattle.vl_replay.specs.inner.Drivers.{AreBits, AreWithin, driver_bits}
+use Rattle.vl_replay.specs.inner.Play.{IsPlayed}
 use Rattle.vl_replay.specs.Sampled.{numbers_of}
 use Rattle.vl_replay.proofs.Scores.{within-columns}
 use Rattle.vl_replay.proofs.playing.play_sample.Goals as goal

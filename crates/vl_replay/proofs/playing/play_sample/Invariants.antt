@@ -1,6 +1,6 @@
 use Rattle.std.proofs.Common.{◌≡◌, ◌+◌, ◌*◌}
 use Rattle.vl_eval.specs.Machine.{source_of}
-use Rattle.vl_replay.specs.inner.Played.{IsPlayed}
+use Rattle.vl_replay.specs.inner.Play.{IsPlayed}
 use Rattle.vl_replay.proofs.playing.play_sample.Given as goal
 
 abbrev pub invariant-loop-phase : goal.invariant-loop-phase

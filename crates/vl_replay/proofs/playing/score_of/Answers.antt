@@ -1,8 +1,8 @@
 use Rattle.std.proofs.Common.{ℕ, List, map, ap, subst, sym, ◌∙◌}
 use Rattle.vl_ast.specs.Driven.{output_ports}
 use Rattle.vl_replay.specs.declared.samplers.Sampler.{Sampler}
-use Rattle.vl_replay.specs.inner.Played.{AreNear, IsDelay, IsWindow}
-use Rattle.vl_replay.specs.inner.Sampling.{sampler_of}
+use Rattle.vl_replay.specs.inner.Play.{AreNear, IsDelay, IsWindow}
+use Rattle.vl_replay.specs.inner.Samplers.{sampler_of}
 use Rattle.vl_replay.proofs.Scores.{samplers-near}
 use Rattle.vl_replay.proofs.playing.score_of.Goals as goal
 

@@ -5,8 +5,8 @@ use Rattle.vl_ast.specs.Driven.{output_ports}
 use Rattle.vl_eval.specs.Machine.{row_of, source_of}
 use Rattle.vl_replay.specs.Sampled.{numbers_of}
 use Rattle.vl_replay.specs.declared.samplers.Sampler.{Sampler}
-use Rattle.vl_replay.specs.inner.Driving.{driver_bits}
-use Rattle.vl_replay.specs.inner.Sampling.{ArePut, number_at}
+use Rattle.vl_replay.specs.inner.Drivers.{driver_bits}
+use Rattle.vl_replay.specs.inner.Samplers.{ArePut, number_at}
 use Rattle.vl_replay.proofs.Bits.{driver-fits}
 use Rattle.vl_replay.proofs.Clocks.{played-more}
 use Rattle.vl_replay.proofs.Scores.{fit-score, samplers-many, samplers-step}

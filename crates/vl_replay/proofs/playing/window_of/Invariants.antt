@@ -1,6 +1,6 @@
 use Rattle.std.proofs.Common.{◌≡◌, ◌≤◌, ◌<◌, ℕ, Some, slice_get}
 use Rattle.vl_replay.specs.declared.samplers.Sampler.{Sampler}
-use Rattle.vl_replay.specs.inner.Played.{HasDelay}
+use Rattle.vl_replay.specs.inner.Play.{HasDelay}
 use Rattle.vl_replay.proofs.playing.window_of.Given as goal
 
 abbrev pub invariant-loop-sampler : goal.invariant-loop-sampler

@@ -1,9 +1,9 @@
 use Rattle.std.proofs.Common.{◌++◌, ◌∷◌, ◌<◌, ◌∙◌, [], List, All, filter, map, take, ap, subst, sym}
 use Rattle.std.proofs.lemmas.List.{take_more}
 use Rattle.fx_tables.specs.declared.table.Column.{Column}
-use Rattle.vl_eval.proofs.Listing.{kept-none, kept-one}
+use Rattle.vl_eval.proofs.LoopLists.{kept-none, kept-one}
 use Rattle.vl_replay.specs.Columns.{column_of}
-use Rattle.vl_replay.specs.inner.Sampling.{carries}
+use Rattle.vl_replay.specs.inner.Samplers.{carries}
 use Rattle.vl_replay.proofs.Widths.{all-periods}
 use Rattle.vl_replay.proofs.port_columns.columns_where.Goals.{then-carries+in_ok-push, else-carries}
 use Rattle.vl_replay.proofs.port_columns.columns_where.Goals as goal

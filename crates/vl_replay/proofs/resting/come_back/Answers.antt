@@ -2,7 +2,7 @@ use Rattle.std.proofs.Common.{◌≡◌, ◌+◌, ◌-◌, refl, sym, subst, ◌
 use Rattle.vl_eval.specs.Given.{driven_ports, given}
 use Rattle.vl_eval.specs.Machine.{row_of, source_of}
 use Rattle.vl_eval.specs.declared.machine.Snapshot.{Snapshot}
-use Rattle.vl_replay.specs.inner.Resting.{IsSince, Leads}
+use Rattle.vl_replay.specs.inner.Rest.{IsSince, Leads}
 use Rattle.vl_replay.proofs.Rounds.{since-all, since-anew, since-back, since-edge, since-none}
 use Rattle.vl_replay.proofs.resting.come_back.Goals.{then-since-most, else-since-most}
 use Rattle.vl_replay.proofs.resting.come_back.Goals as goal

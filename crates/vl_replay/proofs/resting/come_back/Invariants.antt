@@ -1,7 +1,7 @@
 use Rattle.std.proofs.Common.{◌≡◌, ◌≤◌}
 use Rattle.vl_eval.specs.Given.{driven_ports, given}
 use Rattle.vl_eval.specs.Machine.{IsReady, row_of, source_of}
-use Rattle.vl_replay.specs.inner.Resting.{IsSince}
+use Rattle.vl_replay.specs.inner.Rest.{IsSince}
 use Rattle.vl_replay.proofs.resting.come_back.Given as goal
 
 abbrev pub invariant-loop-clock : goal.invariant-loop-clock

@@ -4,9 +4,9 @@ use Rattle.std.proofs.lemmas.Bool.{cases_lt}
 use Rattle.std.proofs.lemmas.Option.{slice_get-get_or}
 use Rattle.vl_replay.specs.declared.drivers.Driver.{Driver}
 use Rattle.vl_replay.specs.declared.drivers.Driver.TheVariants.{Reset}
-use Rattle.vl_replay.specs.inner.Resting.{IsPast}
+use Rattle.vl_replay.specs.inner.Rest.{IsPast}
 use Rattle.math_list.proofs.Places.{there_within}
-use Rattle.vl_replay.proofs.Rested.{past-later}
+use Rattle.vl_replay.proofs.Rest.{past-later}
 use Rattle.vl_replay.proofs.resting.driven_until.Goals as goal
 
 one : (drivers : List Driver) (k place : ℕ) (own driver : Driver) → slice_get drivers k ≡ Some own → slice_get drivers place ≡ Some driver → place ≡ k → own ≡ driver

@@ -1,6 +1,6 @@
 use Rattle.std.proofs.Common.{◌≡◌, ◌≤◌, ◌<◌, ℕ, Some, slice_get}
 use Rattle.vl_replay.specs.declared.drivers.Driver.{Driver}
-use Rattle.vl_replay.specs.inner.Resting.{IsPast}
+use Rattle.vl_replay.specs.inner.Rest.{IsPast}
 use Rattle.vl_replay.proofs.resting.driven_until.Given as goal
 
 abbrev pub invariant-loop-k : goal.invariant-loop-k

@@ -5,9 +5,9 @@ use Rattle.vl_ast.specs.Control.{is_stallable}
 use Rattle.vl_eval.specs.Machine.{source_of}
 use Rattle.vl_replay.specs.Sampled.{numbers_of}
 use Rattle.vl_replay.specs.declared.drivers.Driver.{Driver}
-use Rattle.vl_replay.specs.inner.Driving.{AreBits, AreWithin, driver_bits}
+use Rattle.vl_replay.specs.inner.Drivers.{AreBits, AreWithin, driver_bits}
 use Rattle.vl_replay.proofs.Bits.{driver-fits}
-use Rattle.vl_replay.proofs.Rested.{rested}
+use Rattle.vl_replay.proofs.Rest.{rested}
 use Rattle.vl_replay.proofs.Scores.{fit-score, within-columns}
 use Rattle.vl_replay.proofs.resting.play_ahead.Goals as goal
 

@@ -1,8 +1,8 @@
 use Rattle.std.proofs.Common.{List, slice_get, ap, subst, ◌∙◌, arith}
 use Rattle.vl_replay.specs.declared.drivers.Driver.{Driver}
 use Rattle.vl_replay.specs.declared.samplers.Sampler.{Sampler}
-use Rattle.vl_replay.specs.inner.Resting.{IsPast}
-use Rattle.vl_replay.proofs.Rested.{past-later}
+use Rattle.vl_replay.specs.inner.Rest.{IsPast}
+use Rattle.vl_replay.proofs.Rest.{past-later}
 use Rattle.vl_replay.proofs.resting.quiet_from.Goals as goal
 
 pub returns-clause-quiet : goal.returns-clause-quiet

@@ -1,7 +1,7 @@
 use Rattle.std.proofs.Common.{◌≡◌, ◌<◌, ◌≤◌, ◌+◌, ◌-◌, sym, subst, ◌∙◌, arith}
 use Rattle.vl_eval.specs.Given.{driven_ports, given}
 use Rattle.vl_eval.specs.Machine.{AreFit, row_of, source_of}
-use Rattle.vl_replay.specs.inner.Resting.{Leads}
+use Rattle.vl_replay.specs.inner.Rest.{Leads}
 use Rattle.vl_replay.proofs.Rounds.{edge-of, leads-more}
 use Rattle.vl_replay.proofs.resting.rest.Goals as goal
 

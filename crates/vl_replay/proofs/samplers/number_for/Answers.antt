@@ -7,8 +7,8 @@ use Rattle.std.proofs.lemmas.Option.{slice_get-get_or}
 use Rattle.vl_ast.specs.Driven.{output_ports}
 use Rattle.vl_eval.specs.Machine.{row_of, source_of}
 use Rattle.vl_replay.specs.Sampled.{hit_at}
-use Rattle.vl_replay.specs.inner.Sampling.{cell_of, numbers_in, sampler_at}
-use Rattle.vl_replay.proofs.Putting.{equal-test, number-shown, unequal-test}
+use Rattle.vl_replay.specs.inner.Samplers.{cell_of, numbers_in, sampler_at}
+use Rattle.vl_replay.proofs.CellPuts.{equal-test, number-shown, unequal-test}
 use Rattle.vl_replay.proofs.samplers.number_for.Goals as goal
 
 pub hit_at-hit-requires : goal.hit_at-hit-requires

@@ -3,8 +3,8 @@ use Rattle.std.specs.Prelude.{slice_get}
 use Rattle.std.proofs.lemmas.Option.{slice_get-get_or}
 use Rattle.vl_eval.specs.declared.machine.Machine.{Machine}
 use Rattle.vl_replay.specs.declared.samplers.Sampler.{Sampler}
-use Rattle.vl_replay.specs.inner.Sampling.{ArePut, HasRing, numbers_in, sampler_at}
-use Rattle.vl_replay.proofs.Putting.{put-due, put-undue}
+use Rattle.vl_replay.specs.inner.Samplers.{ArePut, HasRing, numbers_in, sampler_at}
+use Rattle.vl_replay.proofs.CellPuts.{put-due, put-undue}
 use Rattle.vl_replay.proofs.samplers.put_numbers.Goals.{In-loop-place, then-sampler-phase-via-then-sampler-phase, then-sampler-phase-via-else-sampler-phase+then-sample-sampler}
 use Rattle.vl_replay.proofs.samplers.put_numbers.Goals as goal
 

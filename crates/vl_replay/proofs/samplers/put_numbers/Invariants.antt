@@ -1,4 +1,4 @@
-use Rattle.vl_replay.specs.inner.Sampling.{ArePut, numbers_in}
+use Rattle.vl_replay.specs.inner.Samplers.{ArePut, numbers_in}
 use Rattle.vl_replay.proofs.samplers.put_numbers.Given as goal
 
 abbrev pub invariant-loop-place : goal.invariant-loop-place

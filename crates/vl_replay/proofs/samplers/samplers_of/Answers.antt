@@ -1,9 +1,9 @@
 use Rattle.std.proofs.Common.{◌++◌, ◌∷◌, ◌/◌, ◌%◌, [], filter, map, take, Vec, Global, refl, sym, ap, ◌∙◌}
 use Rattle.vl_ast.specs.Control.{is_number_output}
-use Rattle.vl_eval.proofs.Capturing.{items-more}
-use Rattle.vl_eval.proofs.Listing.{kept-none, kept-one}
+use Rattle.vl_eval.proofs.Captures.{items-more}
+use Rattle.vl_eval.proofs.LoopLists.{kept-none, kept-one}
 use Rattle.vl_replay.specs.declared.samplers.Sampler.{Sampler}
-use Rattle.vl_replay.specs.inner.Sampling.{sampler_of}
+use Rattle.vl_replay.specs.inner.Samplers.{sampler_of}
 use Rattle.vl_replay.proofs.samplers.samplers_of.Goals.{then-is_number_output+in_ok-push, else-is_number_output}
 use Rattle.vl_replay.proofs.samplers.samplers_of.Goals as goal
 

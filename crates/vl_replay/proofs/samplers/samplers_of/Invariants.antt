@@ -1,6 +1,6 @@
 use Rattle.std.proofs.Common.{◌≡◌, map, filter, take}
 use Rattle.vl_ast.specs.Control.{is_number_output}
-use Rattle.vl_replay.specs.inner.Sampling.{sampler_of}
+use Rattle.vl_replay.specs.inner.Samplers.{sampler_of}
 use Rattle.vl_replay.proofs.samplers.samplers_of.Given as goal
 
 abbrev pub invariant-loop-port : goal.invariant-loop-port

@@ -1,6 +1,6 @@
 use Rattle.std.proofs.Common.{◌≡◌, ◌≤◌, length, arith}
 use Rattle.std.proofs.lemmas.Bool.Decides.{nat_tests}
-use Rattle.vl_write.proofs.Putting.{both, no-attrs, none-put, puts-as, some-attrs}
+use Rattle.vl_write.proofs.Puts.{both, no-attrs, none-put, puts-as, some-attrs}
 use Rattle.vl_write.proofs.attributes.put_attrs.Goals as goal
 
 pub returns-then-is_empty : goal.returns-then-is_empty

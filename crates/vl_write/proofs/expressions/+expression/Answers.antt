@@ -2,9 +2,9 @@ use Rattle.std.proofs.Common.{◌≡◌, ◌++◌, codes, map, append-nil, ap, s
 use Rattle.vl_ast.specs.declared.expressions.Expr.{Expr}
 use Rattle.vl_ast.specs.declared.expressions.Expr.TheVariants.{Name, Bit, Part, Concat, Repeat, AsSigned, AsUnsigned, Unary, Binary, Shift, Choose}
 use Rattle.vl_ast.specs.Spelling.{expr_text, joined}
-use Rattle.vl_write.proofs.Joined.{all_joined, none-joined, one_more}
-use Rattle.vl_write.proofs.Putting.{both}
-use Rattle.vl_write.proofs.Written.{wrote-name, wrote-bit, wrote-part, wrote-literal, wrote-signed, wrote-unsigned, wrote-concat, wrote-repeat, wrote-unary, wrote-binary, wrote-shift, wrote-choose}
+use Rattle.vl_write.proofs.Joins.{all_joined, none-joined, one_more}
+use Rattle.vl_write.proofs.Puts.{both}
+use Rattle.vl_write.proofs.FormTexts.{wrote-name, wrote-bit, wrote-part, wrote-literal, wrote-signed, wrote-unsigned, wrote-concat, wrote-repeat, wrote-unary, wrote-binary, wrote-shift, wrote-choose}
 use Rattle.vl_write.proofs.expressions.+expression.Goals as goal
 
 pub put_expr-returns-in-Name : goal.put_expr-returns-in-Name

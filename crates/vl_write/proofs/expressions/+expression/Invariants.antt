@@ -1,6 +1,6 @@
 use Rattle.std.proofs.Common.{codes}
 use Rattle.vl_ast.specs.Spelling.{expr_text}
-use Rattle.vl_write.proofs.Joined.{AreJoined}
+use Rattle.vl_write.proofs.Joins.{AreJoined}
 use Rattle.vl_write.proofs.expressions.+expression.Given as goal
 
 abbrev pub invariant-put_parts-loop-part : goal.invariant-put_parts-loop-part

@@ -1,5 +1,5 @@
 use Rattle.std.proofs.Common.{codes, decimal}
-use Rattle.vl_write.proofs.Putting.{both, left4, puts-as}
+use Rattle.vl_write.proofs.Puts.{both, left4, puts-as}
 use Rattle.vl_write.proofs.expressions.put_bit.Goals as goal
 
 pub returns : goal.returns

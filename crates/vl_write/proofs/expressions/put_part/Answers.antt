@@ -1,5 +1,5 @@
 use Rattle.std.proofs.Common.{codes, decimal}
-use Rattle.vl_write.proofs.Putting.{both, part-left, puts-as}
+use Rattle.vl_write.proofs.Puts.{both, part-left, puts-as}
 use Rattle.vl_write.proofs.expressions.put_part.Goals as goal
 
 pub returns : goal.returns

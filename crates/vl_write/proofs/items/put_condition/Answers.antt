@@ -1,6 +1,6 @@
 use Rattle.std.proofs.Common.{codes, ap, sym, ◌∙◌}
 use Rattle.vl_ast.specs.Spelling.{condition_text, expr_text}
-use Rattle.vl_write.proofs.Putting.{left3, none-put, puts-as}
+use Rattle.vl_write.proofs.Puts.{left3, none-put, puts-as}
 use Rattle.vl_write.proofs.items.put_condition.Goals as goal
 
 pub returns-in-None : goal.returns-in-None

@@ -2,7 +2,7 @@ use Rattle.std.proofs.Common.{codes, ap, sym, ◌∙◌}
 use Rattle.vl_ast.specs.declared.modules.ModItem.TheVariants.{Wire, Reg, Assign, Always}
 use Rattle.vl_ast.specs.Conditions.{item_name}
 use Rattle.vl_ast.specs.Spelling.{condition_text, expr_text, item_text, range_text, signed_text, sized_text}
-use Rattle.vl_write.proofs.Putting.{both, clocked-left, left5, net-left, puts-as}
+use Rattle.vl_write.proofs.Puts.{both, clocked-left, left5, net-left, puts-as}
 use Rattle.vl_write.proofs.items.put_item.Goals as goal
 
 pub returns-in-Wire : goal.returns-in-Wire

@@ -1,4 +1,4 @@
-use Rattle.vl_write.proofs.Putting.{both}
+use Rattle.vl_write.proofs.Puts.{both}
 use Rattle.vl_write.proofs.items.put_value.Goals as goal
 
 pub returns : goal.returns

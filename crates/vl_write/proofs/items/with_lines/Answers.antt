@@ -3,7 +3,7 @@ use Rattle.std.specs.List.{flat_map}
 use Rattle.std.proofs.lemmas.List.{flat_map_more, take_more, take_all}
 use Rattle.std.proofs.lemmas.Result.{IfOk-weaker}
 use Rattle.vl_ast.specs.Spelling.{item_text}
-use Rattle.vl_write.proofs.Putting.{begun, has-as, has-more}
+use Rattle.vl_write.proofs.Puts.{begun, has-as, has-more}
 use Rattle.vl_write.proofs.items.with_lines.Goals as goal
 
 pub loop-item-init : goal.loop-item-init

@@ -1,7 +1,7 @@
 use Rattle.std.proofs.Common.{◌≡◌, ◌+◌, ◌++◌, take}
 use Rattle.std.specs.List.{flat_map}
 use Rattle.vl_ast.specs.Spelling.{item_text}
-use Rattle.vl_write.proofs.Putting.{Has}
+use Rattle.vl_write.proofs.Puts.{Has}
 use Rattle.vl_write.proofs.items.with_lines.Given as goal
 
 abbrev pub invariant-loop-item : goal.invariant-loop-item

@@ -1,6 +1,6 @@
 use Rattle.std.proofs.Common.{refl}
-use Rattle.vl_write.proofs.Joined.{all_joined, none-joined, one_more}
-use Rattle.vl_write.proofs.Putting.{both}
+use Rattle.vl_write.proofs.Joins.{all_joined, none-joined, one_more}
+use Rattle.vl_write.proofs.Puts.{both}
 use Rattle.vl_write.proofs.lists.put_list.Goals as goal
 
 pub loop-part-init : goal.loop-part-init

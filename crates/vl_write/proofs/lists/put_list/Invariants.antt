@@ -1,4 +1,4 @@
-use Rattle.vl_write.proofs.Joined.{AreJoined}
+use Rattle.vl_write.proofs.Joins.{AreJoined}
 use Rattle.vl_write.proofs.lists.put_list.Given as goal
 
 abbrev pub invariant-loop-part : goal.invariant-loop-part

@@ -1,4 +1,4 @@
-use Rattle.vl_write.proofs.Putting.{one-put, refused}
+use Rattle.vl_write.proofs.Puts.{one-put, refused}
 use Rattle.vl_write.proofs.parts.put.Goals as goal
 
 pub returns-in-Err : goal.returns-in-Err

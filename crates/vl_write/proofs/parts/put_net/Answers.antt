@@ -1,6 +1,6 @@
 use Rattle.std.proofs.Common.{◌++◌, ap}
 use Rattle.vl_ast.specs.Spelling.{range_text}
-use Rattle.vl_write.proofs.Putting.{both, puts-as}
+use Rattle.vl_write.proofs.Puts.{both, puts-as}
 use Rattle.vl_write.proofs.parts.put_net.Goals as goal
 
 pub returns : goal.returns

@@ -1,5 +1,5 @@
 use Rattle.std.proofs.Common.{◌∙◌}
-use Rattle.vl_write.proofs.Putting.{puts-as}
+use Rattle.vl_write.proofs.Puts.{puts-as}
 use Rattle.vl_write.proofs.parts.put_number.Goals as goal
 
 pub returns : goal.returns

@@ -1,4 +1,4 @@
-use Rattle.vl_write.proofs.Putting.{none-put, puts-as, range-more, range-one}
+use Rattle.vl_write.proofs.Puts.{none-put, puts-as, range-more, range-one}
 use Rattle.vl_write.proofs.parts.put_range.Goals as goal
 
 pub returns-then-width-eq1 : goal.returns-then-width-eq1

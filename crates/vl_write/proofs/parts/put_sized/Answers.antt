@@ -1,5 +1,5 @@
 use Rattle.std.proofs.Common.{◌++◌, ap, decimal, ◌∙◌}
-use Rattle.vl_write.proofs.Putting.{both, puts-as, sized-is}
+use Rattle.vl_write.proofs.Puts.{both, puts-as, sized-is}
 use Rattle.vl_write.proofs.parts.put_sized.Goals as goal
 
 pub returns : goal.returns

@@ -2,7 +2,7 @@ use Rattle.std.proofs.Common.{◌++◌, ◌∙◌, codes, map, ap, sym}
 use Rattle.std.specs.List.{flat_map}
 use Rattle.std.proofs.lemmas.Result.{IfOk-weaker}
 use Rattle.vl_ast.specs.Spelling.{attrs_text, item_text, joined, port_text}
-use Rattle.vl_write.proofs.Putting.{both, header-left, puts-as}
+use Rattle.vl_write.proofs.Puts.{both, header-left, puts-as}
 use Rattle.vl_write.proofs.writing.header_text.Goals as goal
 
 pub returns : goal.returns

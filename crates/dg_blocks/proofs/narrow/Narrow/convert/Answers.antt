@@ -4,7 +4,7 @@ use Rattle.std.proofs.lemmas.Int.{ints, to_z-of_z}
 use Rattle.fx_type.specs.Conversion.{Settles}
 use Rattle.dg_blocks.specs.declared.narrow.Way.{Way}
 use Rattle.dg_blocks.specs.Narrow.{IsWay, IsShifted}
-use Rattle.dg_blocks.proofs.Narrowed.{exact_converts, plain_converts}
+use Rattle.dg_blocks.proofs.NarrowWords.{exact_converts, plain_converts}
 use Rattle.dg_blocks.proofs.narrow.Narrow.convert.Goals as goal
 
 pub overflow_mul-result : goal.overflow_mul-result

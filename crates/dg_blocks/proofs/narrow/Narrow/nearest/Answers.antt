@@ -1,7 +1,7 @@
 use Rattle.std.proofs.Common.{◌≡◌, FitsSigned, to_z, of_z, arith, rules}
 use Rattle.std.specs.Int.{w64, int_max, int_min}
 use Rattle.std.proofs.lemmas.Int.{ints, clamps}
-use Rattle.dg_blocks.proofs.Narrowed.{nearest_settles, ordered}
+use Rattle.dg_blocks.proofs.NarrowWords.{nearest_settles, ordered}
 use Rattle.dg_blocks.proofs.narrow.Narrow.nearest.Goals as goal
 
 pub returns : goal.returns

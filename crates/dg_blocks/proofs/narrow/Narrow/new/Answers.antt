@@ -1,7 +1,7 @@
 use Rattle.std.proofs.Common.{◌≡◌, ◌^◌, ◌≤◌, ◌+◌, ℕ, pos, to_z, of_z, refl, ap, sym, ◌∙◌, arith}
 use Rattle.std.specs.Int.{w16, w64}
 use Rattle.std.proofs.lemmas.Int.{ints, to_z-of_z}
-use Rattle.dg_blocks.proofs.Narrowed.{one_shifted, room_up, room_down, reached, bias_within, same_way}
+use Rattle.dg_blocks.proofs.NarrowWords.{one_shifted, room_up, room_down, reached, bias_within, same_way}
 use Rattle.dg_blocks.proofs.narrow.Narrow.new.Goals as goal
 
 pub returns-in-Some-gap-clause-is : goal.returns-in-Some-gap-clause-is

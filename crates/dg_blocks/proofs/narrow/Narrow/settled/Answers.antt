@@ -2,7 +2,7 @@ use Rattle.std.proofs.Common.{◌≡◌, ◌^◌, ℤ, ◌*ℤ◌, FitsSigned, t
 use Rattle.std.specs.Int.{w64}
 use Rattle.std.proofs.lemmas.Int.{ints, to_z-of_z}
 use Rattle.dg_blocks.specs.Narrow.{IsShifted, IsSmall, bias_for}
-use Rattle.dg_blocks.proofs.Narrowed.{narrow_converts, bias_range}
+use Rattle.dg_blocks.proofs.NarrowWords.{narrow_converts, bias_range}
 use Rattle.dg_blocks.proofs.narrow.Narrow.settled.Goals as goal
 
 -- the scaled number, as the code has it

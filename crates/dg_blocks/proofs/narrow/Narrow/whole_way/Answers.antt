@@ -1,7 +1,7 @@
 use Rattle.std.proofs.Common.{◌^◌, ◌≤◌, pos, ◌-ℤ◌, FitsSigned, arith, pow_mono, rules}
 use Rattle.std.specs.Int.{w64}
 use Rattle.std.proofs.lemmas.Int.{ints, to_z-of_z}
-use Rattle.dg_blocks.proofs.Narrowed.{one_shifted}
+use Rattle.dg_blocks.proofs.NarrowWords.{one_shifted}
 use Rattle.dg_blocks.proofs.narrow.Narrow.whole_way.Goals as goal
 
 pub overflow_sub-bits : goal.overflow_sub-bits

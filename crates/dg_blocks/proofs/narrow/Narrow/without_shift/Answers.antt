@@ -3,7 +3,7 @@ use Rattle.std.specs.Int.{w128}
 use Rattle.std.proofs.lemmas.Int.{to_z-of_z}
 use Rattle.fx_type.specs.declared.kind.FxType.TheVariants.{Num}
 use Rattle.fx_type.specs.FxType.{IsType}
-use Rattle.dg_blocks.proofs.Narrowed.{ends_fit, ends_kept}
+use Rattle.dg_blocks.proofs.NarrowWords.{ends_fit, ends_kept}
 use Rattle.dg_blocks.proofs.narrow.Narrow.without_shift.Goals as goal
 
 pub returns-clause-ends : goal.returns-clause-ends

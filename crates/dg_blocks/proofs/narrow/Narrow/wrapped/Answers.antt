@@ -1,7 +1,7 @@
 use Rattle.std.proofs.Common.{FitsSigned, rules}
 use Rattle.std.specs.Int.{w64}
 use Rattle.std.proofs.lemmas.Int.{to_z-of_z}
-use Rattle.dg_blocks.proofs.Narrowed.{cut_is}
+use Rattle.dg_blocks.proofs.NarrowWords.{cut_is}
 use Rattle.dg_blocks.proofs.narrow.Narrow.wrapped.Goals as goal
 
 pub overflow_sub-result : goal.overflow_sub-result

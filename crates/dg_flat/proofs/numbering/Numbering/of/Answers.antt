@@ -1,7 +1,7 @@
 use Rattle.std.proofs.Common.{◌≡◌, [], length, take, replicate, None, refl, ap, sym, subst, ◌∙◌, arith, rules, List}
 use Rattle.std.proofs.lemmas.List.{take_all}
 use Rattle.dg_model.specs.declared.nested.NestedBlock.{NestedBlock}
-use Rattle.dg_flat.specs.inner.Numbering.{numbered_at}
+use Rattle.dg_flat.specs.inner.PortNumbers.{numbered_at}
 use Rattle.dg_flat.specs.inner.Tables.{IsRowTable}
 use Rattle.dg_flat.proofs.Cells.{rows_filled}
 use Rattle.dg_flat.proofs.Firsts.{take_block, length_done, slot_inside}

@@ -1,5 +1,5 @@
 use Rattle.std.proofs.Common.{take}
-use Rattle.dg_flat.specs.inner.Numbering.{numbered_at}
+use Rattle.dg_flat.specs.inner.PortNumbers.{numbered_at}
 use Rattle.dg_flat.specs.inner.Tables.{IsRowTable}
 use Rattle.dg_flat.proofs.numbering.Numbering.of.Given as goal
 

@@ -1,5 +1,5 @@
 use Rattle.std.proofs.Common.{◌-◌, sym}
-use Rattle.dg_model.proofs.Flattened.{item_at, block_within}
+use Rattle.dg_model.proofs.Flat.{item_at, block_within}
 use Rattle.dg_model.proofs.port_widths.PortWidths.at.Goals as goal
 
 -- src/port_widths.rt:76:21

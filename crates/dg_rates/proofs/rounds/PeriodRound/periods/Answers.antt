@@ -2,7 +2,7 @@ use Rattle.std.proofs.Common.{length, map, ap, ◌∙◌, arith}
 use Rattle.std.proofs.lemmas.List.{take_all}
 use Rattle.dg_model.specs.Periods.{or_one}
 use Rattle.dg_rates.specs.inner.Steps.{all_rests}
-use Rattle.dg_rates.proofs.Stepping.{rounds_are}
+use Rattle.dg_rates.proofs.Steps.{rounds_are}
 use Rattle.dg_rates.proofs.rounds.PeriodRound.periods.Goals as goal
 
 pub returns : goal.returns

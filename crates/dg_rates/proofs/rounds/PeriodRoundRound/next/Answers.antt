@@ -4,7 +4,7 @@ use Rattle.std.proofs.lemmas.Option.{slice_get-get_or}
 use Rattle.dg_model.specs.Periods.{Period, known_or}
 use Rattle.fx_io.specs.Rows.{row_at}
 use Rattle.dg_rates.specs.inner.Steps.{all_rests, known_of, taken_by}
-use Rattle.dg_rates.proofs.Stepping.{rests_at}
+use Rattle.dg_rates.proofs.Steps.{rests_at}
 use Rattle.dg_rates.proofs.rounds.PeriodRoundRound.next.Goals as goal
 
 pub bounds-self-block : goal.bounds-self-block

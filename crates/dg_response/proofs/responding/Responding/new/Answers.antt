@@ -1,5 +1,5 @@
 use Rattle.std.proofs.Common.{◌≡◌, length, ◌∙◌, arith}
-use Rattle.dg_response.proofs.Stepping.{before-first}
+use Rattle.dg_response.proofs.SampleSteps.{before-first}
 use Rattle.dg_response.proofs.responding.Responding.new.Goals as goal
 
 pub returns : goal.returns

@@ -8,8 +8,8 @@ use Rattle.dg_sim.specs.Sim.{IsAt, IsStepped}
 use Rattle.dg_response.specs.declared.responding.Responding.{Responding}
 use Rattle.dg_response.specs.Responding.{IsBefore, IsRowAt, row_of}
 use Rattle.dg_response.specs.Response.{column_of, stimulus_of}
-use Rattle.dg_response.proofs.Stepping.{is-at, moved-on, part-is, stimulus-is}
-use Rattle.dg_response.proofs.Stimulated.{row-below}
+use Rattle.dg_response.proofs.SampleSteps.{is-at, moved-on, part-is, stimulus-is}
+use Rattle.dg_response.proofs.Stimuli.{row-below}
 use Rattle.dg_response.proofs.responding.Responding.step.Goals as goal
 use Rattle.dg_response.proofs.responding.Responding.step.Goals.{After-step}
 

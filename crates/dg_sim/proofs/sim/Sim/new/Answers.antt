@@ -1,4 +1,4 @@
-use Rattle.dg_sim.proofs.Begun.{begun_sim, begun_stands}
+use Rattle.dg_sim.proofs.Start.{begun_sim, begun_stands}
 use Rattle.dg_sim.proofs.sim.Sim.new.Goals as goal
 
 pub returns-in-Ok-clause-sim : goal.returns-in-Ok-clause-sim

@@ -5,7 +5,7 @@ use Rattle.dg_sim.specs.declared.program.Memory.{Memory}
 use Rattle.dg_sim.specs.Ring.{PastValues}
 use Rattle.dg_sim.specs.Sim.{IsSimOf}
 use Rattle.dg_sim.proofs.Moves.{after}
-use Rattle.dg_sim.proofs.Stepped.{still_sim, is_stepped}
+use Rattle.dg_sim.proofs.NextSample.{still_sim, is_stepped}
 use Rattle.dg_sim.proofs.sim.Sim.step.Goals as goal
 use Rattle.dg_sim.proofs.sim.Sim.step.Goals.{After-keep}
 

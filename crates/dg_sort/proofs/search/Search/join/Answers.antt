@@ -1,4 +1,4 @@
-use Rattle.dg_sort.proofs.Joining.{joins}
+use Rattle.dg_sort.proofs.Join.{joins}
 use Rattle.dg_sort.proofs.search.Search.join.Goals as goal
 
 pub returns-clause-groups : goal.returns-clause-groups

@@ -1,6 +1,6 @@
 use Rattle.std.proofs.Common.{arith}
 use Rattle.dg_sort.specs.inner.Search.{seen}
-use Rattle.dg_sort.proofs.Stepping.{root_state, root_kept, root_is}
+use Rattle.dg_sort.proofs.SearchSteps.{root_state, root_kept, root_is}
 use Rattle.dg_sort.proofs.search.Search.search_from.Goals as goal
 
 pub loop-last-init : goal.loop-last-init

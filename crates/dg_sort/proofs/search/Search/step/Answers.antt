@@ -2,7 +2,7 @@ use Rattle.std.proofs.Common.{◌≡◌, length, sym, ap, ◌∙◌, arith}
 use Rattle.std.proofs.lemmas.Result.{on_ok_weaker}
 use Rattle.dg_sort.specs.inner.Search.{seen, met, placed}
 use Rattle.dg_sort.specs.declared.search.Mark.TheVariants.{Unmet, Held, Placed}
-use Rattle.dg_sort.proofs.Stepping.{IsNext, held_there, source_there, next_mark, can_join, without, step_is, step_placed, step_met, step_passed, step_kept}
+use Rattle.dg_sort.proofs.SearchSteps.{IsNext, held_there, source_there, next_mark, can_join, without, step_is, step_placed, step_met, step_passed, step_kept}
 use Rattle.dg_sort.proofs.search.Search.step.Goals as goal
 use Rattle.dg_sort.proofs.search.Search.step.Goals.{In-Some}
 

@@ -4,8 +4,8 @@ use Rattle.dg_types.specs.declared.linked.Form.{Form}
 use Rattle.dg_types.specs.declared.linked.Form.TheVariants.{Single}
 use Rattle.dg_types.specs.declared.linked.Source.{Source}
 use Rattle.dg_types.specs.inner.Build.{all_forms}
-use Rattle.dg_types.specs.inner.Linked.{source_widths, taken_by}
-use Rattle.dg_types.proofs.Built.{form_at, length_forms}
+use Rattle.dg_types.specs.inner.Widths.{source_widths, taken_by}
+use Rattle.dg_types.proofs.LinkRows.{form_at, length_forms}
 use Rattle.dg_types.proofs.linked.WidthRoundRound.next.Goals as goal
 
 pub bounds-self-block : goal.bounds-self-block

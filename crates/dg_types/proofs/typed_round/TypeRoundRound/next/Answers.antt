@@ -6,7 +6,7 @@ use Rattle.dg_model.specs.declared.diagram.Block.{Block}
 use Rattle.dg_model.specs.Periods.{known_or}
 use Rattle.dg_model.specs.TypeRounds.{taken_type, type_of_next}
 use Rattle.dg_types.specs.declared.linked.Source.{Source}
-use Rattle.dg_types.specs.inner.TypedInputs.{source_types}
+use Rattle.dg_types.specs.inner.TypeInputs.{source_types}
 use Rattle.dg_types.proofs.typed_round.TypeRoundRound.next.Goals as goal
 
 pub taken_type-requires-clause-read : goal.taken_type-requires-clause-read

@@ -4,7 +4,7 @@ use Rattle.std.proofs.lemmas.Option.{slice_get_within, slice_get-get_or}
 use Rattle.hw_arcs.specs.declared.arc.Arc.{Arc}
 use Rattle.hw_arcs.specs.Latencies.{latency_at}
 use Rattle.hw_arcs.specs.inner.State.{AreSettled, seen}
-use Rattle.hw_arcs.proofs.Stepping.{IsLooked, row_looked}
+use Rattle.hw_arcs.proofs.Steps.{IsLooked, row_looked}
 use Rattle.hw_arcs.proofs.relaxing.Relaxing.settle.Goals as goal
 use Rattle.hw_arcs.proofs.relaxing.Relaxing.settle.Goals.{In_ok-relax, After-index}
 

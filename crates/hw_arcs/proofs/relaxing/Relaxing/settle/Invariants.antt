@@ -1,6 +1,6 @@
 use Rattle.std.proofs.Common.{drop, length}
 use Rattle.hw_arcs.specs.inner.State.{seen}
-use Rattle.hw_arcs.proofs.Stepping.{IsOnRow}
+use Rattle.hw_arcs.proofs.Steps.{IsOnRow}
 use Rattle.hw_arcs.proofs.relaxing.Relaxing.settle.Given as goal
 
 abbrev pub invariant-loop-number : goal.invariant-loop-number

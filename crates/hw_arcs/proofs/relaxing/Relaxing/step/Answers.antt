@@ -3,7 +3,7 @@ use Rattle.std.proofs.lemmas.List.{get_or_read}
 use Rattle.hw_arcs.specs.inner.Parts.{IsPopped, IsTakenFrom, awaited}
 use Rattle.hw_arcs.specs.inner.State.{State, AreSettled, popped, seen}
 use Rattle.fx_io.specs.Rows.{row_at}
-use Rattle.hw_arcs.proofs.Stepping.{pop_there, pop_state, pop_settled, nothing_left}
+use Rattle.hw_arcs.proofs.Steps.{pop_there, pop_state, pop_settled, nothing_left}
 use Rattle.hw_arcs.proofs.relaxing.Relaxing.step.Goals as goal
 use Rattle.hw_arcs.proofs.relaxing.Relaxing.step.Goals.{In-Some}
 

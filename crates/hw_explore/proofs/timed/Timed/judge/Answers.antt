@@ -2,7 +2,7 @@ use Rattle.std.proofs.Common.{sym, subst}
 use Rattle.hw_latency.specs.Latency.{AreLatencies}
 use Rattle.hw_latency.specs.declared.latencies.Latencies.{Latencies}
 use Rattle.hw_explore.specs.declared.timed.Timed.{Timed}
-use Rattle.hw_explore.specs.inner.Timed.{IsTimed}
+use Rattle.hw_explore.specs.inner.Latencies.{IsTimed}
 use Rattle.hw_explore.proofs.timed.Timed.judge.Goals as goal
 
 pub times_by-requires-clause-latencies : goal.times_by-requires-clause-latencies

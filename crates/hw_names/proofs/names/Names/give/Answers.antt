@@ -1,7 +1,7 @@
 use Rattle.std.proofs.Common.{◌≡◌, ℕ, ◌+◌, ◌∷◌, List, Contains, inr, sym, subst, refl, ◌∙◌, arith}
 use Rattle.hw_names.specs.Names.{numbered}
 use Rattle.hw_names.specs.Taken.{AreTaken}
-use Rattle.hw_names.proofs.Taking.{more_tried, tried_more, still_tried}
+use Rattle.hw_names.proofs.NameSets.{more_tried, tried_more, still_tried}
 use Rattle.hw_names.proofs.names.Names.give.Goals as goal
 
 pub returns : goal.returns

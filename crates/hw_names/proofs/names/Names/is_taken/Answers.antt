@@ -1,4 +1,4 @@
-use Rattle.hw_names.proofs.Taking.{taken_is}
+use Rattle.hw_names.proofs.NameSets.{taken_is}
 use Rattle.hw_names.proofs.names.Names.is_taken.Goals as goal
 
 pub returns : goal.returns

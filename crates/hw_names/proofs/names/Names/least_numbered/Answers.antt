@@ -1,7 +1,7 @@
 use Rattle.std.proofs.Common.{◌≡◌, ℕ, List, Contains, ap, sym, subst, ◌∙◌}
 use Rattle.std.proofs.lemmas.Bool.{false≢true}
 use Rattle.hw_names.specs.Names.{numbered}
-use Rattle.hw_names.proofs.Taking.{tried_more}
+use Rattle.hw_names.proofs.NameSets.{tried_more}
 use Rattle.hw_names.proofs.names.Names.least_numbered.Goals as goal
 
 pub returns-then-not-is_taken-clause-free : goal.returns-then-not-is_taken-clause-free

@@ -2,7 +2,7 @@ use Rattle.std.proofs.Common.{[], sym, ap, ◌∙◌, rules}
 use Rattle.std.specs.BTreeMap.{is_at}
 use Rattle.std.specs.Map.{lookup}
 use Rattle.std.proofs.lemmas.Option.{none-some}
-use Rattle.hw_names.proofs.Taking.{name_cmp}
+use Rattle.hw_names.proofs.NameSets.{name_cmp}
 use Rattle.hw_names.proofs.names.Names.new.Goals as goal
 
 pub returns : goal.returns

@@ -1,5 +1,5 @@
 use Rattle.std.proofs.Common.{refl}
-use Rattle.hw_names.proofs.Taking.{more_taken}
+use Rattle.hw_names.proofs.NameSets.{more_taken}
 use Rattle.hw_names.proofs.names.Names.take.Goals as goal
 
 pub returns : goal.returns

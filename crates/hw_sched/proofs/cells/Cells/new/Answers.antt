@@ -1,4 +1,4 @@
-use Rattle.hw_sched.proofs.Celling.{cells_none}
+use Rattle.hw_sched.proofs.CellNumbers.{cells_none}
 use Rattle.hw_sched.proofs.cells.Cells.new.Goals as goal
 
 pub returns : goal.returns

@@ -1,4 +1,4 @@
-use Rattle.hw_sched.proofs.Celling.{cells_more}
+use Rattle.hw_sched.proofs.CellNumbers.{cells_more}
 use Rattle.hw_sched.proofs.cells.Cells.put.Goals as goal
 
 pub returns : goal.returns

@@ -5,7 +5,7 @@ use Rattle.std.specs.Ordering.{is_eq}
 use Rattle.hw_sched.specs.declared.keys.KindKey.{KindKey}
 use Rattle.hw_sched.specs.Slots.{OperationKind}
 use Rattle.hw_sched.specs.inner.Keys.{key_of, compare_keys, number_at}
-use Rattle.hw_sched.proofs.Numbering.{old_number, old_kinds, new_number, new_kinds}
+use Rattle.hw_sched.proofs.KindNumbers.{old_number, old_kinds, new_number, new_kinds}
 use Rattle.hw_sched.proofs.Tied.{tied_kind}
 use Rattle.hw_sched.proofs.numbers.KindNumbers.number.Goals as goal
 use Rattle.hw_sched.proofs.numbers.KindNumbers.number.Goals.{After-copied}

@@ -1,5 +1,5 @@
 use Rattle.std.proofs.Common.{sym, ◌∙◌}
-use Rattle.mdl_build.proofs.KnownLemmas.{found_block}
+use Rattle.mdl_build.proofs.StructureLemmas.{found_block}
 use Rattle.mdl_build.proofs.known.Known.block_fault.Goals as goal
 
 pub path_of-requires-clause-within : goal.path_of-requires-clause-within

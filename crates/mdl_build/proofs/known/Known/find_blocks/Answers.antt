@@ -1,6 +1,6 @@
 use Rattle.std.proofs.Common.{sym, ◌∙◌}
 use Rattle.std.proofs.lemmas.Result.{IfOk-weaker}
-use Rattle.mdl_build.proofs.KnownLemmas.{sizes_break, blocks_found}
+use Rattle.mdl_build.proofs.StructureLemmas.{sizes_break, blocks_found}
 use Rattle.mdl_build.proofs.known.Known.find_blocks.Goals as goal
 
 pub add_all-requires-clause-roles : goal.add_all-requires-clause-roles

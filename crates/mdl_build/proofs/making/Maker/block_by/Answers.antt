@@ -6,7 +6,7 @@ use Rattle.mdl_build.specs.Parts.{part_of, filter_of}
 use Rattle.mdl_build.specs.Sections.{holder_of, value_of}
 use Rattle.mdl_build.specs.inner.Makers.{items_of}
 use Rattle.mdl_build.specs.inner.Texts.{contents_of, fallbacks_of}
-use Rattle.mdl_build.proofs.MakingLemmas.{some_text}
+use Rattle.mdl_build.proofs.MakerLemmas.{some_text}
 use Rattle.mdl_build.proofs.RoleLemmas.{parent_before}
 use Rattle.mdl_build.proofs.TypeNumbers.{number_below, at_number}
 use Rattle.mdl_build.proofs.making.Maker.block_by.Goals as goal

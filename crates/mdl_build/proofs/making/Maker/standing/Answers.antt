@@ -1,6 +1,6 @@
 use Rattle.std.proofs.Common.{true, false, not, sym, ap, ◌∙◌, arith}
 use Rattle.mdl_build.specs.inner.Makers.{items_of}
-use Rattle.mdl_build.proofs.MakingLemmas.{standing_read}
+use Rattle.mdl_build.proofs.MakerLemmas.{standing_read}
 use Rattle.mdl_build.proofs.RoleLemmas.{holder_before}
 use Rattle.mdl_build.proofs.making.Maker.standing.Goals as goal
 

@@ -1,6 +1,6 @@
 use Rattle.std.proofs.Common.{◌∙◌, ℕ, List, ap, bytes_eq, sym}
 use Rattle.vl_ast.specs.Operators.{binary_operators, binary_text, infix_of}
-use Rattle.vl_ast.proofs.Sought.{found_later}
+use Rattle.vl_ast.proofs.Searches.{found_later}
 use Rattle.vl_ast.proofs.expressions.BinOp.of_text.Goals as goal
 
 pub loop-op-preserved : goal.loop-op-preserved

@@ -3,11 +3,11 @@ use Rattle.std.specs.BTreeMap.{Updates}
 use Rattle.std.specs.Cmp.Lexicographic.{slice_cmp}
 use Rattle.std.proofs.lemmas.Result.{on_ok_weaker}
 use Rattle.std.specs.Ordering.{nat_cmp}
-use Rattle.vl_check.specs.inner.Mentioned.{texts}
+use Rattle.vl_check.specs.inner.Mentions.{texts}
 use Rattle.vl_check.specs.inner.Names.{HasPlaces, Numbered}
 use Rattle.vl_check.proofs.ByName.{known-name, new-name, last-name, one-more-place}
-use Rattle.vl_check.proofs.Numbering.{one-more}
-use Rattle.vl_check.proofs.Scoped.{at-number}
+use Rattle.vl_check.proofs.NameNumbers.{one-more}
+use Rattle.vl_check.proofs.ScopeNames.{at-number}
 use Rattle.vl_check.proofs.names.Numbers.add.Goals as goal
 use Rattle.vl_check.proofs.names.Numbers.add.Goals.{After-copied}
 

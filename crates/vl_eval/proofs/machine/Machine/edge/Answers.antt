@@ -3,8 +3,8 @@ use Rattle.std.specs.Vec.{with_items}
 use Rattle.std.proofs.lemmas.List.{with_items_is}
 use Rattle.vl_eval.specs.inner.Edges.{IsPut, IsTaken}
 use Rattle.vl_eval.specs.inner.Ops.{IsSettled}
-use Rattle.vl_eval.proofs.Swept.{constants-settled}
-use Rattle.vl_eval.proofs.FixedPlaces.{captures-apart, captures-within, places-apart, places-within}
+use Rattle.vl_eval.proofs.Sweep.{constants-settled}
+use Rattle.vl_eval.proofs.StablePlaces.{captures-apart, captures-within, places-apart, places-within}
 use Rattle.vl_eval.proofs.Edges.{edge-fits-named, edge-named, edge-still-named, ops-stay}
 use Rattle.vl_eval.proofs.machine.Machine.edge.Goals as goal
 use Rattle.vl_eval.proofs.machine.Machine.edge.Goals.{After-put, After-sweep}

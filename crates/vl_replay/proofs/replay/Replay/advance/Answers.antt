@@ -2,7 +2,7 @@ use Rattle.std.proofs.Common.{◌≡◌, ◌+◌, ◌*◌, ℤ, ℕ, List, lengt
 use Rattle.std.proofs.lemmas.List.{with_items_is}
 use Rattle.vl_ast.specs.declared.modules.Module.{Module}
 use Rattle.vl_ast.specs.Driven.{output_ports}
-use Rattle.vl_replay.specs.inner.Played.{IsPlayed}
+use Rattle.vl_replay.specs.inner.Play.{IsPlayed}
 use Rattle.vl_replay.proofs.Times.{more-clocks}
 use Rattle.vl_replay.proofs.replay.Replay.advance.Goals as goal
 

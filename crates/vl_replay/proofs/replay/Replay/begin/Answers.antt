@@ -3,7 +3,7 @@ use Rattle.std.specs.Prelude.{IfOk, OnOk, Result}
 use Rattle.std.proofs.Math.Nat.{mul-le-mul_right}
 use Rattle.std.proofs.lemmas.List.{with_items_is}
 use Rattle.vl_eval.specs.Machine.{source_of}
-use Rattle.vl_replay.specs.inner.Played.{IsPlayed}
+use Rattle.vl_replay.specs.inner.Play.{IsPlayed}
 use Rattle.vl_replay.proofs.Scores.{samplers-many}
 use Rattle.vl_replay.proofs.replay.Replay.begin.Goals as goal
 

@@ -3,7 +3,7 @@ use Rattle.fx_tables.specs.declared.table.Rows.{Rows as Table}
 use Rattle.vl_ast.specs.declared.modules.Module.{Module}
 use Rattle.vl_ast.specs.Conditions.{BreaksNone}
 use Rattle.vl_ast.specs.Driven.{stimulus_ports}
-use Rattle.vl_replay.specs.inner.Played.{IsScoreOf}
+use Rattle.vl_replay.specs.inner.Play.{IsScoreOf}
 use Rattle.vl_replay.proofs.replay.Replay.new.Goals as goal
 
 pub score_of-requires : goal.score_of-requires

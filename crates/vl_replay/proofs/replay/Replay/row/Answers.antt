@@ -3,7 +3,7 @@ use Rattle.vl_eval.specs.Machine.{source_of}
 use Rattle.vl_replay.specs.Replays.{StandsBefore}
 use Rattle.vl_replay.specs.declared.replay.Replay.{Replay}
 use Rattle.vl_replay.proofs.Scores.{samplers-many}
-use Rattle.vl_replay.proofs.Shown.{shown-is, shown-long}
+use Rattle.vl_replay.proofs.CellSamples.{shown-is, shown-long}
 use Rattle.vl_replay.proofs.replay.Replay.row.Goals as goal
 
 -- what is lent is the sample's row of the ring

@@ -1,5 +1,5 @@
 use Rattle.std.proofs.Common.{◌++◌, codes, decimal, ◌∙◌}
-use Rattle.vl_write.proofs.Putting.{both, left3, puts-as}
+use Rattle.vl_write.proofs.Puts.{both, left3, puts-as}
 use Rattle.vl_write.proofs.attributes.AttrPart.spell.Goals as goal
 
 pub returns : goal.returns

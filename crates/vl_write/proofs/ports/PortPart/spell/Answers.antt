@@ -1,6 +1,6 @@
 use Rattle.std.proofs.Common.{◌++◌, codes, if◌then◌else◌, ◌∙◌}
 use Rattle.vl_ast.specs.Spelling.{attrs_text, range_text, signed_text}
-use Rattle.vl_write.proofs.Putting.{both, left5, puts-as}
+use Rattle.vl_write.proofs.Puts.{both, left5, puts-as}
 use Rattle.vl_write.proofs.ports.PortPart.spell.Goals as goal
 
 pub returns : goal.returns

@@ -1,0 +1,198 @@
+-- What was read of a module, where its reading stands.
+use Rattle.std.proofs.Common.{◌≡◌, ◌≢◌, ℕ, ◌-◌, ◌<◌, ◌≤◌, Bool, true, false, List, [], ◌∷◌, ◌++◌, map, take, length, codes}
+use Rattle.std.specs.List.{AllZip, flat_map}
+use Rattle.vl_ast.specs.declared.expressions.Sized.{Sized}
+use Rattle.vl_ast.specs.declared.modules.Attr.{Attr}
+use Rattle.vl_ast.specs.declared.modules.Module.{Module}
+use Rattle.vl_ast.specs.Spelling.{joined}
+use Rattle.vl_ast.specs.Tokens.{Token, Key, Sign, Identifier, Number, Based}
+use Rattle.vl_ast.specs.Grammar.{comma, attr_tokens, attrs_tokens, signed_tokens, IsPortText, condition_tokens, IsCondition, IsItemText, IsModuleText}
+use Rattle.vl_read.specs.declared.places.Frame.{Frame}
+use Rattle.vl_read.specs.inner.Places.{Spot, Goal, NetKind, AttrSpot, Place}
+use Rattle.vl_read.specs.inner.Places.Goal.{Assigned, Condition, Next}
+use Rattle.vl_read.specs.inner.Places.NetKind.{OfPort, OfItem}
+use Rattle.vl_read.specs.declared.places.NetSpot.{NetSpot}
+use Rattle.vl_read.specs.declared.places.NetSpot.TheVariants.{Word, Signed, Ranged, Bound, Colon, Zero, Close, Named}
+use Rattle.vl_read.specs.inner.Places.AttrSpot.{AttrName, AttrSign, AttrValue, More}
+use Rattle.vl_read.specs.inner.Places.Place.{Start, Attributes, Title, Ports, Port as PortPlace, Net, AfterPort, AfterPorts, Items, AssignName, AssignSign, Head, ClockedName, ClockedSign, First, AfterFirst, Else, Branch, If, Again, NextSign, Expression, Semicolon, End, Done}
+use Rattle.vl_read.specs.declared.places.Draft.{Draft}
+use Rattle.vl_read.specs.declared.places.HeadSpot.{HeadSpot}
+use Rattle.vl_read.specs.declared.places.HeadSpot.TheVariants.{Event, OpenEvent, Posedge, Clock, CloseEvent, Begin, Test, OpenTest, Reset, CloseTest}
+use Rattle.vl_read.proofs.ModuleTokens.{direction, item_word, named_tokens, always_tokens}
+use Rattle.vl_read.proofs.ExpressionText.{before_next, Begun}
+
+-- the text before a spot of a list of attributes. After a number, both ways to go on are told
+abbrev pub IsAttrText : List Attr → AttrSpot → List Token → Type 0
+IsAttrText attrs AttrName text = text ≡ Sign (codes "(*") ∷ before_next (map attr_tokens attrs)
+IsAttrText attrs (AttrSign name) text = text ≡ Sign (codes "(*") ∷ (before_next (map attr_tokens attrs) ++ Identifier name ∷ [])
+IsAttrText attrs (AttrValue name) text = text ≡ Sign (codes "(*") ∷ (before_next (map attr_tokens attrs) ++ Identifier name ∷ Sign (codes "=") ∷ [])
+IsAttrText attrs More text =
+    (text ++ comma ≡ Sign (codes "(*") ∷ before_next (map attr_tokens attrs)) × (text ++ Sign (codes "*)") ∷ [] ≡ attrs_tokens attrs)
+
+-- the words of a declaration
+abbrev pub net_words : NetKind → List Token
+net_words (OfPort attrs input) = Key (direction input) ∷ Key (codes "wire") ∷ []
+net_words (OfItem is_reg) = Key (item_word is_reg) ∷ []
+
+-- the text before a spot of a declaration
+abbrev pub IsNetText : NetKind → NetSpot → List Token → Type 0
+IsNetText net Word text = text ++ Key (codes "wire") ∷ [] ≡ net_words net
+IsNetText net Signed text = text ≡ net_words net
+IsNetText net (Ranged signed) text = text ≡ net_words net ++ signed_tokens signed
+IsNetText net (Bound signed) text = text ≡ net_words net ++ (signed_tokens signed ++ Sign (codes "[") ∷ [])
+IsNetText net (Colon signed width) text = (0 < width) × (text ≡ net_words net ++ (signed_tokens signed ++ Sign (codes "[") ∷ Number (width - 1) ∷ []))
+IsNetText net (Zero signed width) text = (0 < width) × (text ≡ net_words net ++ (signed_tokens signed ++ Sign (codes "[") ∷ Number (width - 1) ∷ Sign (codes ":") ∷ []))
+IsNetText net (Close signed width) text =
+    (0 < width) × (text ≡ net_words net ++ (signed_tokens signed ++ Sign (codes "[") ∷ Number (width - 1) ∷ Sign (codes ":") ∷ Key (codes "0") ∷ []))
+IsNetText net (Named signed width) text =
+    (0 < width) × (text ≡ net_words net ++ (signed_tokens signed ++ Sign (codes "[") ∷ Number (width - 1) ∷ Sign (codes ":") ∷ Key (codes "0") ∷ Sign (codes "]") ∷ []))
+
+-- the words of an item with a clock before its name
+abbrev pub head_tokens : List Token
+head_tokens =
+    Key (codes "always") ∷ Sign (codes "@") ∷ Sign (codes "(") ∷ Key (codes "posedge") ∷ Key (codes "clk") ∷ Sign (codes ")") ∷ Key (codes "begin") ∷ Key (codes "if") ∷ Sign (codes "(") ∷ Key (codes "reset") ∷ Sign (codes ")") ∷ []
+
+-- those before one of the head
+abbrev pub head_before : HeadSpot → List Token
+head_before Event = take 1 head_tokens
+head_before OpenEvent = take 2 head_tokens
+head_before Posedge = take 3 head_tokens
+head_before Clock = take 4 head_tokens
+head_before CloseEvent = take 5 head_tokens
+head_before Begin = take 6 head_tokens
+head_before Test = take 7 head_tokens
+head_before OpenTest = take 8 head_tokens
+head_before Reset = take 9 head_tokens
+head_before CloseTest = take 10 head_tokens
+
+-- all of them up to `else`
+abbrev pub clocked_tokens : List ℕ → Sized → List Token
+clocked_tokens name first = always_tokens name first []
+
+-- the text of an item before an expression
+abbrev pub goal_tokens : Goal → List Token
+goal_tokens (Assigned name) = Key (codes "assign") ∷ Identifier name ∷ Sign (codes "=") ∷ []
+goal_tokens (Condition name first) = clocked_tokens name first ++ (Key (codes "if") ∷ Sign (codes "(") ∷ [])
+goal_tokens (Next clocked) = clocked_tokens clocked.name clocked.first ++ (condition_tokens clocked.condition ++ Identifier clocked.name ∷ Sign (codes "<=") ∷ [])
+
+-- the condition before the expression is one of the grammar
+abbrev pub IsGoal : Goal → Type 0
+IsGoal (Assigned name) = Unit {0}
+IsGoal (Condition name first) = Unit {0}
+IsGoal (Next clocked) = IsCondition clocked.condition
+
+-- the text of an item before a spot of its expression
+pub record ExpressionAt (goal : Goal) (frames : List Frame) (spot : Spot) (text : List Token) : Type 0 where
+  pub own : List Token
+  pub is : text ≡ goal_tokens goal ++ own
+  pub goal_is : IsGoal goal
+  pub begun : Begun frames spot own
+
+-- the text of an item before a place
+abbrev pub IsBegunItem : Place → List Token → Type 0
+IsBegunItem AssignName text = text ≡ Key (codes "assign") ∷ []
+IsBegunItem (AssignSign name) text = text ≡ Key (codes "assign") ∷ Identifier name ∷ []
+IsBegunItem (Head at) text = text ≡ head_before at
+IsBegunItem ClockedName text = text ≡ head_tokens
+IsBegunItem (ClockedSign name) text = text ≡ named_tokens name []
+IsBegunItem (First name) text = text ≡ named_tokens name (Sign (codes "<=") ∷ [])
+IsBegunItem (AfterFirst name first) text = text ≡ named_tokens name (Sign (codes "<=") ∷ Based first ∷ [])
+IsBegunItem (Else name first) text = text ≡ named_tokens name (Sign (codes "<=") ∷ Based first ∷ Sign (codes ";") ∷ [])
+IsBegunItem (Branch name first) text = text ≡ clocked_tokens name first
+IsBegunItem (If name first) text = text ≡ clocked_tokens name first ++ Key (codes "if") ∷ []
+IsBegunItem (Again clocked) text = IsCondition clocked.condition × (text ≡ clocked_tokens clocked.name clocked.first ++ condition_tokens clocked.condition)
+IsBegunItem (NextSign clocked) text =
+    IsCondition clocked.condition × (text ≡ clocked_tokens clocked.name clocked.first ++ (condition_tokens clocked.condition ++ Identifier clocked.name ∷ []))
+IsBegunItem (Expression goal frames spot) text = ExpressionAt goal frames spot text
+IsBegunItem (Semicolon item) text = IsItemText item (text ++ Sign (codes ";") ∷ [])
+IsBegunItem (End item) text = IsItemText item (text ++ Key (codes "end") ∷ [])
+IsBegunItem place text = ⊥
+
+-- the module's text before its ports
+abbrev pub opened_tokens : Draft → List Token
+opened_tokens draft = attrs_tokens draft.attrs ++ (Key (codes "module") ∷ Identifier draft.name ∷ Sign (codes "(") ∷ [])
+
+-- nothing but attributes and the name was read
+pub record BeforePorts (most : ℕ) (draft : Draft) : Type 0 where
+  pub no_ports : draft.ports ≡ []
+  pub no_items : draft.items ≡ []
+  pub kept : draft.most ≡ most
+
+-- the ports so far were read, and of the next one its own tokens
+pub record AtPort (most : ℕ) (draft : Draft) (own text : List Token) : Type 0 where
+  pub ports : List (List Token)
+  pub each_port : AllZip IsPortText draft.ports ports
+  pub no_items : draft.items ≡ []
+  pub kept : draft.most ≡ most
+  pub is : text ≡ opened_tokens draft ++ (before_next ports ++ own)
+
+-- the tokens of all ports and of the items so far
+pub record BodyParts (most : ℕ) (draft : Draft) : Type 0 where
+  pub ports : List (List Token)
+  pub items : List (List Token)
+  pub has_port : draft.ports ≢ []
+  pub each_port : AllZip IsPortText draft.ports ports
+  pub each_item : AllZip IsItemText draft.items items
+  pub kept : draft.most ≡ most
+  pub room : length draft.items ≤ most
+
+-- they were read, and of the next item its own tokens
+pub record InBody (most : ℕ) (draft : Draft) (own text : List Token) : Type 0 where
+  pub parts : BodyParts most draft
+  pub is : text ≡ opened_tokens draft ++ (joined comma parts.ports ++ (Sign (codes ")") ∷ Sign (codes ";") ∷ (flat_map (λ item. item) parts.items ++ own)))
+
+-- the same where one more item has room
+pub record InItem (most : ℕ) (draft : Draft) (own text : List Token) : Type 0 where
+  pub body : InBody most draft own text
+  pub room : length draft.items < most
+
+-- an item is begun up to a place
+pub record ItemAt (most : ℕ) (draft : Draft) (place : Place) (text : List Token) : Type 0 where
+  pub own : List Token
+  pub around : InItem most draft own text
+  pub is : IsBegunItem place own
+
+-- what stands around a list of attributes
+abbrev pub AroundAttrs : ℕ → Draft → Bool → List Token → List Token → Type 0
+AroundAttrs most draft true own text = AtPort most draft own text
+AroundAttrs most draft false own text = BeforePorts most draft × (text ≡ own)
+
+-- a list of attributes is begun up to a spot
+pub record AttrsAt (most : ℕ) (draft : Draft) (of_port : Bool) (attrs : List Attr) (at : AttrSpot) (text : List Token) : Type 0 where
+  pub own : List Token
+  pub around : AroundAttrs most draft of_port own text
+  pub is : IsAttrText attrs at own
+
+-- what stands around a declaration
+abbrev pub AroundNet : ℕ → Draft → NetKind → List Token → List Token → Type 0
+AroundNet most draft (OfPort attrs input) own text = AtPort most draft (attrs_tokens attrs ++ own) text
+AroundNet most draft (OfItem is_reg) own text = InItem most draft own text
+
+-- a declaration is begun up to a spot
+pub record NetAt (most : ℕ) (draft : Draft) (net : NetKind) (at : NetSpot) (text : List Token) : Type 0 where
+  pub own : List Token
+  pub around : AroundNet most draft net own text
+  pub is : IsNetText net at own
+
+-- the module so far
+abbrev pub module_of : Draft → Module
+module_of draft = record { name = draft.name; attrs = draft.attrs; ports = draft.ports; items = draft.items }
+
+-- the text is one of the module, which has at most so many items
+pub record Whole (most : ℕ) (m : Module) (text : List Token) : Type 0 where
+  pub is : IsModuleText m text
+  pub room : length m.items ≤ most
+
+-- the text before a place
+abbrev pub Has : ℕ → Draft → Place → List Token → Type 0
+Has most draft Start text = BeforePorts most draft × (text ≡ attrs_tokens draft.attrs)
+Has most draft (Attributes of_port attrs at) text = AttrsAt most draft of_port attrs at text
+Has most draft Title text = BeforePorts most draft × (text ≡ attrs_tokens draft.attrs ++ Key (codes "module") ∷ [])
+Has most draft Ports text = BeforePorts most draft × (text ≡ attrs_tokens draft.attrs ++ Key (codes "module") ∷ Identifier draft.name ∷ [])
+Has most draft (PortPlace attrs) text = AtPort most draft (attrs_tokens attrs) text
+Has most draft (Net net at) text = NetAt most draft net at text
+Has most draft AfterPort text = AtPort most draft [] (text ++ comma) × InBody most draft [] (text ++ Sign (codes ")") ∷ Sign (codes ";") ∷ [])
+Has most draft AfterPorts text = InBody most draft [] (text ++ Sign (codes ";") ∷ [])
+Has most draft Items text = InBody most draft [] text
+Has most draft Done text = Whole most (module_of draft) text
+Has most draft place text = ItemAt most draft place text
